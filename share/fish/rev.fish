@@ -1,15 +1,15 @@
 # fish completion for rev: copy this file to ~/.config/fish/completions/
 # >>> fish
-set -l commands embed esop synth single templates decompose route resynth compare simulate draw map fold reduce check toreal cost flow demo
+set -l commands embed esop synth single templates resynth decompose route compare simulate draw map fold reduce check toreal cost flow demo
 complete -c rev -n "not __fish_seen_subcommand_from $commands" -f
 complete -c rev -n "not __fish_seen_subcommand_from $commands" -a embed -d 'a permutation that gives a function, on few lines'
 complete -c rev -n "not __fish_seen_subcommand_from $commands" -a esop -d 'a cascade that adds a function, or its sum of products'
 complete -c rev -n "not __fish_seen_subcommand_from $commands" -a synth -d 'a circuit that computes a permutation'
 complete -c rev -n "not __fish_seen_subcommand_from $commands" -a single -d 'a circuit of single-target gates that computes a permutation'
 complete -c rev -n "not __fish_seen_subcommand_from $commands" -a templates -d 'a circuit simplified by pairs and templates'
+complete -c rev -n "not __fish_seen_subcommand_from $commands" -a resynth -d 'a circuit that does the same and is no dearer, found by a search'
 complete -c rev -n "not __fish_seen_subcommand_from $commands" -a decompose -d 'a circuit of NOT, CNOT and Toffoli gates that does the same'
 complete -c rev -n "not __fish_seen_subcommand_from $commands" -a route -d 'a circuit that does the same, by gates on neighbouring lines'
-complete -c rev -n "not __fish_seen_subcommand_from $commands" -a resynth -d 'a circuit that does the same and is no dearer, found by a search'
 complete -c rev -n "not __fish_seen_subcommand_from $commands" -a compare -d 'whether a circuit gives what another, a table or a permutation asks'
 complete -c rev -n "not __fish_seen_subcommand_from $commands" -a simulate -d 'what a circuit makes of words'
 complete -c rev -n "not __fish_seen_subcommand_from $commands" -a draw -d 'a circuit or a network drawn as text, SVG or LaTeX'

@@ -1,20 +1,15 @@
 -- An operation that is no H takes different words to different words, since it takes each word back.
+use Rattle.rv_gate.proofs.Bits.{xor_back, not_not}
 use Rattle.std.proofs.Common.{arith, ◌≡◌, ◌≢◌, ℕ, ◌<◌, Bool, true, false, cond, not, ◌&&◌, List, length, set, refl, sym, ap, ap₂, ◌∙◌, get_or-set_same, get_or-set_other, set-set, length-set, subst}
 use Rattle.std.proofs.lemmas.List.{set_comm, set-get_or}
 use Rattle.rv_gate.specs.Gate.{xor}
 use Rattle.rv_gate.specs.Word.{bit_of}
 use Rattle.rv_net.specs.Op.{goes_to, OpFitsIn}
 use Rattle.rv_net.specs.declared.op.Op.{Op}
-use Rattle.rv_net.specs.declared.op.Op.TheVariants.{X, Y, Z, H, S, Sdg, T, Tdg, Cx, Cz, Ccx, Swap, Cswap}
+use Rattle.rv_net.specs.declared.op.Op.TheVariants.{X, Y, Cx, Ccx, Swap, Cswap}
 
 one_back : (y : List Bool) (q : ℕ) (b c : Bool) → c ≡ bit_of y q → set (set y q b) q c ≡ y
 one_back y q b c e = set-set y q b c ∙ ap (set y q) e ∙ set-get_or y q false
-
-not_twice : (b : Bool) → not (not b) ≡ b
-not_twice b = grind arith
-
-xor_twice : (a b : Bool) → xor a (xor a b) ≡ b
-xor_twice a b = grind arith
 
 pub here : (y : List Bool) (q : ℕ) (b : Bool) → q < length y → bit_of (set y q b) q ≡ b
 here y q b h = get_or-set_same y q b false h
@@ -24,17 +19,15 @@ there y q p b ne = get_or-set_other y q p b false ne
 
 -- two lines set, and set back
 two_back : (y : List Bool) (a b : ℕ) (p q r s : Bool) → a ≢ b → r ≡ bit_of y a → s ≡ bit_of y b → set (set (set (set y a p) b q) a r) b s ≡ y
-two_back y a b p q r s ne er es =
-    ap (λ l. set l b s) (sym (set_comm (set y a p) a b r q ne) ∙ ap (λ l. set l b q) (one_back y a p r er))
-    ∙ one_back y b q s es
+two_back y a b p q r s ne er es = grind (arith, set_comm, one_back)
 
 pub goes_back : (op : Op) (y : List Bool) → OpFitsIn op (length y) → goes_to op (goes_to op y) ≡ y
-goes_back (X q) y h = one_back y q _ _ (ap not (here y q _ h) ∙ not_twice _)
-goes_back (Y q) y h = one_back y q _ _ (ap not (here y q _ h) ∙ not_twice _)
+goes_back (X q) y h = one_back y q _ _ (ap not (here y q _ h) ∙ not_not _)
+goes_back (Y q) y h = one_back y q _ _ (ap not (here y q _ h) ∙ not_not _)
 goes_back (Cx a b) y h =
-    one_back y b _ _ (ap₂ xor (there y b a _ h.2) (here y b _ h.1) ∙ xor_twice (bit_of y a) (bit_of y b))
+    one_back y b _ _ (ap₂ xor (there y b a _ h.2) (here y b _ h.1) ∙ xor_back (bit_of y a) (bit_of y b))
 goes_back (Ccx a b c) y h =
-    one_back y c _ _ (ap₂ xor (ap₂ (λ u v. u && v) (there y c a _ h.4) (there y c b _ h.5)) (here y c _ h.2) ∙ xor_twice (bit_of y a && bit_of y b) (bit_of y c))
+    one_back y c _ _ (ap₂ xor (ap₂ (λ u v. u && v) (there y c a _ h.4) (there y c b _ h.5)) (here y c _ h.2) ∙ xor_back (bit_of y a && bit_of y b) (bit_of y c))
 goes_back (Swap a b) y h =
     two_back y a b _ _ _ _ h.2
     (here (set y a (bit_of y b)) b (bit_of y a) (subst (λ n. b < n) (sym (length-set y a (bit_of y b))) h.1))
@@ -57,16 +50,4 @@ pub goes_apart : (op : Op) (y z : List Bool) → OpFitsIn op (length y) → OpFi
 goes_apart op y z g h ne e = ne (sym (goes_back op y g) ∙ ap (goes_to op) e ∙ goes_back op z h)
 
 pub length-goes_to : (op : Op) (y : List Bool) → length (goes_to op y) ≡ length y
-length-goes_to (X q) y = length-set y q _
-length-goes_to (Y q) y = length-set y q _
-length-goes_to (Cx a b) y = length-set y b _
-length-goes_to (Ccx a b c) y = length-set y c _
-length-goes_to (Swap a b) y = length-set (set y a (bit_of y b)) b _ ∙ length-set y a _
-length-goes_to (Cswap c a b) y = length-set (set y a (cond (bit_of y c) (bit_of y b) (bit_of y a))) b _ ∙ length-set y a _
-length-goes_to (Z q) y = refl
-length-goes_to (H q) y = refl
-length-goes_to (S q) y = refl
-length-goes_to (Sdg q) y = refl
-length-goes_to (T q) y = refl
-length-goes_to (Tdg q) y = refl
-length-goes_to (Cz a b) y = refl
+length-goes_to op y = grind (arith, length-set, bit_of)

@@ -35,5 +35,4 @@ half_of_short_sum r x y x2 y2 is fits fits2 fits3 e e2 =
 
 pub half_of_short_difference : (r x y x2 y2 : ℤ) → r ≡ half (to_z w64 (of_z w64 x) -ℤ to_z w64 (of_z w64 y)) → SFits w64 r → SFits w64 x → SFits w64 y → x ≡ x2 → y ≡ y2
     → to_z w64 (of_z w64 r) ≡ half (x2 -ℤ y2)
-half_of_short_difference r x y x2 y2 is fits fits2 fits3 e e2 =
-    to_z-of_z w64 r fits ∙ is ∙ ap₂ (λ p q. half (p -ℤ q)) (to_z-of_z w64 x fits2 ∙ e) (to_z-of_z w64 y fits3 ∙ e2)
+half_of_short_difference r x y x2 y2 is fits fits2 fits3 e e2 = grind (arith, to_z-of_z)

@@ -1,6 +1,5 @@
 -- A circuit compared with a network word by word.
-use Rattle.std.proofs.Common.{◌≡◌, ℕ, zero, suc, ◌+◌, ◌^◌, ◌<◌, Bool, cond, List, sym, ap, ◌∙◌, arith, inl, inr}
-use Rattle.std.proofs.lemmas.Bool.{cases_eq}
+use Rattle.std.proofs.Common.{◌≡◌, ℕ, zero, suc, ◌+◌, ◌^◌, ◌<◌, Bool, cond, List, sym, ap, ◌∙◌, arith}
 use Rattle.std.specs.Option.{option_or}
 use Rattle.std.specs.Prelude.{Option, None, Some, Ok, Err}
 use Rattle.rv_gate.proofs.FirstAnswer.{none_first}
@@ -31,18 +30,10 @@ first_last f k (suc m) =
 pub difference_more : (gates : List Shape) (net : Network) (number : ℕ) (before : Option ℕ) (agreed : Bool) → before ≡ first (difference_at gates net) 0 number
     → agreed ≡ agrees net.ops (word_of net.lines number) (run gates (word_of net.lines number))
     → option_or before (cond agreed None (Some number)) ≡ first (difference_at gates net) 0 (number + 1)
-difference_more gates net number before agreed is same =
-    let z : 0 + number ≡ number = omega arith in
-    ap (λ o. option_or o (cond agreed None (Some number))) is
-    ∙ ap (λ b. option_or (first (difference_at gates net) 0 number) (cond b None (Some number))) same
-    ∙ ap (λ n. option_or (first (difference_at gates net) 0 number) (difference_at gates net n)) (sym z)
-    ∙ sym (first_last (difference_at gates net) 0 number)
+difference_more gates net number before agreed is same = grind (arith, option_or, difference_at, first_last)
 
 pub none_more : (net : Network) (number : ℕ) → ((k : ℕ) → k < number → large_at net k ≡ None) → large_at net number ≡ None → (k : ℕ) → k < number + 1 → large_at net k ≡ None
-none_more net number before here k lt = elim (cases_eq k number) as (λ _. large_at net k ≡ None) [
-  | inl e ↦ ap (large_at net) e ∙ here
-  | inr ne ↦ before k (omega arith)
-]
+none_more net number before here k lt = grind arith
 
 pub compared_large : (gates : List Shape) (net : Network) (number : ℕ) (fault : CheckFault) → number < 2 ^ net.lines → ((k : ℕ) → k < number → large_at net k ≡ None)
     → large_at net number ≡ Some fault → compared (first_large net) (first_difference gates net) ≡ Err fault
@@ -55,5 +46,4 @@ pub compared_done : (gates : List Shape) (net : Network) (end : ℕ) (difference
     → difference ≡ first (difference_at gates net) 0 end → compared (first_large net) (first_difference gates net) ≡ Ok (verdict_of difference)
 unfolding first_large first_difference
 compared_done gates net end difference whole before is =
-    ap (λ o. compared o (first_difference gates net)) (none_first (large_at net) 0 (2 ^ net.lines) (λ k g h. before k (omega (arith, whole))))
-    ∙ ap (λ o. Ok (verdict_of o)) (ap (first (difference_at gates net) 0) (sym whole) ∙ sym is)
+    grind (arith, first_difference, none_first, large_at, verdict_of, difference_at)

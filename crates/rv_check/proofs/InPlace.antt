@@ -1,8 +1,7 @@
 -- A vector whose elements are all written.
-use Rattle.std.proofs.Common.{◌≡◌, ◌∙◌, ℕ, List, ◌++◌, take, drop, length, ap, arith, append-nil}
+use Rattle.std.proofs.Common.{◌≡◌, ℕ, List, ◌++◌, take, drop, length, arith, append-nil}
 use Rattle.std.proofs.lemmas.List.{take_all, drop_all}
 
 -- the whole list written, as a slice of it is seen
 pub written_whole : {X : Type 0} (len : ℕ) (xs ys : List X) → len ≡ length xs → length ys ≡ length xs → take len (ys ++ drop (length ys) xs) ≡ ys
-written_whole len xs ys e g =
-    ap (λ l. take len (ys ++ l)) (drop_all (length ys) xs (omega (arith, g))) ∙ ap (take len) (append-nil ys) ∙ take_all len ys (omega (arith, e, g))
+written_whole len xs ys e g = grind (arith, drop_all, append-nil, take_all)

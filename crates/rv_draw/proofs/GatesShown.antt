@@ -1,17 +1,21 @@
 -- The column that a gate draws shows the gate.
-use Rattle.std.proofs.Common.{◌≡◌, ◌≢◌, ℕ, ◌<◌, ◌≤◌, Bool, true, false, ◌||◌, List, [], ◌∷◌, map, nat_eq, Some, refl, sym, ap, ◌∙◌, inl, inr, arith, ne_eqb, true≢false}
+use Rattle.std.proofs.Common.{◌≡◌, ◌≢◌, ℕ, ◌<◌, ◌≤◌, Bool, true, false, ◌||◌, List, [], ◌∷◌, map, nat_eq, Some, refl}
+use Rattle.std.proofs.Common.{sym, ap, ◌∙◌, inl, inr, arith, ne_eqb, true≢false}
 use Rattle.std.specs.List.{range_with_len}
 use Rattle.std.proofs.lemmas.Bool.{cases_Bool, cases_lt, eqb-true, le-ltb, lt-ltb, or_left}
 use Rattle.rv_gate.specs.Word.{has}
 use Rattle.rv_gate.specs.Gate.{FitsIn, IsGate, touched}
 use Rattle.rv_gate.specs.declared.gate.Shape.{Shape}
 use Rattle.rv_gate.specs.declared.gate.Shape.TheVariants.{Flip, Swap, Peres}
-use Rattle.rv_gate.proofs.inside.GateLemmas.{has-touched, fits_flip, fits_swap_a, fits_swap_b, fits_peres_a, fits_peres_b, fits_peres_c}
+use Rattle.rv_gate.proofs.inside.GateLemmas.{has-touched, fits_flip, fits_swap_a, fits_swap_b, fits_peres_a}
+use Rattle.rv_gate.proofs.inside.GateLemmas.{fits_peres_b, fits_peres_c}
 use Rattle.rv_draw.specs.declared.symbol.Symbol.{Symbol}
 use Rattle.rv_draw.specs.declared.symbol.Symbol.TheVariants.{Target, Exchanged}
 use Rattle.rv_draw.specs.Symbols.{is_between, symbol_on}
-use Rattle.rv_draw.specs.Reading.{gate_with, gate_of, from_top, peres_from, places, lines_with, is_control, is_positive, is_target, is_exchanged, is_middle, is_touched, are_right}
-use Rattle.rv_draw.proofs.SymbolKinds.{own_kind, other_kind, control_kind, positive_kind, peres_control, peres_positive, peres_exchanged, peres_middle, peres_target}
+use Rattle.rv_draw.specs.Reading.{gate_with, gate_of, from_top, peres_from, places, lines_with, is_control, is_positive}
+use Rattle.rv_draw.specs.Reading.{is_target, is_exchanged, is_middle, is_touched, are_right}
+use Rattle.rv_draw.proofs.SymbolKinds.{own_kind, other_kind, control_kind, positive_kind, peres_control, peres_positive}
+use Rattle.rv_draw.proofs.SymbolKinds.{peres_exchanged, peres_middle, peres_target}
 use Rattle.rv_draw.proofs.Crossings.{right_drawn, touched_drawn}
 use Rattle.rv_draw.proofs.Places.{places_none, places_one, places_two, lines_with_back, all_right}
 use Rattle.rv_gate.proofs.Bits.{or_comm}

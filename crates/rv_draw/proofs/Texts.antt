@@ -1,5 +1,6 @@
 -- The text of a drawing, as pieces that are added one after another.
-use Rattle.std.proofs.Common.{◌≡◌, ◌∙◌, ℕ, ◌+◌, List, [], ◌∷◌, ◌++◌, length, map, map-id, take, get_or, slice_get, Some, refl, ap, sym, append_assoc, arith, max}
+use Rattle.std.proofs.Common.{◌≡◌, ◌∙◌, ℕ, ◌+◌, List, [], ◌∷◌, ◌++◌, length, map, map-id, take, get_or, slice_get, Some}
+use Rattle.std.proofs.Common.{refl, ap, sym, append_assoc, arith, max}
 use Rattle.std.specs.Prelude.{replicate}
 use Rattle.std.specs.List.{flat_map, range_with_len}
 use Rattle.std.proofs.lemmas.Grind.{flat_map-append}

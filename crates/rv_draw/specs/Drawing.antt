@@ -1,5 +1,6 @@
 -- The drawing of a circuit: a row for each line, with the label of its input, its wire and the label of its output.
-use Rattle.std.specs.Prelude.{ℕ, ◌+◌, ◌-◌, Bool, true, false, List, [], ◌∷◌, ◌++◌, length, map, ◌==◌, not, max, replicate, slice_index_or, ◌/◌, if◌then◌else◌}
+use Rattle.std.specs.Prelude.{ℕ, ◌+◌, ◌-◌, Bool, true, false, List, [], ◌∷◌, ◌++◌, length, map, ◌==◌, not, max}
+use Rattle.std.specs.Prelude.{replicate, slice_index_or, ◌/◌, if◌then◌else◌}
 use Rattle.std.specs.Fork.{slice_chunk}
 use Rattle.std.specs.List.{flat_map, count_by, range_with_len}
 use Rattle.rv_text.specs.Spelled.{spelled}
@@ -58,13 +59,15 @@ pad_after labels label = widest labels - width label
 -- the wire of a circuit's line, on which such gates stand
 abbrev pub wire_on : {G : Type 0} → (G → ℕ → Symbol) → Cascade → List G → ℕ → List Symbol
 wire_on draws c gates line =
-    wire (slice_index_or c.constants line marks.Input) (pad_after c.input_labels (label_at c.input_labels line)) (cells_on draws line gates)
+    wire (slice_index_or c.constants line marks.Input) (pad_after c.input_labels (label_at c.input_labels line))
+    (cells_on draws line gates)
     (slice_index_or c.garbage line false)
 
 -- the words of a row
 abbrev pub row_words : {G : Type 0} → (G → ℕ → Symbol) → Cascade → List G → ℕ → List (List ℕ)
 row_words draws c gates line =
-    label_word (label_at c.input_labels line) ∷ flat_map glyph (wire_on draws c gates line) ∷ label_word (label_at c.output_labels line) ∷ []
+    label_word (label_at c.input_labels line) ∷ flat_map glyph (wire_on draws c gates line)
+    ∷ label_word (label_at c.output_labels line) ∷ []
 
 -- a row for each line
 abbrev pub sheet_rows : {G : Type 0} → (G → ℕ → Symbol) → Cascade → List G → List (List (List ℕ))
@@ -84,7 +87,8 @@ block_rows draws per_block c gates block = gap block ++ sheet_rows draws c (slic
 
 -- the one drawing of such gates on a circuit's lines, with so many in a block at most
 unfoldable pub text_with : {G : Type 0} → (G → ℕ → Symbol) → ℕ → Cascade → List G → List ℕ
-text_with draws per_block c gates = spelled (flat_map (block_rows draws per_block c gates) (range_with_len 0 (block_count per_block (length gates))))
+text_with draws per_block c gates =
+    spelled (flat_map (block_rows draws per_block c gates) (range_with_len 0 (block_count per_block (length gates))))
 
 -- the drawing of a circuit
 abbrev pub drawing_of : ℕ → Cascade → List ℕ

@@ -10,7 +10,8 @@ use Rattle.rv_gate.specs.Circuit.{Cascade}
 -- the lines from `line` on that an operation touches, and the symbols there
 abbrev pub marks_from : ℕ → List Symbol → List (ℕ × Symbol)
 marks_from line [] = []
-marks_from line (symbol ∷ column) = (if is_touched symbol then (line, symbol) ∷ [] else []) ++ marks_from (line + 1) column
+marks_from line (symbol ∷ column) =
+    (if is_touched symbol then (line, symbol) ∷ [] else []) ++ marks_from (line + 1) column
 
 -- the operation with these symbols, from the top
 abbrev pub op_of_marks : List (ℕ × Symbol) → Option Op

@@ -1,5 +1,6 @@
 -- What a drawing denotes: the symbols of its rows, read column by column.
-use Rattle.std.specs.Prelude.{ℕ, zero, suc, ◌+◌, ◌*◌, Bool, true, false, not, List, [], ◌∷◌, ◌++◌, length, map, take, drop, ◌==◌, ◌&&◌, if◌then◌else◌, Option, Some, None, is_some, nat_lt}
+use Rattle.std.specs.Prelude.{ℕ, zero, suc, ◌+◌, ◌*◌, Bool, true, false, not, List, [], ◌∷◌, ◌++◌, length, map, take}
+use Rattle.std.specs.Prelude.{drop, ◌==◌, ◌&&◌, if◌then◌else◌, Option, Some, None, is_some, nat_lt}
 use Rattle.std.specs.Option.{option_map}
 use Rattle.rv_text.specs.Lines.{lines_of}
 use Rattle.rv_text.specs.Tokens.{Lexeme, tokens_of}
@@ -10,7 +11,8 @@ use Rattle.rv_gate.specs.declared.circuit.Mark.TheVariants as marks
 use Rattle.rv_gate.specs.declared.gate.Shape.{Shape}
 use Rattle.rv_gate.specs.declared.gate.Shape.TheVariants.{Flip, Swap, Peres}
 use Rattle.rv_draw.specs.declared.symbol.Symbol.{Symbol}
-use Rattle.rv_draw.specs.declared.symbol.Symbol.TheVariants.{Wire, Crossing, Positive, Negative, Target, Exchanged, Middle, Zero, One, Wall}
+use Rattle.rv_draw.specs.declared.symbol.Symbol.TheVariants.{Wire, Crossing, Positive, Negative, Target, Exchanged}
+use Rattle.rv_draw.specs.declared.symbol.Symbol.TheVariants.{Middle, Zero, One, Wall}
 use Rattle.rv_draw.specs.declared.symbol.Symbol.TheVariants as symbols
 use Rattle.rv_draw.specs.Symbols.{glyph, is_between}
 use Rattle.rv_draw.specs.Drawing.{first_symbol, last_symbol, pad_after}
@@ -77,7 +79,8 @@ pub record Row : Type 0 where
 
 abbrev pub row_of : List Lexeme → Option Row
 row_of (input ∷ symbols ∷ output ∷ []) =
-    option_map (λ read. record { input_label = input.bytes; symbols = read; output_label = output.bytes }) (symbols_after 0 symbols.bytes)
+    option_map (λ read. record { input_label = input.bytes; symbols = read; output_label = output.bytes })
+    (symbols_after 0 symbols.bytes)
 row_of other = None
 
 -- what a wire shows: its constant, the symbol at each gate, and whether it ends as garbage
@@ -122,7 +125,8 @@ strip_after (Some constant) symbols = gates_and_end constant symbols
 -- a wire without the symbols that only make it longer
 abbrev pub strip_of : ℕ → List Symbol → Option Strip
 strip_of pad [] = None
-strip_of pad (first ∷ rest) = if list_all is_wire (take pad rest) then strip_after (constant_of first) (drop pad rest) else None
+strip_of pad (first ∷ rest) =
+    if list_all is_wire (take pad rest) then strip_after (constant_of first) (drop pad rest) else None
 
 -- ---- columns
 
@@ -182,9 +186,11 @@ is_right passed other = true
 -- the same of all lines from `line` on, where the gate touches these lines
 abbrev pub are_right : ℕ → ℕ → List Symbol → Bool
 are_right touched line [] = true
-are_right touched line (symbol ∷ column) = is_right (is_between touched line) symbol && are_right touched (line + 1) column
+are_right touched line (symbol ∷ column) =
+    is_right (is_between touched line) symbol && are_right touched (line + 1) column
 
--- the gate that a column shows: one `⊕` is a flip, two `✕` are a swap, and `◉` and `⊕` a Peres gate; `●` and `○` are the controls, and `┼` stands on the lines between those that are touched
+-- the gate that a column shows: one `⊕` is a flip, two `✕` are a swap, and `◉` and `⊕` a Peres gate; `●` and `○` are
+-- the controls, and `┼` stands on the lines between those that are touched
 abbrev pub gate_of : List Symbol → Option Shape
 gate_of column =
     if are_right (lines_with is_touched column) 0 column
@@ -222,11 +228,13 @@ picture_with rows strips gates =
     }
 
 -- the rows of as many gates, each read from its column
-abbrev pub picture_of_strips : {G : Type 0} → (List Symbol → Option G) → List Row → Option (List Strip) → Option (Picture G)
+abbrev pub picture_of_strips : {G : Type 0} → (List Symbol → Option G) → List Row → Option (List Strip)
+    → Option (Picture G)
 picture_of_strips read rows None = None
 picture_of_strips read rows (Some strips) =
     if list_all (λ strip. length strip.symbols == column_count strips) strips
-    then option_map (picture_with rows strips) (each_of read (columns (column_count strips) (map (λ strip. strip.symbols) strips)))
+    then option_map (picture_with rows strips)
+    (each_of read (columns (column_count strips) (map (λ strip. strip.symbols) strips)))
     else None
 
 abbrev pub picture_of_rows : {G : Type 0} → (List Symbol → Option G) → Option (List Row) → Option (Picture G)
@@ -254,15 +262,19 @@ same_words some other = false
 
 -- the same beginnings of wires, and the same ends
 abbrev pub same_constants : List Mark → List Mark → Bool
-same_constants a b = bytes_eq (flat_map (λ mark. glyph (first_symbol mark)) a) (flat_map (λ mark. glyph (first_symbol mark)) b)
+same_constants a b =
+    bytes_eq (flat_map (λ mark. glyph (first_symbol mark)) a) (flat_map (λ mark. glyph (first_symbol mark)) b)
 
 abbrev pub same_garbage : List Bool → List Bool → Bool
-same_garbage a b = bytes_eq (flat_map (λ is_garbage. glyph (last_symbol is_garbage)) a) (flat_map (λ is_garbage. glyph (last_symbol is_garbage)) b)
+same_garbage a b =
+    bytes_eq (flat_map (λ is_garbage. glyph (last_symbol is_garbage)) a)
+    (flat_map (λ is_garbage. glyph (last_symbol is_garbage)) b)
 
 -- blocks of the same lines
 abbrev pub same_lines : {G : Type 0} → Picture G → Picture G → Bool
 same_lines p q =
-    same_words p.input_labels q.input_labels && same_words p.output_labels q.output_labels && same_constants p.constants q.constants
+    same_words p.input_labels q.input_labels && same_words p.output_labels q.output_labels
+    && same_constants p.constants q.constants
     && same_garbage p.garbage q.garbage
 
 -- the gates of all blocks, if their lines are the same
@@ -270,7 +282,9 @@ abbrev pub joined : {G : Type 0} → List (Picture G) → Option (Picture G)
 joined [] = None
 joined (picture ∷ []) = Some picture
 joined (picture ∷ next ∷ rest) =
-    if same_lines picture next then option_map (λ later. record picture { gates = picture.gates ++ later.gates }) (joined (next ∷ rest)) else None
+    if same_lines picture next
+    then option_map (λ later. record picture { gates = picture.gates ++ later.gates }) (joined (next ∷ rest))
+    else None
 
 abbrev pub joined_if : {G : Type 0} → Option (List (Picture G)) → Option (Picture G)
 joined_if None = None
@@ -282,7 +296,8 @@ block_shown read rows = picture_of_rows read (each_of row_of rows)
 
 -- what a text shows, if it is a drawing of gates that are read so
 unfoldable pub shown_by : {G : Type 0} → (List Symbol → Option G) → List ℕ → Option (Picture G)
-shown_by read text = joined_if (each_of (block_shown read) (blocks_of (map (λ line. tokens_of true [] line) (lines_of text))))
+shown_by read text =
+    joined_if (each_of (block_shown read) (blocks_of (map (λ line. tokens_of true [] line) (lines_of text))))
 
 -- what a text shows, if it is the drawing of a circuit
 abbrev pub shown : List ℕ → Option (Picture Shape)

@@ -1,11 +1,13 @@
 -- What stands at one place of a line, and what a gate draws on each line.
-use Rattle.std.specs.Prelude.{◌≡◌, ℕ, ◌<◌, true, false, ◌%◌, ◌/◌, ◌^◌, Bool, not, List, [], ◌∷◌, ◌==◌, ◌||◌, ◌&&◌, if◌then◌else◌, nat_lt, bit_or}
+use Rattle.std.specs.Prelude.{◌≡◌, ℕ, ◌<◌, true, false, ◌%◌, ◌/◌, ◌^◌, Bool, not, List, [], ◌∷◌, ◌==◌, ◌||◌, ◌&&◌}
+use Rattle.std.specs.Prelude.{if◌then◌else◌, nat_lt, bit_or}
 use Rattle.rv_gate.specs.Word.{has}
 use Rattle.rv_gate.specs.Gate.{touched, touches}
 use Rattle.rv_gate.specs.declared.gate.Shape.{Shape}
 use Rattle.rv_gate.specs.declared.gate.Shape.TheVariants.{Flip, Swap, Peres}
 use Rattle.rv_draw.specs.declared.symbol.Symbol.{Symbol}
-use Rattle.rv_draw.specs.declared.symbol.Symbol.TheVariants.{Wire, Crossing, Positive, Negative, Target, Exchanged, Middle, Zero, One, Wall}
+use Rattle.rv_draw.specs.declared.symbol.Symbol.TheVariants.{Wire, Crossing, Positive, Negative, Target, Exchanged}
+use Rattle.rv_draw.specs.declared.symbol.Symbol.TheVariants.{Middle, Zero, One, Wall}
 use Rattle.rv_draw.specs.declared.symbol.Symbol.TheVariants as symbols
 use Rattle.rv_net.specs.declared.op.Op.{Op}
 use Rattle.rv_net.specs.declared.op.Op.TheVariants as ops
@@ -41,7 +43,8 @@ passing gate line = if is_between (touched gate) line then Crossing else Wire
 
 -- a control, if the line is one
 abbrev pub control_symbol : ℕ → ℕ → ℕ → Symbol → Symbol
-control_symbol care want line otherwise = if has care line then (if has want line then Positive else Negative) else otherwise
+control_symbol care want line otherwise =
+    if has care line then (if has want line then Positive else Negative) else otherwise
 
 -- what a gate draws on a line
 abbrev pub symbol_on : Shape → ℕ → Symbol
@@ -61,7 +64,8 @@ line_set line = if nat_lt line MOST_LINES then 2 ^ line else 0
 abbrev pub pair_on : Symbol → ℕ → ℕ → ℕ → ℕ → Symbol
 pair_on own a b care line =
     if line == a || line == b then own
-    else control_symbol care care line (if is_between (bit_or care (bit_or (line_set a) (line_set b))) line then Crossing else Wire)
+    else control_symbol care care line (if is_between (bit_or care (bit_or (line_set a) (line_set b))) line
+    then Crossing else Wire)
 
 -- what an operation of a network draws on a line
 abbrev pub op_symbol_on : Op → ℕ → Symbol

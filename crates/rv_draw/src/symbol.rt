@@ -2,7 +2,8 @@ ghost use Rattle.std.specs.Prelude.{◌≡◌, ◌↔◌, ◌<◌};
 ghost use Rattle.std.specs.List.{flat_map};
 ghost use Rattle.rv_gate.specs.declared.word.TheConstants.{MOST_LINES};
 ghost use Rattle.rv_draw.specs.Drawing.{cell};
-ghost use Rattle.rv_draw.specs.Symbols.{IsCrossed, control_symbol, glyph, is_between, line_set, op_symbol_on, pair_on, passing, symbol_on};
+ghost use Rattle.rv_draw.specs.Symbols.{IsCrossed, control_symbol, glyph, is_between, line_set, op_symbol_on, pair_on};
+ghost use Rattle.rv_draw.specs.Symbols.{passing, symbol_on};
 
 use rv_gate::{Gate, LineSet, MOST_LINES, Shape, has};
 use rv_net::Op;

@@ -1,4 +1,5 @@
-ghost use Rattle.std.specs.Prelude.{◌≡◌, ℕ, Bool, List, ◌+◌, ◌-◌, ◌*◌, ◌<◌, ◌≤◌, [], ◌∷◌, ◌++◌, length, map, replicate, slice_index_or};
+ghost use Rattle.std.specs.Prelude.{◌≡◌, ℕ, Bool, List, ◌+◌, ◌-◌, ◌*◌, ◌<◌, ◌≤◌, [], ◌∷◌, ◌++◌, length, map, replicate};
+ghost use Rattle.std.specs.Prelude.{slice_index_or};
 ghost use Rattle.std.specs.List.{flat_map, count_by, range_with_len};
 ghost use Rattle.std.specs.Fork.{slice_chunk};
 ghost use Rattle.rv_io.specs.Sink.{Sends};
@@ -7,7 +8,9 @@ ghost use Rattle.rv_text.specs.Spelled.{spelled};
 ghost use Rattle.rv_gate.specs.declared.word.TheConstants.{MOST_LINES};
 ghost use Rattle.rv_gate.specs.Gate.{run};
 ghost use Rattle.rv_draw.specs.Symbols.{glyph};
-ghost use Rattle.rv_draw.specs.Drawing.{begins_character, block_count, block_rows, cell, cells_on, drawing_of, first_symbol, gap, last_symbol, pad_after, network_text, row_words, sheet_rows, text_with, widest, width, wire_on};
+ghost use Rattle.rv_draw.specs.Drawing.{begins_character, block_count, block_rows, cell, cells_on, drawing_of};
+ghost use Rattle.rv_draw.specs.Drawing.{first_symbol, gap, last_symbol, pad_after, network_text, row_words, sheet_rows};
+ghost use Rattle.rv_draw.specs.Drawing.{text_with, widest, width, wire_on};
 ghost use Rattle.rv_draw.specs.Layout.{IsLaidOut};
 ghost use Rattle.rv_draw.specs.Networks.{network_picture, network_shown};
 ghost use Rattle.rv_draw.specs.Reading.{picture_of, shown};
@@ -96,7 +99,10 @@ fn put_blocks<O: Sink, G: Drawn>(
 )
     requires some { 1 ≤ per_block }
     requires most { most ≡ widest circuit.now.input_labels }
-    ensures { Adds writer.old (O.view sink.old) (spelled (flat_map (block_rows G.draws per_block circuit.now gates.now) (range_with_len 0 (block_count per_block (length gates.now))))) writer.new (O.view sink.new) }
+    ensures { Adds writer.old (O.view sink.old)
+        (spelled (flat_map (block_rows G.draws per_block circuit.now gates.now)
+        (range_with_len 0 (block_count per_block (length gates.now)))))
+        writer.new (O.view sink.new) }
 {
     for block in 0..block_count(per_block, gates.len()) {
         put_block(writer, sink, circuit, gates, per_block, block, most);
@@ -126,7 +132,9 @@ fn put_block<O: Sink, G: Drawn>(
 )
     requires within { block * per_block ≤ length gates.now }
     requires most { most ≡ widest circuit.now.input_labels }
-    ensures { Adds writer.old (O.view sink.old) (spelled (block_rows G.draws per_block circuit.now gates.now block)) writer.new (O.view sink.new) }
+    ensures { Adds writer.old (O.view sink.old)
+        (spelled (block_rows G.draws per_block circuit.now gates.now block))
+        writer.new (O.view sink.new) }
 {
     put_gap(writer, sink, block);
     let chunk = gates_of_block(gates, per_block, block);
@@ -161,7 +169,9 @@ fn put_rows<O: Sink, G: Drawn>(
     most: usize,
 )
     requires { most ≡ widest circuit.now.input_labels }
-    ensures { Adds writer.old (O.view sink.old) (spelled (sheet_rows G.draws circuit.now gates.now)) writer.new (O.view sink.new) }
+    ensures { Adds writer.old (O.view sink.old)
+        (spelled (sheet_rows G.draws circuit.now gates.now))
+        writer.new (O.view sink.new) }
 {
     for line in 0..circuit.line_count() {
         put_row(writer, sink, circuit, gates, most, line);
@@ -212,7 +222,9 @@ fn put_row<O: Sink, G: Drawn>(
 )
     requires line { line < length circuit.now.names }
     requires most { most ≡ widest circuit.now.input_labels }
-    ensures { Adds writer.old (O.view sink.old) (spelled (row_words G.draws circuit.now gates.now line ∷ [])) writer.new (O.view sink.new) }
+    ensures { Adds writer.old (O.view sink.old)
+        (spelled (row_words G.draws circuit.now gates.now line ∷ []))
+        writer.new (O.view sink.new) }
 {
     let label = circuit.input_label(line);
     put_label(writer, sink, label);
@@ -235,7 +247,9 @@ fn put_wire<O: Sink, G: Drawn>(
 )
     requires line { line < length circuit.now.names }
     requires pad { pad ≡ pad_after circuit.now.input_labels (slice_index_or circuit.now.input_labels line []) }
-    ensures { Adds writer.old (O.view sink.old) (flat_map glyph (wire_on G.draws circuit.now gates.now line)) writer.new (O.view sink.new) }
+    ensures { Adds writer.old (O.view sink.old)
+        (flat_map glyph (wire_on G.draws circuit.now gates.now line))
+        writer.new (O.view sink.new) }
 {
     circuit.recall_invariant();
     put_symbol(writer, sink, first_symbol(circuit.constant(line)));
@@ -262,7 +276,9 @@ fn put_pad<O: Sink>(writer: &mut Writer, sink: &mut O, pad: usize)
 // What the gates draw on a line.
 fn put_cells<O: Sink, G: Drawn>(writer: &mut Writer, sink: &mut O, gates: &[G], line: u8)
     requires { line < MOST_LINES }
-    ensures { Adds writer.old (O.view sink.old) (flat_map glyph (cells_on G.draws line gates.now)) writer.new (O.view sink.new) }
+    ensures { Adds writer.old (O.view sink.old)
+        (flat_map glyph (cells_on G.draws line gates.now))
+        writer.new (O.view sink.new) }
 {
     for gate in gates {
         put_cell(writer, sink, *gate, line);
@@ -272,7 +288,9 @@ fn put_cells<O: Sink, G: Drawn>(writer: &mut Writer, sink: &mut O, gates: &[G], 
 // What a gate draws on a line.
 fn put_cell<O: Sink, G: Drawn>(writer: &mut Writer, sink: &mut O, gate: G, line: u8)
     requires { line < MOST_LINES }
-    ensures { Adds writer.old (O.view sink.old) (flat_map glyph (cell (G.draws gate line))) writer.new (O.view sink.new) }
+    ensures { Adds writer.old (O.view sink.old)
+        (flat_map glyph (cell (G.draws gate line)))
+        writer.new (O.view sink.new) }
 {
     writer.put(sink, cell(gate.symbol_on(line)));
 }

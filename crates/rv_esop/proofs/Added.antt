@@ -1,13 +1,13 @@
 -- What gates add to the outputs.
 use Rattle.std.proofs.Common.{◌≡◌, ◌≢◌, ℕ, zero, suc, ◌+◌, ◌<◌, ◌≤◌, ◌*◌, ◌^◌, w64, bit_and, inl, inr, Bool, true, false, cond, ◌&&◌, List, [], ◌∷◌, ◌++◌, length, get_or, set, take, drop, ◌%◌, append-nil, refl, sym, ◌∙◌, ap, subst, arith, append_assoc, length-append, eq-eqb, ne_eqb}
-use Rattle.std.specs.Prelude.{bit_xor, All}
+use Rattle.std.specs.Prelude.{map, bit_xor, All}
 use Rattle.std.specs.Int.{bit_at, bit_not, trailing_zeros}
 use Rattle.std.specs.Int.Bits.{xor_zero_l, xor_zero_r}
 use Rattle.std.specs.List.{sum_by}
 use Rattle.std.specs.List.Sorted.{IsPermutation}
 use Rattle.std.proofs.Math.Seq.{take-add}
 use Rattle.std.proofs.lemmas.Bool.{cases_eq, true≢false, or_cases, eqb-true}
-use Rattle.std.proofs.lemmas.Nat.{pow_below, xor_lt, xor_comm}
+use Rattle.std.proofs.lemmas.Nat.{pow_below, pow_pos, xor_lt, xor_comm}
 use Rattle.std.proofs.lemmas.Nat.Bits.{bit_at-lt, bit_at-zero, bit_at_xor, same_from_bits}
 use Rattle.std.proofs.lemmas.List.Elements.{All-head, All-tail, All-cons, All-nil}
 use Rattle.std.proofs.lemmas.List.Sorted.{sum_by-IsPermutation, All-permutation}
@@ -19,16 +19,20 @@ use Rattle.rv_gate.specs.declared.gate.Shape.{Shape}
 use Rattle.rv_gate.specs.declared.gate.Shape.TheVariants.{Flip}
 use Rattle.rv_gate.proofs.inside.GateLemmas.{run-append}
 use Rattle.rv_gate.proofs.InverseLemmas.{holds_one_line}
-use Rattle.rv_gate.proofs.LineSets.{has-line, has-cond, has-xor, same_lines_below, Within-below}
+use Rattle.rv_gate.proofs.LineSets.{has-line, has-cond, has-none, has-xor, same_lines, same_lines_below, Within-below}
 use Rattle.rv_gate.proofs.LowestLine.{IsLowest, lowest_line}
 use Rattle.rv_gate.proofs.Bits.{xor_false, xor_true, xor_assoc}
 use Rattle.rv_pla.specs.Cube.{matches, IsCube}
 use Rattle.rv_pla.proofs.inside.Matching.{matches-holds}
 use Rattle.rv_pla.specs.declared.cube.Cube.{Cube}
 use Rattle.rv_cube.specs.Esop.{share, esop_value, IsTerm}
-use Rattle.rv_cube.proofs.Sums.{share-xor, share-outs}
+use Rattle.rv_cube.specs.declared.list.TheConstants.{MOST_CUBES}
+use Rattle.rv_cube.proofs.Symbols.{matches-same}
+use Rattle.rv_exorlink.specs.Lists.{IsSameBut}
+use Rattle.rv_cube.proofs.Sums.{share-xor, share-outs, xor_pairs}
 use Rattle.rv_esop.specs.Cascade.{xor_from, xor_set, esop_lines}
 use Rattle.rv_esop.specs.Shared.{Adds, Appends, is_odd, given}
+use Rattle.rv_esop.specs.inside.Basis.{linked, linked_cube, AreLinked, IsTurned}
 use Rattle.rv_esop.specs.inside.Flips.{IsLowestOf}
 use Rattle.rv_esop.proofs.Marks.{with_gates}
 use Rattle.rv_esop.proofs.inside.Flips.{xor-twice, xor-nothing, length-xor_from, holds-append}
@@ -109,10 +113,6 @@ pub adds_same : (n o : ℕ) (f f' : List Bool → ℕ) (g : List Shape) → ((x 
 adds_same n o f f' g e a = record { adds = λ x v lx lv. a.adds x v lx lv ∙ ap (λ s. x ++ xor_set v s) (e x lx) }
 
 -- ---- between two links
-
--- the output b gets what the output a gets besides
-abbrev pub linked : ℕ → ℕ → ℕ → ℕ
-linked a b s = bit_xor s (cond (has s a) (2 ^ b) 0)
 
 abbrev pub link : ℕ → ℕ → ℕ → Shape
 link n a b = Flip (2 ^ (n + a)) (2 ^ (n + a)) (n + b)
@@ -348,13 +348,10 @@ value-none x = refl
 
 -- ---- the whole circuit
 
-pub sorted_terms : (n o m k : ℕ) (cubes copy sorted read : List Cube) → m ≡ n → k ≡ o → copy ≡ cubes → IsPermutation copy sorted → read ≡ sorted
-    → All (IsTerm n o) cubes → All (IsTerm m k) read
-sorted_terms n o m k cubes copy sorted read e f is p same all =
+pub sorted_terms : (n o : ℕ) (cubes sorted read : List Cube) → IsPermutation cubes sorted → read ≡ sorted → All (IsTerm n o) cubes → All (IsTerm n o) read
+sorted_terms n o cubes sorted read p same all =
     let P : List Cube → Type 0 = λ l. All (IsTerm n o) l in
-    let Q : ℕ → Type 0 = λ i. All (IsTerm i o) read in
-    let R : ℕ → Type 0 = λ i. All (IsTerm m i) read in
-    subst R (sym f) (subst Q (sym e) (subst P (sym same) (All-permutation (IsTerm n o) copy sorted p (subst P (sym is) all))))
+    subst P (sym same) (All-permutation (IsTerm n o) cubes sorted p all)
 
 -- on lines without gates
 pub from_lines : (n o : ℕ) (f f' : List Bool → ℕ) (old new : Cascade) → old ≡ esop_lines n o → ((x : List Bool) → length x ≡ n → f x ≡ f' x)
@@ -362,3 +359,84 @@ pub from_lines : (n o : ℕ) (f f' : List Bool → ℕ) (old new : Cascade) → 
 from_lines n o f f' old new empty e a =
     let P : List Shape → Type 0 = Adds n o f' in
     subst P (sym (ap (λ (t : Cascade). t.gates) a.is ∙ ap (λ (t : Cascade). t.gates ++ a.block) empty)) (adds_same n o f f' a.block e a.added)
+
+-- ---- another basis
+
+linked_share : (a b : ℕ) (m : Bool) (outs : ℕ) → cond m (linked a b outs) 0 ≡ linked a b (cond m outs 0)
+linked_share a b true outs = refl
+linked_share a b false outs = sym (ap (λ t. bit_xor 0 (cond t (2 ^ b) 0)) (has-none a) ∙ xor_zero_l 0)
+
+linked_xor : (a b x y : ℕ) → linked a b (bit_xor x y) ≡ bit_xor (linked a b x) (linked a b y)
+linked_xor a b x y =
+    ap (λ t. bit_xor (bit_xor x y) (cond t (2 ^ b) 0)) (has-xor x y a)
+    ∙ ap (bit_xor (bit_xor x y)) (share-xor (has x a) (has y a) (2 ^ b))
+    ∙ xor_pairs x y (cond (has x a) (2 ^ b) 0) (cond (has y a) (2 ^ b) 0)
+
+value-linked : (a b : ℕ) (cubes : List Cube) (x : List Bool) → esop_value (map (linked_cube a b) cubes) x ≡ linked a b (esop_value cubes x)
+unfolding esop_value
+value-linked a b [] x = sym (ap (λ t. bit_xor 0 (cond t (2 ^ b) 0)) (has-none a) ∙ xor_zero_l 0)
+value-linked a b (c ∷ rest) x =
+    ap (bit_xor (cond (matches (linked_cube a b c) x) (linked a b c.outs) 0)) (value-linked a b rest x)
+    ∙ ap (λ t. bit_xor (cond t (linked a b c.outs) 0) (linked a b (esop_value rest x))) (matches-same (linked_cube a b c) c x (λ i l. refl))
+    ∙ ap (λ s. bit_xor s (linked a b (esop_value rest x))) (linked_share a b (matches c x) c.outs)
+    ∙ sym (linked_xor a b (share c x) (esop_value rest x))
+
+-- twice is not at all
+linked_twice : (a b s : ℕ) → a ≢ b → linked a b (linked a b s) ≡ s
+linked_twice a b s apart =
+    let t : ℕ = cond (has s a) (2 ^ b) 0 in
+    let off : has t a ≡ false = has-cond (has s a) (2 ^ b) a ∙ ap (λ k. has s a && k) (has-line b a ∙ ne_eqb a b apart) ∙ and_none (has s a) in
+    let same : has (bit_xor s t) a ≡ has s a = has-xor s t a ∙ ap (xor (has s a)) off ∙ xor_false (has s a) in
+    ap (λ k. bit_xor (bit_xor s t) (cond k (2 ^ b) 0)) same
+    ∙ same_from_bits _ _ (λ i.
+    let p = bit_at_xor (bit_xor s t) t i in
+    let q = bit_at_xor s t i in
+    let r = bit_at-lt s i in
+    let u = bit_at-lt t i in
+    omega arith)
+  where
+    and_none : (c : Bool) → (c && false) ≡ false
+    and_none true = refl
+    and_none false = refl
+
+-- an output stays
+some_output : (a b s : ℕ) → a ≢ b → 0 < s → 0 < linked a b s
+some_output a b s apart some =
+    elim (cases_eq (linked a b s) 0) [
+      | inl none ↦
+          (let e : s ≡ 0 = sym (linked_twice a b s apart) ∙ ap (linked a b) none ∙ ap (λ t. bit_xor 0 (cond t (2 ^ b) 0)) (has-none a) ∙ xor_zero_l 0 in absurd (omega arith))
+      | inr other ↦ omega arith
+    ]
+
+linked_term : (n o a b : ℕ) (c : Cube) → b < o → a ≢ b → IsTerm n o c → IsTerm n o (linked_cube a b c)
+linked_term n o a b c h apart t = record {
+  is_cube = record {
+    asked = t.is_cube.asked;
+    wanted = t.is_cube.wanted;
+    carried = xor_lt o c.outs (cond (has c.outs a) (2 ^ b) 0) t.is_cube.carried (small (has c.outs a));
+  };
+  some = some_output a b c.outs apart t.some;
+}
+  where
+    small : (k : Bool) → cond k (2 ^ b) 0 < 2 ^ o
+    small true = pow_below b o h
+    small false = pow_pos o
+
+linked_terms : (n o a b : ℕ) (cubes : List Cube) → b < o → a ≢ b → All (IsTerm n o) cubes → All (IsTerm n o) (map (linked_cube a b) cubes)
+linked_terms n o a b [] h apart all = All-nil (IsTerm n o)
+linked_terms n o a b (c ∷ rest) h apart all =
+    All-cons (IsTerm n o) (linked_cube a b c) (map (linked_cube a b) rest) (linked_term n o a b c h apart (All-head (IsTerm n o) c rest all))
+    (linked_terms n o a b rest h apart (All-tail (IsTerm n o) c rest all))
+
+-- after a search that keeps the value
+pub turned_list : (n o a b : ℕ) (cubes mid new : List Cube) → b < o → a ≢ b → AreLinked a b cubes mid → IsSameBut n [] mid new → length new ≤ MOST_CUBES
+    → All (IsTerm n o) cubes → IsTurned n o a b cubes new
+turned_list n o a b cubes mid new h apart is s few all =
+    let P : List Cube → Type 0 = λ l. All (IsTerm n o) l in
+    record {
+      value = λ word len.
+          ap (linked a b) (same_lines _ _ (λ output. s.value word len output (has-none output)) ∙ ap (λ l. esop_value l word) is ∙ value-linked a b cubes word)
+          ∙ linked_twice a b (esop_value cubes word) apart;
+      terms = s.terms o (subst P (sym is) (linked_terms n o a b cubes h apart all));
+      few = few;
+    }

@@ -3,6 +3,7 @@
 //! The circuit keeps the inputs and adds the value of the list to the outputs, bit by bit.
 #![tactic(auto)]
 
+mod basis;
 mod circuit;
 mod count;
 mod lines;

@@ -1,5 +1,5 @@
 mod Cubes
 mod Values
-mod Steps
+pub mod Steps
 mod Finds
 pub mod inside

@@ -1,4 +1,5 @@
 -- Joinable phases are an equivalence, and to fold them by classes is to walk.
+use Rattle.rv_gate.proofs.Bits.{same_bool}
 use Rattle.std.proofs.Common.{◌≡◌, ℕ, zero, suc, ◌+◌, ◌%◌, ◌<◌, Bool, true, false, cond, not, Option, Some, None, List, [], ◌∷◌, ◌++◌, length, refl, sym, ap, ap₂, ◌∙◌, arith, inl, inr, ◌⊎◌}
 use Rattle.std.specs.Prelude.{slice_get, IsSome}
 use Rattle.std.specs.Option.{option_map}
@@ -8,7 +9,7 @@ use Rattle.rv_gate.proofs.AllBelow.{all_below-at, all_below-from, all_below-fail
 use Rattle.rv_net.specs.declared.op.Op.{Op}
 use Rattle.rv_fold.specs.Parities.{alone, parities_after, are_apart, restart_set, same_parity, Parity}
 use Rattle.rv_fold.specs.Folded.{Kept, phase_gate, phase_ops, exponent_of, parities_at, restarted_at, phase_gate_at, parity_at, is_kept, has_parity, joins, joinable, IsEquivalence, sum_below, is_first, class_exponent, part, parts, folded, PhaseGate}
-use Rattle.rv_fold.proofs.Restarts.{apart_none, restart_none, same_both_ways}
+use Rattle.rv_fold.proofs.Restarts.{apart_none, restart_none}
 use Rattle.rv_fold.proofs.Walking.{Seen, only, none, joined, survivors, restarts, owed, walked, exponents, total, kind, owed-none, owed-some, walked-none, walked-seen, walked-new, same_parity-eq, same_parity-refl, phase_after, phase_direct}
 
 -- ---- one operation at its place
@@ -277,7 +278,7 @@ module _ (n : ℕ) (ops : List Op) where
               complete = λ k. h.complete (kept_less f.lines m p k);
             } in
             let same : joinable n ops m p ≡ s g =
-            same_both_ways _ _
+            same_bool _ _
             (λ on. let j = joined_at m p on in let a : j.parity ≡ f = same_Some _ _ (sym j.first ∙ here) in let b : g ≡ f = same_Some _ _ (sym there ∙ j.second) ∙ a in
             ap s b ∙ h.complete (λ k above below. ap (λ (z : Parity). are_apart z.lines (restarted_at n ops k)) (sym a) ∙ j.forward k above below))
             (λ on. let w = h.sound g on in joined_from m p (record { parity = f; first = here; second = there ∙ ap Some w.0; forward = w.1; backward = λ k above below. absurd (omega arith) })) in

@@ -1,4 +1,5 @@
 -- A restart reaches the least set that is closed.
+use Rattle.rv_gate.proofs.Bits.{same_bool}
 use Rattle.std.proofs.Common.{◌≡◌, ℕ, zero, suc, ◌+◌, ◌<◌, ◌≤◌, ◌^◌, Bool, true, false, cond, ◌&&◌, ◌||◌, eqb, refl, sym, ap, ◌∙◌, arith, inl, inr, ◌⊎◌, not-suc-le-zero, eq-eqb}
 use Rattle.std.specs.Prelude.{bit_and, bit_or}
 use Rattle.std.proofs.lemmas.Bool.{cases_eq, cases_Bool, eqb-true}
@@ -112,9 +113,6 @@ apart-within f a b w e = eq-eqb _ 0 (same_lines (bit_and f a) 0 (λ l. has-and f
     go : (l : ℕ) (p q : Bool) → has f l ≡ p → has a l ≡ q → (p && q) ≡ false
     go l p q h h2 = grind (arith, none)
 
-pub same_both_ways : (a b : Bool) → (a ≡ true → b ≡ true) → (b ≡ true → a ≡ true) → a ≡ b
-same_both_ways a b h h2 = grind arith
-
 -- a round that adds nothing below n is followed by such rounds
 persists : (n : ℕ) (parities : Parities) (set : ℕ) → Covers n (has set) (has (closure_step parities set n)) → Within (closure_step parities set n) set
 persists n parities set h l on =
@@ -138,7 +136,7 @@ settled_or_more n parities set (suc k) =
     go : Covers n (has (closure_steps n parities set k)) (has (closure_steps n parities set (suc k))) ⊎ (suc k ≤ count n (has r)) → (Covers n (has r) (has (closure_step parities r n)) × (count n (has r) ≤ count n (has (closure_step parities r n)))) ⊎ (count n (has r) < count n (has (closure_step parities r n))) → Covers n (has r) (has (closure_step parities r n)) ⊎ (suc (suc k) ≤ count n (has (closure_step parities r n)))
     go (inl c) m =
         inl (λ l lt out.
-        let same : closure_step parities q n ≡ q = same_lines _ _ (λ j. same_both_ways (has (closure_step parities q n) j) (has q j) (persists n parities q c j) (closure_step-grows n parities q j)) in
+        let same : closure_step parities q n ≡ q = same_lines _ _ (λ j. same_bool (has (closure_step parities q n) j) (has q j) (persists n parities q c j) (closure_step-grows n parities q j)) in
         ap (λ s. has (closure_step parities s n) l) same ∙ out)
     go (inr h) (inl c) = inl c.0
     go (inr h) (inr m) = inr (omega arith)

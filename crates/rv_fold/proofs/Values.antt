@@ -1,4 +1,5 @@
 -- The values of parities, and what an operation makes of them.
+use Rattle.rv_gate.proofs.Bits.{xor_and, false_xor, or_true, xor_false}
 use Rattle.std.proofs.Common.{◌≡◌, ℕ, zero, suc, ◌<◌, ◌^◌, Bool, true, false, cond, not, ◌&&◌, eqb, length, set, refl, sym, ap, ap₂, ◌∙◌, arith, length-set, get_or-set_same, get_or-set_other, eq-eqb, ne_eqb, inl, inr, ◌⊎◌, not-suc-le-zero}
 use Rattle.std.specs.Prelude.{◌||◌, bit_or, bit_xor}
 use Rattle.std.proofs.lemmas.Bool.{cases_eq, eqb-true}
@@ -27,43 +28,34 @@ Holds n parities v x = (l : ℕ) → l < n → bit x l ≡ value n v (parities l
 xor_rot : (a b c d : Bool) → xor (xor a b) (xor c d) ≡ xor (xor a c) (xor b d)
 xor_rot a b c d = grind arith
 
-xor-and : (a b c : Bool) → (xor a b && c) ≡ xor (a && c) (b && c)
-xor-and a b c = grind arith
-
 xor-not : (a b : Bool) → not (xor a b) ≡ xor a (not b)
 xor-not a b = grind arith
-
-pub xor-false : (a : Bool) → xor a false ≡ a
-xor-false a = grind arith
-
-false-xor : (a : Bool) → xor false a ≡ a
-false-xor a = grind arith
 
 pub sum_of-same : (n : ℕ) (s t v w : ℕ → Bool) → ((j : ℕ) → j < n → (s j && v j) ≡ (t j && w j)) → sum_of n s v ≡ sum_of n t w
 sum_of-same zero s t v w h = refl
 sum_of-same (suc n) s t v w h = ap₂ xor (h n (omega arith)) (sum_of-same n s t v w (λ j k. h j (omega arith)))
 
 sum_of-xor : (n : ℕ) (s t v : ℕ → Bool) → sum_of n (λ l. xor (s l) (t l)) v ≡ xor (sum_of n s v) (sum_of n t v)
-sum_of-xor zero s t v = sym (xor-false false)
-sum_of-xor (suc n) s t v = ap₂ xor (xor-and (s n) (t n) (v n)) (sum_of-xor n s t v) ∙ xor_rot (s n && v n) (t n && v n) (sum_of n s v) (sum_of n t v)
+sum_of-xor zero s t v = sym (xor_false false)
+sum_of-xor (suc n) s t v = ap₂ xor (xor_and (s n) (t n) (v n)) (sum_of-xor n s t v) ∙ xor_rot (s n && v n) (t n && v n) (sum_of n s v) (sum_of n t v)
 
 sum_of-bit_xor : (n a b : ℕ) (v : ℕ → Bool) → sum_of n (has (bit_xor a b)) v ≡ xor (sum_of n (has a) v) (sum_of n (has b) v)
 sum_of-bit_xor n a b v = (λ i. sum_of n (λ l. has-xor a b l i) v) ∙ sum_of-xor n (has a) (has b) v
 
 sum_of-none : (n q : ℕ) (v : ℕ → Bool) → ((j : ℕ) → j < n → eqb j q ≡ false) → sum_of n (λ l. eqb l q) v ≡ false
 sum_of-none zero q v h = refl
-sum_of-none (suc n) q v h = ap₂ xor (ap (λ b. b && v n) (h n (omega arith))) (sum_of-none n q v (λ j k. h j (omega arith))) ∙ xor-false false
+sum_of-none (suc n) q v h = ap₂ xor (ap (λ b. b && v n) (h n (omega arith))) (sum_of-none n q v (λ j k. h j (omega arith))) ∙ xor_false false
 
 sum_of-alone : (n q : ℕ) (v : ℕ → Bool) → q < n → sum_of n (λ l. eqb l q) v ≡ v q
 sum_of-alone zero q v h = absurd (not-suc-le-zero h)
 sum_of-alone (suc n) q v h = go (cases_eq n q) (λ d. sum_of-alone n q v (omega arith))
   where
     go : (n ≡ q) ⊎ (n ≡ q → ⊥) → ((n ≡ q → ⊥) → sum_of n (λ l. eqb l q) v ≡ v q) → xor (eqb n q && v n) (sum_of n (λ l. eqb l q) v) ≡ v q
-    go (inl e) ih = ap₂ xor (ap (λ b. b && v n) (eq-eqb n q e)) (sum_of-none n q v (λ j k. ne_eqb j q (omega arith))) ∙ xor-false (v n) ∙ ap v e
-    go (inr d) ih = ap₂ xor (ap (λ b. b && v n) (ne_eqb n q d)) (ih d) ∙ false-xor (v q)
+    go (inl e) ih = ap₂ xor (ap (λ b. b && v n) (eq-eqb n q e)) (sum_of-none n q v (λ j k. ne_eqb j q (omega arith))) ∙ xor_false (v n) ∙ ap v e
+    go (inr d) ih = ap₂ xor (ap (λ b. b && v n) (ne_eqb n q d)) (ih d) ∙ false_xor (v q)
 
 pub value-alone : (n q : ℕ) (v : ℕ → Bool) → q < n → value n v (alone q) ≡ v q
-value-alone n q v h = xor-false _ ∙ (λ i. sum_of n (λ l. has-line q l i) v) ∙ sum_of-alone n q v h
+value-alone n q v h = xor_false _ ∙ (λ i. sum_of n (λ l. has-line q l i) v) ∙ sum_of-alone n q v h
 
 pub holds-start : (n : ℕ) (x : Word) → Holds n alone (bit x) x
 holds-start n x = λ l h. sym (value-alone n l (bit x) h)
@@ -74,11 +66,7 @@ apart_at a b h line = sym (has-and a b line) ∙ ap (λ s. has s line) (eqb-true
 
 -- ---- one operation
 bit-set : (x : Word) (q l : ℕ) (b : Bool) → q < length x → bit (set x q b) l ≡ cond (eqb l q) b (bit x l)
-bit-set x q l b h = go (cases_eq l q)
-  where
-    go : (l ≡ q) ⊎ (l ≡ q → ⊥) → bit (set x q b) l ≡ cond (eqb l q) b (bit x l)
-    go (inl e) = ap (λ j. bit (set x q b) j) e ∙ get_or-set_same x q b false h ∙ ap (λ t. cond t b (bit x l)) (sym (eq-eqb l q e))
-    go (inr d) = get_or-set_other x q l b false d ∙ ap (λ t. cond t b (bit x l)) (sym (ne_eqb l q d))
+bit-set x q l b h = grind (arith, cases_eq, get_or-set_same, eq-eqb, get_or-set_other, ne_eqb)
 
 both : (n : ℕ) (v : ℕ → Bool) (t b c : Bool) (f g : Parity) → b ≡ value n v f → c ≡ value n v g → cond t b c ≡ value n v (cond t f g)
 both n v t b c f g h h2 = grind arith
@@ -147,11 +135,8 @@ on_line n q r parities is = is.holds q (has-line q q ∙ eq-eqb q q refl)
 on_first : (n a b r : ℕ) (parities : Parities) → IsClosed n parities (bit_or (2 ^ a) (2 ^ b)) r → has r a ≡ true
 on_first n a b r parities is = is.holds a (has-lines a b a ∙ ap (λ t. t || eqb a b) (eq-eqb a a refl))
 
-or-true : (a : Bool) → (a || true) ≡ true
-or-true a = grind arith
-
 on_second : (n a b r : ℕ) (parities : Parities) → IsClosed n parities (bit_or (2 ^ a) (2 ^ b)) r → has r b ≡ true
-on_second n a b r parities is = is.holds b (has-lines a b b ∙ ap (λ t. eqb b a || t) (eq-eqb b b refl) ∙ or-true (eqb b a))
+on_second n a b r parities is = is.holds b (has-lines a b b ∙ ap (λ t. eqb b a || t) (eq-eqb b b refl) ∙ or_true (eqb b a))
 
 -- what an operation leads to has the values of the parities afterwards; those off the lines that it restarts stay
 pub holds-next : (n : ℕ) (o : Op) (parities : Parities) (v : ℕ → Bool) (x y : Word) → length x ≡ n → OpFitsIn o n → Restarts n o parities → Holds n parities v x → Next o x y → Held n (restart_set n parities (direct o)) (parities_after n o parities) v y
@@ -187,9 +172,4 @@ length-next o x y h = grind (arith, length, length-set)
 
 -- values that are the same off a set have the same parities of a parity apart from it
 pub value-held : (n r : ℕ) (f : Parity) (v w : ℕ → Bool) → are_apart f.lines r ≡ true → ((j : ℕ) → has r j ≡ false → w j ≡ v j) → value n w f ≡ value n v f
-value-held n r f v w apart same = ap (λ p. xor p f.flipped) (sum_of-same n (has f.lines) (has f.lines) w v (λ j h. go j (has f.lines j) (has r j) refl (apart_at f.lines r apart j)))
-  where
-    go : (j : ℕ) (a b : Bool) → has r j ≡ b → (a && b) ≡ false → (a && w j) ≡ (a && v j)
-    go j true true e h = absurd (let g : true ≡ false = h in cc)
-    go j true false e h = same j e
-    go j false b e h = refl
+value-held n r f v w apart same = grind (arith, sum_of-same, apart_at)

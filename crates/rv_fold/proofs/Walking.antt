@@ -1,6 +1,6 @@
 -- Folding as one walk: the parities whose class has begun are seen, and the first phase of a parity takes what the rest has of it.
 use Rattle.std.proofs.Common.{◌≡◌, ℕ, ◌+◌, ◌%◌, ◌<◌, Bool, true, false, cond, ◌&&◌, ◌||◌, Option, Some, None, List, [], ◌∷◌, ◌++◌, refl, sym, ap, ap₂, ◌∙◌, arith, inl, inr, ◌⊎◌, eq-eqb}
-use Rattle.std.proofs.lemmas.Bool.{and_parts, eqb-true}
+use Rattle.std.proofs.lemmas.Bool.{and_parts}
 use Rattle.rv_gate.specs.Gate.{same}
 use Rattle.rv_net.specs.declared.op.Op.{Op}
 use Rattle.rv_net.specs.declared.op.Op.TheVariants.{Z, S, Sdg, T, Tdg}
@@ -11,18 +11,11 @@ use Rattle.rv_net.specs.Op.{OpFitsIn}
 
 -- ---- parities that are the same
 
-bits-same : (a b : Bool) → same a b ≡ true → a ≡ b
-bits-same a b h = grind arith
-
 same-bits : (a : Bool) → same a a ≡ true
 same-bits a = grind arith
 
 pub same_parity-eq : (f g : Parity) → same_parity f g ≡ true → f ≡ g
-same_parity-eq f g e =
-    let parts = and_parts _ _ e in
-    let p : f.lines ≡ g.lines = eqb-true _ _ parts.0 in
-    let q : f.flipped ≡ g.flipped = bits-same _ _ parts.1 in
-    λ i. record { lines = p i; flipped = q i }
+same_parity-eq f g e = grind arith
 
 and-true : (a b : Bool) → a ≡ true → b ≡ true → (a && b) ≡ true
 and-true a b h h2 = grind arith

@@ -1,5 +1,6 @@
 -- Operations that are no H, bit by bit: what they read decides which bits they change, and no bit changes that they do not write.
-use Rattle.std.proofs.Common.{◌≡◌, ◌≢◌, ℕ, ◌<◌, ◌^◌, Bool, true, false, cond, not, ◌&&◌, eqb, length, set, refl, sym, ap, ap₂, ◌∙◌, length-set, get_or-set_other, eq-eqb, ne_eqb, inl, inr, ◌⊎◌, subst}
+use Rattle.std.proofs.Common.{arith}
+use Rattle.std.proofs.Common.{◌≡◌, ◌≢◌, ℕ, ◌<◌, ◌^◌, Bool, true, false, cond, not, ◌&&◌, eqb, length, set, refl, sym, ap, ◌∙◌, length-set, get_or-set_other, eq-eqb, ne_eqb}
 use Rattle.std.specs.Prelude.{◌||◌, bit_or}
 use Rattle.std.proofs.lemmas.Bool.{cases_eq, or_left, or_right}
 use Rattle.rv_gate.specs.Gate.{xor}
@@ -28,19 +29,7 @@ pub record Agree (lines : ℕ) (x y : Word) : Type 0 where
 -- ---- the phase
 
 pub phase_agrees : (o : Op) (x y : Word) → Agree (reads o) x y → phase_of o x ≡ phase_of o y
-phase_agrees (X q) x y h = refl
-phase_agrees (Y q) x y h = ap (λ (b : Bool). cond {A = ℕ} b 6 2) (h.each q (has_self q))
-phase_agrees (Z q) x y h = ap (λ (b : Bool). cond {A = ℕ} b 4 0) (h.each q (has_self q))
-phase_agrees (H q) x y h = refl
-phase_agrees (S q) x y h = ap (λ (b : Bool). cond {A = ℕ} b 2 0) (h.each q (has_self q))
-phase_agrees (Sdg q) x y h = ap (λ (b : Bool). cond {A = ℕ} b 6 0) (h.each q (has_self q))
-phase_agrees (T q) x y h = ap (λ (b : Bool). cond {A = ℕ} b 1 0) (h.each q (has_self q))
-phase_agrees (Tdg q) x y h = ap (λ (b : Bool). cond {A = ℕ} b 7 0) (h.each q (has_self q))
-phase_agrees (Cx a b) x y h = refl
-phase_agrees (Cz a b) x y h = ap₂ (λ (s t : Bool). cond {A = ℕ} (s && t) 4 0) (h.each a (has_first a b)) (h.each b (has_second a b))
-phase_agrees (Ccx a b c) x y h = refl
-phase_agrees (Swap a b) x y h = refl
-phase_agrees (Cswap c a b) x y h = refl
+phase_agrees o x y h = grind (arith, has_self, has_first, has_second)
 
 -- ---- which bits change
 
@@ -62,21 +51,7 @@ flips (Cz a b) x l = false
 
 pub flips_agrees : (o : Op) (x y : Word) (l : ℕ) → Agree (reads o) x y → flips o x l ≡ flips o y l
 unfolding flips
-flips_agrees (X q) x y l h = refl
-flips_agrees (Y q) x y l h = refl
-flips_agrees (Z q) x y l h = refl
-flips_agrees (H q) x y l h = refl
-flips_agrees (S q) x y l h = refl
-flips_agrees (Sdg q) x y l h = refl
-flips_agrees (T q) x y l h = refl
-flips_agrees (Tdg q) x y l h = refl
-flips_agrees (Cx a b) x y l h = ap (λ s. eqb l b && s) (h.each a (has_self a))
-flips_agrees (Cz a b) x y l h = refl
-flips_agrees (Ccx a b c) x y l h = ap₂ (λ s t. eqb l c && (s && t)) (h.each a (has_first a b)) (h.each b (has_second a b))
-flips_agrees (Swap a b) x y l h = ap₂ (λ s t. (eqb l a || eqb l b) && xor s t) (h.each a (has_first a b)) (h.each b (has_second a b))
-flips_agrees (Cswap c a b) x y l h =
-    ap₂ (λ r s. (eqb l a || eqb l b) && (r && s)) (h.each c (has_in_second (bit_or (2 ^ a) (2 ^ b)) (2 ^ c) c (has_self c)))
-    (ap₂ xor (h.each a (has_in_first (bit_or (2 ^ a) (2 ^ b)) (2 ^ c) a (has_first a b))) (h.each b (has_in_first (bit_or (2 ^ a) (2 ^ b)) (2 ^ c) b (has_second a b))))
+flips_agrees o x y l h = grind (arith, has_self, has_first, has_second, has_in_second, bit_or, has_in_first)
 
 not_line : (q l : ℕ) → has (2 ^ q) l ≡ false → eqb l q ≡ false
 not_line q l h = sym (has-line q l) ∙ h
@@ -87,45 +62,21 @@ not_lines a b l h = sym (has-lines a b l) ∙ h
 -- no bit changes that is not written
 pub flips_unwritten : (o : Op) (x : Word) (l : ℕ) → has (writes o) l ≡ false → flips o x l ≡ false
 unfolding flips
-flips_unwritten (X q) x l h = not_line q l h
-flips_unwritten (Y q) x l h = not_line q l h
-flips_unwritten (Z q) x l h = refl
-flips_unwritten (H q) x l h = refl
-flips_unwritten (S q) x l h = refl
-flips_unwritten (Sdg q) x l h = refl
-flips_unwritten (T q) x l h = refl
-flips_unwritten (Tdg q) x l h = refl
-flips_unwritten (Cx a b) x l h = ap (λ s. s && bit x a) (not_line b l h)
-flips_unwritten (Cz a b) x l h = refl
-flips_unwritten (Ccx a b c) x l h = ap (λ s. s && (bit x a && bit x b)) (not_line c l h)
-flips_unwritten (Swap a b) x l h = ap (λ s. s && xor (bit x a) (bit x b)) (not_lines a b l h)
-flips_unwritten (Cswap c a b) x l h = ap (λ s. s && (bit x c && xor (bit x a) (bit x b))) (not_lines a b l h)
+flips_unwritten o x l h = grind (arith, not_line, not_lines)
 
 -- a line whose bit is changed, and one whose bit is not
 changed_one : (x : Word) (q l : ℕ) (b f : Bool) → q < length x → b ≡ xor f (bit x q) → bit (set x q b) l ≡ xor (eqb l q && f) (bit x l)
-changed_one x q l b f h is = bit_of-set x q l b h ∙ go (cases_eq l q)
-  where
-    go : (l ≡ q) ⊎ (l ≡ q → ⊥) → cond (eqb l q) b (bit x l) ≡ xor (eqb l q && f) (bit x l)
-    go (inl e) =
-        ap (λ t. cond t b (bit x l)) (eq-eqb l q e) ∙ is ∙ ap (λ k. xor f (bit x k)) (sym e) ∙ ap (λ t. xor (t && f) (bit x l)) (sym (eq-eqb l q e))
-    go (inr d) =
-        ap (λ t. cond t b (bit x l)) (ne_eqb l q d) ∙ sym (false_xor (bit x l)) ∙ ap (λ t. xor (t && f) (bit x l)) (sym (ne_eqb l q d))
+changed_one x q l b f h is = grind (arith, bit_of-set, cases_eq, eq-eqb, ne_eqb, false_xor)
 
 not_xor : (b : Bool) → not b ≡ xor true b
 not_xor true = refl
 not_xor false = refl
 
 first_xor : (s t : Bool) → t ≡ xor (xor s t) s
-first_xor true true = refl
-first_xor true false = refl
-first_xor false true = refl
-first_xor false false = refl
+first_xor s t = grind arith
 
 second_xor : (s t : Bool) → s ≡ xor (xor s t) t
-second_xor true true = refl
-second_xor true false = refl
-second_xor false true = refl
-second_xor false false = refl
+second_xor s t = grind arith
 
 first_swapped : (r s t : Bool) → cond r t s ≡ xor (r && xor s t) s
 first_swapped true s t = first_xor s t
@@ -136,22 +87,13 @@ second_swapped true s t = second_xor s t
 second_swapped false s t = sym (false_xor t)
 
 either : (s t f b : Bool) → (s && t) ≡ false → xor (t && f) (xor (s && f) b) ≡ xor ((s || t) && f) b
-either true true f b h = absurd (let e : true ≡ false = h in cc)
-either true false f b h = false_xor (xor f b)
-either false true f b h = ap (xor f) (false_xor b)
-either false false f b h = ap (xor false) (false_xor b)
+either s t f b h = grind arith
 
 -- two lines whose bits are changed together
 changed_two : (x : Word) (p q l : ℕ) (a b f : Bool) → p < length x → q < length x → p ≢ q → a ≡ xor f (bit x p) → b ≡ xor f (bit x q)
     → bit (set (set x p a) q b) l ≡ xor ((eqb l p || eqb l q) && f) (bit x l)
 changed_two x p q l a b f hp hq apart isp isq =
-    changed_one (set x p a) q l b f (subst (λ n. q < n) (sym (length-set x p a)) hq) (isq ∙ ap (xor f) (sym (get_or-set_other x p q a false (λ e. apart (sym e)))))
-    ∙ ap (xor (eqb l q && f)) (changed_one x p l a f hp isp)
-    ∙ either (eqb l p) (eqb l q) f (bit x l) (go (cases_eq l p))
-  where
-    go : (l ≡ p) ⊎ (l ≡ p → ⊥) → (eqb l p && eqb l q) ≡ false
-    go (inl e) = ap (λ t. t && eqb l q) (eq-eqb l p e) ∙ ne_eqb l q (λ g. apart (sym e ∙ g))
-    go (inr d) = ap (λ t. t && eqb l q) (ne_eqb l p d)
+    grind (arith, changed_one, length-set, get_or-set_other, either, cases_eq, eq-eqb, ne_eqb)
 
 pub goes-bit : (o : Op) (x : Word) (l : ℕ) → OpFitsIn o (length x) → bit (goes_to o x) l ≡ xor (flips o x l) (bit x l)
 unfolding flips
@@ -173,16 +115,4 @@ goes-bit (Cswap c a b) x l h =
     (first_swapped (bit x c) (bit x a) (bit x b)) (second_swapped (bit x c) (bit x a) (bit x b))
 
 pub goes-length : (o : Op) (x : Word) → length (goes_to o x) ≡ length x
-goes-length (X q) x = length-set _ _ _
-goes-length (Y q) x = length-set _ _ _
-goes-length (Z q) x = refl
-goes-length (H q) x = refl
-goes-length (S q) x = refl
-goes-length (Sdg q) x = refl
-goes-length (T q) x = refl
-goes-length (Tdg q) x = refl
-goes-length (Cx a b) x = length-set _ _ _
-goes-length (Cz a b) x = refl
-goes-length (Ccx a b c) x = length-set _ _ _
-goes-length (Swap a b) x = length-set _ _ _ ∙ length-set _ _ _
-goes-length (Cswap c a b) x = length-set _ _ _ ∙ length-set _ _ _
+goes-length o x = grind (arith, length-set)

@@ -1,4 +1,5 @@
 -- Operations commute where neither writes what the other reads.
+use Rattle.std.proofs.Common.{arith}
 use Rattle.std.proofs.Common.{◌≡◌, ◌≢◌, ℕ, ◌<◌, ◌^◌, Bool, true, false, cond, ◌&&◌, eqb, length, set, refl, sym, ap, ap₂, ◌∙◌, length-set, get_or-set_other, eq-eqb, ne_eqb, inl, inr, ◌⊎◌, subst}
 use Rattle.std.specs.Prelude.{bit_and}
 use Rattle.std.proofs.lemmas.Bool.{cases_eq, eqb-true, and_parts}
@@ -72,10 +73,7 @@ agree_after : (p o : Op) (x : Word) → OpFitsIn o (length x) → ((l : ℕ) →
 agree_after p o x fit h = record { each = λ l on. goes-bit o x l fit ∙ ap (λ t. xor t (bit x l)) (flips_unwritten o x l (h l on)) ∙ false_xor (bit x l) }
 
 xor_swap : (a b c : Bool) → xor a (xor b c) ≡ xor b (xor a c)
-xor_swap true true c = refl
-xor_swap true false c = refl
-xor_swap false true c = refl
-xor_swap false false c = refl
+xor_swap a b c = grind arith
 
 fits_after : (p o : Op) (x : Word) → OpFitsIn p (length x) → OpFitsIn p (length (goes_to o x))
 fits_after p o x h = subst (OpFitsIn p) (sym (goes-length o x)) h
@@ -95,15 +93,7 @@ same_word_moved p o x fp fo ap' ao =
 two_moves : (p o : Op) (k : Word → Cyclotomic) (x : Word) → Moves p → Moves o → Apart p o → OpFitsIn p (length x) → OpFitsIn o (length x)
     → step p (λ v. step o k v) x ≡ step o (λ v. step p k v) x
 two_moves p o k x mp mo apart fp fo =
-    let after_o = agree_after p o x fo apart.unwritten in
-    let after_p = agree_after o p x fp apart.kept in
-    mp.steps (λ v. step o k v) x
-    ∙ ap (times_w_power (phase_of p x)) (mo.steps k (goes_to p x))
-    ∙ ap (λ n. times_w_power (phase_of p x) (times_w_power n (k (goes_to o (goes_to p x))))) (phase_agrees o (goes_to p x) x after_p)
-    ∙ turns_comm (phase_of p x) (phase_of o x) _
-    ∙ ap₂ (λ n y. times_w_power (phase_of o x) (times_w_power n (k y))) (sym (phase_agrees p (goes_to o x) x after_o)) (sym (same_word_moved p o x fp fo after_o after_p))
-    ∙ ap (times_w_power (phase_of o x)) (sym (mp.steps k (goes_to o x)))
-    ∙ sym (mo.steps (λ v. step p k v) x)
+    grind (arith, agree_after, times_w_power, phase_of, goes_to, phase_agrees, turns_comm, same_word_moved)
 
 -- ---- an H and a move
 
@@ -206,17 +196,4 @@ h_first q o k x h hq fo =
 
 pub passing : (p o : Op) (k : Word → Cyclotomic) (x : Word) → commute p o ≡ true → OpFitsIn p (length x) → OpFitsIn o (length x)
     → step p (λ v. step o k v) x ≡ step o (λ v. step p k v) x
-passing p o k x h fp fo =
-    let apart = apart_from p o h in
-    elim (kind p) [
-      | inl hp ↦
-          subst (λ (a : Op). commute a o ≡ true → OpFitsIn a (length x) → step a (λ v. step o k v) x ≡ step o (λ v. step a k v) x) (sym hp.1)
-          (λ both fits. h_first hp.0 o k x both fits fo) h fp
-      | inr mp ↦
-          (elim (kind o) [
-            | inr mo ↦ two_moves p o k x mp mo apart fp fo
-            | inl ho ↦
-                subst (λ (a : Op). Apart p a → OpFitsIn a (length x) → step p (λ v. step a k v) x ≡ step a (λ v. step p k v) x) (sym ho.1)
-                (λ both fits. sym (h_move ho.0 p k x mp (both.unseen ho.0 (has_self ho.0)) (both.kept ho.0 (has_self ho.0)) fits fp)) apart fo
-          ])
-    ]
+passing p o k x h fp fo = grind (arith, apart_from, kind, h_first, two_moves, h_move, has_self)

@@ -1,8 +1,7 @@
 -- An operation undoes another one: two H side by side double, any other pair leaves all as it is.
-use Rattle.std.proofs.Common.{◌≡◌, ◌≢◌, ℕ, ◌<◌, Bool, true, false, cond, ◌&&◌, List, [], ◌∷◌, map, length, set, refl, sym, ap, ◌∙◌, arith, inl, inr, not-suc-le-zero}
+use Rattle.std.proofs.Common.{◌≡◌, ◌≢◌, ℕ, ◌<◌, Bool, true, false, cond, ◌&&◌, List, [], ◌∷◌, map, length, refl, sym, ap, ◌∙◌, arith, not-suc-le-zero}
 use Rattle.std.proofs.lemmas.List.{set_comm, set-get_or}
 use Rattle.std.proofs.lemmas.Int.{ints}
-use Rattle.rv_gate.specs.Gate.{xor}
 use Rattle.rv_net.specs.declared.op.Op.{Op}
 use Rattle.rv_net.specs.declared.op.Op.TheVariants.{X, Y, Z, H, S, Sdg, T, Tdg, Cx, Cz, Ccx, Swap, Cswap}
 use Rattle.rv_net.specs.Cyclotomic.{Cyclotomic, plus, times_w, times_w_power, doubled}
@@ -66,10 +65,7 @@ twice_h k false = same_cyclotomic _ _ (omega (arith, ints)) (omega (arith, ints)
 
 twice_cx : (k : Word → Cyclotomic) (a b : Bool) → through (Cx 0 1 ∷ Cx 0 1 ∷ []) k (a ∷ b ∷ []) ≡ k (a ∷ b ∷ [])
 unfolding through times_w_power
-twice_cx k true true = refl
-twice_cx k true false = refl
-twice_cx k false true = refl
-twice_cx k false false = refl
+twice_cx k a b = grind arith
 
 twice_swap : (k : Word → Cyclotomic) (a b : Bool) → through (Swap 0 1 ∷ Swap 0 1 ∷ []) k (a ∷ b ∷ []) ≡ k (a ∷ b ∷ [])
 unfolding through times_w_power
@@ -77,14 +73,7 @@ twice_swap k a b = refl
 
 twice_ccx : (k : Word → Cyclotomic) (a b c : Bool) → through (Ccx 0 1 2 ∷ Ccx 0 1 2 ∷ []) k (a ∷ b ∷ c ∷ []) ≡ k (a ∷ b ∷ c ∷ [])
 unfolding through times_w_power
-twice_ccx k true true true = refl
-twice_ccx k true true false = refl
-twice_ccx k true false true = refl
-twice_ccx k true false false = refl
-twice_ccx k false true true = refl
-twice_ccx k false true false = refl
-twice_ccx k false false true = refl
-twice_ccx k false false false = refl
+twice_ccx k a b c = grind arith
 
 twice_cswap : (k : Word → Cyclotomic) (c a b : Bool) → through (Cswap 0 1 2 ∷ Cswap 0 1 2 ∷ []) k (c ∷ a ∷ b ∷ []) ≡ k (c ∷ a ∷ b ∷ [])
 unfolding through times_w_power
@@ -127,19 +116,7 @@ undone (Cswap c a b) k x h =
 -- ---- the order of lines that may be exchanged
 
 pub mirrored_same : (o : Op) (k : Word → Cyclotomic) (x : Word) → OpFitsIn o (length x) → step (mirrored o) k x ≡ step o k x
-mirrored_same (X q) k x h = refl
-mirrored_same (Y q) k x h = refl
-mirrored_same (Z q) k x h = refl
-mirrored_same (H q) k x h = refl
-mirrored_same (S q) k x h = refl
-mirrored_same (Sdg q) k x h = refl
-mirrored_same (T q) k x h = refl
-mirrored_same (Tdg q) k x h = refl
-mirrored_same (Cx a b) k x h = refl
-mirrored_same (Cz a b) k x h = ap (λ (t : Bool). times_w_power (cond t 4 0) (k x)) (and_comm (bit x b) (bit x a))
-mirrored_same (Ccx a b c) k x h = ap (λ (t : Bool). times_w_power 0 (k (set x c (xor t (bit x c))))) (and_comm (bit x b) (bit x a))
-mirrored_same (Swap a b) k x h = ap (λ v. times_w_power 0 (k v)) (set_comm x b a (bit x a) (bit x b) (λ e. h.2 (sym e)))
-mirrored_same (Cswap c a b) k x h = ap (λ v. times_w_power 0 (k v)) (set_comm x b a _ _ (λ e. h.5 (sym e)))
+mirrored_same o k x h = grind (arith, times_w_power, and_comm, set_comm)
 
 pub inverse_fits : (o : Op) (n : ℕ) → OpFitsIn o n → OpFitsIn (inverse o) n
 inverse_fits (X q) n h = h
@@ -157,6 +134,4 @@ inverse_fits (Swap a b) n h = h
 inverse_fits (Cswap c a b) n h = h
 
 pub undoing : (p o : Op) (k : Word → Cyclotomic) (x : Word) → Undoes p o → OpFitsIn o (length x) → step p (λ v. step o k v) x ≡ doubled (twos o) (k x)
-undoing p o k x (inl e) h = ap (λ a. step a (λ v. step o k v) x) e ∙ undone o k x h
-undoing p o k x (inr e) h =
-    ap (λ a. step a (λ v. step o k v) x) e ∙ mirrored_same (inverse o) (λ v. step o k v) x (inverse_fits o (length x) h) ∙ undone o k x h
+undoing p o k x h h1 = grind (arith, undone, mirrored_same, inverse_fits)

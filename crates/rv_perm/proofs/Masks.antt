@@ -24,12 +24,7 @@ or_half x c =
 
 -- the halves of a number with all bits of the mask
 and_parts : (x c : ℕ) → bit_and x c ≡ c → (bit_and (x / 2) (c / 2) ≡ c / 2) × (c % 2 ≤ x % 2)
-and_parts x c e =
-    let h = and_half x c in
-    let l1 = and_le_r (x / 2) (c / 2) in
-    let l2 = and_le_r (x % 2) (c % 2) in
-    let l3 = and_le_l (x % 2) (c % 2) in
-    (omega arith, omega arith)
+and_parts x c e = grind (arith, and_half, and_le_r, and_le_l)
 
 -- a mask that the number has adds nothing
 pub or_same : (x c : ℕ) → bit_and x c ≡ c → bit_or x c ≡ x

@@ -3,7 +3,7 @@ use Rattle.std.proofs.Common.{◌≡◌, ℕ, zero, suc, ◌+◌, ◌*◌, ◌/�
 use Rattle.std.specs.List.{range_with_len}
 use Rattle.std.proofs.Math.Seq.{take-append_seam, drop-append-add}
 use Rattle.std.proofs.lemmas.Bool.Decides.{eqb_tells}
-use Rattle.std.proofs.lemmas.List.{append-nil, length-append, take_all}
+use Rattle.std.proofs.lemmas.List.{append-nil, length-append}
 use Rattle.rv_perm.specs.Text.{row_at, rows_of}
 
 -- a last row, where it has a number
@@ -32,10 +32,7 @@ rows_of-full row ns full =
     ∙ ap (λ rest. row ∷ rest) (map-range_later (row_at (row ++ ns)) (row_at ns) 0 ((length ns + 15) / 16) later)
 
 rows_of-last : (row : List ℕ) → length row < 16 → rows_of row ≡ last_row row
-rows_of-last [] h = refl
-rows_of-last (n ∷ ns) h =
-    let count : (length (n ∷ ns) + 15) / 16 ≡ 1 = omega arith in
-    ap (λ m. map (row_at (n ∷ ns)) (range_with_len 0 m)) count ∙ ap (λ row. row ∷ []) (take_all 16 (n ∷ ns) (omega arith))
+rows_of-last row h = grind arith
 
 -- what was begun, and the numbers after it, in rows
 rows_of-append : (row ns : List ℕ) → length row < 16 → rows_of (row ++ ns) ≡ rows_from row ns

@@ -1,12 +1,14 @@
 -- A label that was written is read back.
-use Rattle.std.proofs.Common.{◌≡◌, ℕ, ◌+◌, ◌-◌, ◌*◌, ◌/◌, ◌%◌, Bool, true, false, not, List, [], ◌∷◌, ◌++◌, nat_eq, nat_lt, Some, refl, sym, ap, ◌∙◌, inl, inr, arith, append_assoc, true≢false}
+use Rattle.std.proofs.Common.{◌≡◌, ℕ, ◌+◌, ◌-◌, ◌*◌, ◌/◌, ◌%◌, Bool, true, false, not, List, [], ◌∷◌, ◌++◌, nat_eq}
+use Rattle.std.proofs.Common.{nat_lt, Some, refl, sym, ap, ◌∙◌, inl, inr, arith, append_assoc, true≢false}
 use Rattle.std.specs.List.{flat_map, list_all}
 use Rattle.std.specs.Prelude.{Option}
 use Rattle.std.proofs.lemmas.Bool.{and_from, and_parts, cases_Bool, cases_lt, eqb-true, le-ltb, lt-ltb, not-true}
 use Rattle.std.proofs.lemmas.List.Folds.{list_all-append}
 use Rattle.std.proofs.Math.Nat.{div-add-mod, mul_comm}
 use Rattle.rv_gate.specs.Circuit.{IsLabel, is_label_byte}
-use Rattle.rv_picture.specs.Labels.{Begun, Escape, begun_by, bytes_of, digit, digits, escaped, is_printable, is_special, is_visible, label_of, shown_label, value_of, with_byte, written_label}
+use Rattle.rv_picture.specs.Labels.{Begun, Escape, begun_by, bytes_of, digit, digits, escaped, is_printable, is_special}
+use Rattle.rv_picture.specs.Labels.{is_visible, label_of, shown_label, value_of, with_byte, written_label}
 
 -- ---- the label that is shown
 

@@ -1,10 +1,13 @@
 -- The LaTeX that was written shows what was drawn.
-use Rattle.std.proofs.Common.{◌≡◌, ℕ, zero, suc, ◌+◌, ◌<◌, ◌≤◌, Bool, true, false, cond, not, ◌&&◌, List, [], ◌∷◌, ◌++◌, length, map, nat_eq, nat_lt, Some, None, refl, sym, ap, ◌∙◌, inl, inr, arith, append_assoc, true≢false, ne_eqb}
+use Rattle.std.proofs.Common.{◌≡◌, ℕ, zero, suc, ◌+◌, ◌<◌, ◌≤◌, Bool, true, false, cond, not, ◌&&◌, List, [], ◌∷◌, ◌++◌}
+use Rattle.std.proofs.Common.{length, map, nat_eq, nat_lt, Some, None, refl, sym, ap, ◌∙◌, inl, inr, arith}
+use Rattle.std.proofs.Common.{append_assoc, true≢false, ne_eqb}
 use Rattle.std.specs.Prelude.{Option, codes, slice_index_or}
 use Rattle.std.specs.Fork.{slice_chunk}
 use Rattle.std.specs.List.{flat_map, list_all, range_with_len}
 use Rattle.std.specs.Option.{option_map}
-use Rattle.std.proofs.lemmas.Bool.{and_from, and_parts, cases_Bool, cases_lt, eq-eqb, eqb-true, le-ltb, lt-ltb, not-true}
+use Rattle.std.proofs.lemmas.Bool.{and_from, and_parts, cases_Bool, cases_lt, eq-eqb, eqb-true, le-ltb, lt-ltb}
+use Rattle.std.proofs.lemmas.Bool.{not-true}
 use Rattle.std.proofs.lemmas.List.{length-map}
 use Rattle.std.proofs.lemmas.List.Folds.{list_all-append}
 use Rattle.std.proofs.lemmas.List.Elements.{All-get_or}
@@ -14,7 +17,8 @@ use Rattle.rv_gate.specs.declared.circuit.Mark.{Mark}
 use Rattle.rv_gate.specs.declared.circuit.Mark.TheVariants as marks
 use Rattle.rv_gate.proofs.Lists.{map_map}
 use Rattle.rv_draw.specs.declared.symbol.Symbol.{Symbol}
-use Rattle.rv_draw.specs.declared.symbol.Symbol.TheVariants.{Wire, Crossing, Positive, Negative, Target, Exchanged, Middle, Zero, One, Wall, H, T, Tdg, S, Sdg, Z, Y}
+use Rattle.rv_draw.specs.declared.symbol.Symbol.TheVariants.{Wire, Crossing, Positive, Negative, Target, Exchanged}
+use Rattle.rv_draw.specs.declared.symbol.Symbol.TheVariants.{Middle, Zero, One, Wall, H, T, Tdg, S, Sdg, Z, Y}
 use Rattle.rv_draw.specs.Drawing.{block_count, label_at}
 use Rattle.rv_draw.specs.Reading.{Picture, before, columns, each_of, joined_if, picture_on}
 use Rattle.rv_draw.proofs.ColumnsBack.{columns_back}
@@ -24,7 +28,12 @@ use Rattle.rv_draw.proofs.inside.SheetBack.{by_place, columns_of}
 use Rattle.rv_picture.specs.Cut.{after, cut, lines_in, text_of_lines, value_with}
 use Rattle.rv_picture.specs.Labels.{is_special, shown_label}
 use Rattle.rv_picture.specs.Markup.{latex_escapes}
-use Rattle.rv_picture.specs.Latex.{Cell, Line, all_joined, are_joined, begin_line, block_lines, cell_on, cell_text, cells, cells_and_end, cells_text, column_count, constants, empty_line, end_line, ended, environments, input_end, input_of, input_read, input_text, is_joined_on, is_on, latex_label, latex_shown_by, latex_with, line_of, line_of_cells, output_read, output_text, picture_of_lines, picture_with, pictures_of, row_text, with_cell, with_input, with_line}
+use Rattle.rv_picture.specs.Latex.{Cell, Line, all_joined, are_joined, begin_line, block_lines, cell_on, cell_text}
+use Rattle.rv_picture.specs.Latex.{cells, cells_and_end, cells_text, column_count, constants, empty_line, end_line}
+use Rattle.rv_picture.specs.Latex.{ended, environments, input_end, input_of, input_read, input_text, is_joined_on}
+use Rattle.rv_picture.specs.Latex.{is_on, latex_label, latex_shown_by, latex_with, line_of, line_of_cells, output_read}
+use Rattle.rv_picture.specs.Latex.{output_text, picture_of_lines, picture_with, pictures_of, row_text, with_cell}
+use Rattle.rv_picture.specs.Latex.{with_input, with_line}
 use Rattle.rv_picture.proofs.Cutting.{AreLines, cut_last, cut_part, lacks, lines_append, lines_back}
 use Rattle.rv_picture.proofs.LabelsBack.{AllText, AreBack, bytes_back, is_high, label_back, shown_high, written_all}
 

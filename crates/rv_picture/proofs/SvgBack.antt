@@ -1,5 +1,7 @@
 -- The SVG that was written shows what was drawn.
-use Rattle.std.proofs.Common.{◌≡◌, ◌≢◌, ℕ, zero, suc, ◌+◌, ◌-◌, ◌*◌, ◌/◌, ◌%◌, ◌^◌, ◌<◌, ◌≤◌, Bool, true, false, cond, not, ◌&&◌, List, [], ◌∷◌, ◌++◌, length, map, nat_eq, nat_lt, Some, None, refl, sym, ap, ◌∙◌, inl, inr, arith, append_assoc, true≢false, ne_eqb, eq-eqb}
+use Rattle.std.proofs.Common.{◌≡◌, ◌≢◌, ℕ, zero, suc, ◌+◌, ◌-◌, ◌*◌, ◌/◌, ◌%◌, ◌^◌, ◌<◌, ◌≤◌, Bool, true, false, cond}
+use Rattle.std.proofs.Common.{not, ◌&&◌, List, [], ◌∷◌, ◌++◌, length, map, nat_eq, nat_lt, Some, None, refl, sym, ap}
+use Rattle.std.proofs.Common.{◌∙◌, inl, inr, arith, append_assoc, true≢false, ne_eqb, eq-eqb}
 use Rattle.std.specs.Prelude.{Option, codes, decimal, slice_index_or}
 use Rattle.std.specs.Char.{digit_value, is_ascii_digit}
 use Rattle.std.specs.Fmt.{digit_glyph, digits, digits_onto}
@@ -8,7 +10,8 @@ use Rattle.std.specs.List.{flat_map, list_all, range_with_len}
 use Rattle.std.specs.Option.{option_map}
 use Rattle.std.specs.Str.{all_ascii_digits}
 use Rattle.std.specs.Str.Parse.{digits_value_after}
-use Rattle.std.proofs.lemmas.Bool.{and_from, and_parts, cases_Bool, cases_eq, cases_lt, eqb-true, le-ltb, lt-ltb, not-true}
+use Rattle.std.proofs.lemmas.Bool.{and_from, and_parts, cases_Bool, cases_eq, cases_lt, eqb-true, le-ltb, lt-ltb}
+use Rattle.std.proofs.lemmas.Bool.{not-true}
 use Rattle.std.proofs.lemmas.List.{append-nil, length-drop, length-map, length-take}
 use Rattle.std.proofs.lemmas.List.Elements.{All-get_or, All-head, All-tail}
 use Rattle.std.proofs.lemmas.List.FromFn.{length-map-range_with_len}
@@ -22,7 +25,8 @@ use Rattle.rv_gate.specs.declared.circuit.Mark.TheVariants as marks
 use Rattle.rv_gate.proofs.Bits.{and_false}
 use Rattle.rv_gate.proofs.Lists.{map_map}
 use Rattle.rv_draw.specs.declared.symbol.Symbol.{Symbol}
-use Rattle.rv_draw.specs.declared.symbol.Symbol.TheVariants.{Wire, Crossing, Positive, Negative, Target, Exchanged, Middle, Zero, One, Wall, H, T, Tdg, S, Sdg, Z, Y}
+use Rattle.rv_draw.specs.declared.symbol.Symbol.TheVariants.{Wire, Crossing, Positive, Negative, Target, Exchanged}
+use Rattle.rv_draw.specs.declared.symbol.Symbol.TheVariants.{Middle, Zero, One, Wall, H, T, Tdg, S, Sdg, Z, Y}
 use Rattle.rv_draw.specs.Drawing.{block_count, label_at}
 use Rattle.rv_draw.specs.Reading.{Picture, before, each_of, is_touched, joined, joined_if, picture_on}
 use Rattle.rv_draw.specs.Symbols.{glyph}
@@ -33,8 +37,15 @@ use Rattle.rv_picture.specs.Cut.{after, lines_in, text_of_lines}
 use Rattle.rv_picture.specs.Labels.{shown_label, written_label}
 use Rattle.rv_picture.specs.Latex.{is_joined_on, is_on}
 use Rattle.rv_picture.specs.Markup.{svg_escapes}
-use Rattle.rv_picture.specs.Svg.{Stroke, all_gate_lines, block_lines, block_of, body, break_at, breaks, close, column_count, gate_lines, head, input_body, input_end, line_lines, margin, mark_lines, mark_on, middle_of, name_in_title, output_body, output_end, picture_height, picture_width, placed, reach, size, svg_with, title, wire}
-use Rattle.rv_picture.specs.SvgReading.{At, Block, Numbered, Sheet, are_at, are_joined, at, bare, block_shown, blocks_shown, body_and, column_in, gate_in, input_of, is_placed, line_count, no_block, number_and, output_of, picture_with, placed_in, read_if, sheet_of, stroke, svg_shown_by, symbols_if, with_gate, with_input, with_line, with_output, with_placed, y_and}
+use Rattle.rv_picture.specs.Svg.{Stroke, all_gate_lines, block_lines, block_of, body, break_at, breaks, close}
+use Rattle.rv_picture.specs.Svg.{column_count, gate_lines, head, input_body, input_end, line_lines, margin, mark_lines}
+use Rattle.rv_picture.specs.Svg.{mark_on, middle_of, name_in_title, output_body, output_end, picture_height}
+use Rattle.rv_picture.specs.Svg.{picture_width, placed, reach, size, svg_with, title, wire}
+use Rattle.rv_picture.specs.SvgReading.{At, Block, Numbered, Sheet, are_at, are_joined, at, bare, block_shown}
+use Rattle.rv_picture.specs.SvgReading.{blocks_shown, body_and, column_in, gate_in, input_of, is_placed, line_count}
+use Rattle.rv_picture.specs.SvgReading.{no_block, number_and, output_of, picture_with, placed_in, read_if, sheet_of}
+use Rattle.rv_picture.specs.SvgReading.{stroke, svg_shown_by, symbols_if, with_gate, with_input, with_line, with_output}
+use Rattle.rv_picture.specs.SvgReading.{with_placed, y_and}
 use Rattle.rv_picture.proofs.LabelsBack.{AllText, AreBack, bytes_back, is_high, label_back, shown_high, written_all}
 use Rattle.rv_picture.proofs.Cutting.{AreLines, lacks, lines_append, lines_back}
 use Rattle.rv_picture.proofs.SvgTexts.{svg_text}

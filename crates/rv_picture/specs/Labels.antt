@@ -1,5 +1,6 @@
 -- How labels stand in a picture, and how they are read.
-use Rattle.std.specs.Prelude.{ℕ, ◌+◌, ◌-◌, ◌*◌, ◌/◌, ◌%◌, ◌==◌, ◌&&◌, Bool, true, false, not, List, [], ◌∷◌, ◌++◌, Option, Some, None, is_some, nat_lt, if◌then◌else◌}
+use Rattle.std.specs.Prelude.{ℕ, ◌+◌, ◌-◌, ◌*◌, ◌/◌, ◌%◌, ◌==◌, ◌&&◌, Bool, true, false, not, List, [], ◌∷◌, ◌++◌}
+use Rattle.std.specs.Prelude.{Option, Some, None, is_some, nat_lt, if◌then◌else◌}
 use Rattle.std.specs.List.{flat_map, list_all, list_any}
 use Rattle.std.specs.Str.{bytes_eq, is_utf8}
 
@@ -72,12 +73,14 @@ abbrev pub escape_and : Option ℕ → Option Begun → Option Begun
 escape_and None begun = None
 escape_and (Some byte) begun = with_byte byte begun
 
--- reads a label up to the first special byte that begins no escape, after bytes of an escape that was begun; an escape begins with `lead`
+-- reads a label up to the first special byte that begins no escape, after bytes of an escape that was begun; an escape
+-- begins with `lead`
 abbrev pub begun_by : List Escape → ℕ → List ℕ → List ℕ → Option Begun
 begun_by table lead held [] = None
 begun_by table lead [] (byte ∷ text) =
     if is_special table byte
-    then (if byte == lead then begun_by table lead (byte ∷ []) text else Some (record { label = []; rest = byte ∷ text }))
+    then (if byte == lead then begun_by table lead (byte ∷ []) text
+    else Some (record { label = []; rest = byte ∷ text }))
     else with_byte byte (begun_by table lead [] text)
 begun_by table lead (h ∷ held) (byte ∷ text) =
     if is_some (special_of table (h ∷ (held ++ byte ∷ [])))

@@ -1,5 +1,6 @@
 -- A picture in LaTeX: environments of the package quantikz, an array each, in which a row is a line.
-use Rattle.std.specs.Prelude.{ℕ, ◌+◌, Bool, true, false, not, List, [], ◌∷◌, ◌++◌, length, map, codes, Option, Some, None, slice_index_or, nat_lt, ◌==◌, ◌&&◌, if◌then◌else◌}
+use Rattle.std.specs.Prelude.{ℕ, ◌+◌, Bool, true, false, not, List, [], ◌∷◌, ◌++◌, length, map, codes, Option, Some}
+use Rattle.std.specs.Prelude.{None, slice_index_or, nat_lt, ◌==◌, ◌&&◌, if◌then◌else◌}
 use Rattle.std.specs.Fork.{slice_chunk}
 use Rattle.std.specs.List.{flat_map, list_all, range_with_len}
 use Rattle.std.specs.Option.{option_map}
@@ -9,7 +10,8 @@ use Rattle.rv_gate.specs.Circuit.{Cascade}
 use Rattle.rv_gate.specs.declared.circuit.Mark.{Mark}
 use Rattle.rv_gate.specs.declared.circuit.Mark.TheVariants as marks
 use Rattle.rv_draw.specs.declared.symbol.Symbol.{Symbol}
-use Rattle.rv_draw.specs.declared.symbol.Symbol.TheVariants.{Wire, Crossing, Positive, Negative, Target, Exchanged, Middle, Zero, One, Wall, H, T, Tdg, S, Sdg, Z, Y}
+use Rattle.rv_draw.specs.declared.symbol.Symbol.TheVariants.{Wire, Crossing, Positive, Negative, Target, Exchanged}
+use Rattle.rv_draw.specs.declared.symbol.Symbol.TheVariants.{Middle, Zero, One, Wall, H, T, Tdg, S, Sdg, Z, Y}
 use Rattle.rv_draw.specs.Drawing.{block_count, label_at}
 use Rattle.rv_draw.specs.Reading.{Picture, before, columns, each_of, joined_if}
 use Rattle.rv_picture.specs.Cut.{cut, lines_in, text_of_lines, value_with, after}
@@ -56,11 +58,13 @@ cell_text cell = (if cell.is_joined then joined_text cell.symbol else symbol_tex
 
 abbrev pub symbols : List Symbol
 symbols =
-    Wire ∷ Crossing ∷ Positive ∷ Negative ∷ Target ∷ Exchanged ∷ Middle ∷ Zero ∷ One ∷ Wall ∷ H ∷ T ∷ Tdg ∷ S ∷ Sdg ∷ Z ∷ Y ∷ []
+    Wire ∷ Crossing ∷ Positive ∷ Negative ∷ Target ∷ Exchanged ∷ Middle ∷ Zero ∷ One ∷ Wall ∷ H ∷ T ∷ Tdg ∷ S ∷ Sdg
+    ∷ Z ∷ Y ∷ []
 
 abbrev pub cells : List Cell
 cells =
-    map (λ s. record { symbol = s; is_joined = false }) symbols ++ map (λ s. record { symbol = s; is_joined = true }) symbols
+    map (λ s. record { symbol = s; is_joined = false }) symbols
+    ++ map (λ s. record { symbol = s; is_joined = true }) symbols
 
 -- ---- verticals
 
@@ -107,7 +111,8 @@ cells_text draws lines gates line = flat_map (λ gate. 38 ∷ cell_text (cell_on
 abbrev pub row_text : {G : Type 0} → (G → ℕ → Symbol) → Cascade → List G → ℕ → List ℕ
 row_text draws c gates line =
     input_text (label_at c.input_labels line) (slice_index_or c.constants line marks.Input)
-    ++ (cells_text draws (length c.names) gates line ++ 38 ∷ output_text (label_at c.output_labels line) (slice_index_or c.garbage line false))
+    ++ (cells_text draws (length c.names) gates line ++ 38
+    ∷ output_text (label_at c.output_labels line) (slice_index_or c.garbage line false))
 
 abbrev pub begin_line : List ℕ
 begin_line = codes "\\begin{quantikz}"
@@ -122,11 +127,14 @@ empty_line block = if block == 0 then [] else [] ∷ []
 -- a block: an environment with a row for each line
 abbrev pub block_lines : {G : Type 0} → (G → ℕ → Symbol) → ℕ → Cascade → List G → ℕ → List (List ℕ)
 block_lines draws per_block c gates block =
-    empty_line block ++ (begin_line ∷ (map (row_text draws c (slice_chunk gates per_block block)) (range_with_len 0 (length c.names)) ++ end_line ∷ []))
+    empty_line block ++ (begin_line
+    ∷ (map (row_text draws c (slice_chunk gates per_block block)) (range_with_len 0 (length c.names)) ++ end_line ∷ []))
 
 -- the LaTeX of such gates on a circuit's lines, with so many in a block at most
 unfoldable pub latex_with : {G : Type 0} → (G → ℕ → Symbol) → ℕ → Cascade → List G → List ℕ
-latex_with draws per_block c gates = text_of_lines (flat_map (block_lines draws per_block c gates) (range_with_len 0 (block_count per_block (length gates))))
+latex_with draws per_block c gates =
+    text_of_lines
+    (flat_map (block_lines draws per_block c gates) (range_with_len 0 (block_count per_block (length gates))))
 
 -- ---- what it denotes
 
@@ -163,7 +171,8 @@ output_after is_garbage None other = other
 output_after is_garbage (Some text) other = ended is_garbage (begun_by latex_escapes 92 [] text)
 
 abbrev pub output_read : List ℕ → Option Line
-output_read text = output_after false (after (wire_end false) text) (output_after true (after (wire_end true) text) None)
+output_read text =
+    output_after false (after (wire_end false) text) (output_after true (after (wire_end true) text) None)
 
 abbrev pub with_cell : Option Cell → Option Line → Option Line
 with_cell None line = None
@@ -192,7 +201,8 @@ line_of text = line_of_cells (cut 38 text)
 -- whether a vertical leads from one line to the next exactly where both have symbols on which it stands
 abbrev pub are_joined : List Cell → List Cell → Bool
 are_joined [] [] = true
-are_joined (cell ∷ row) (next ∷ below) = same cell.is_joined (is_on cell.symbol && is_on next.symbol) && are_joined row below
+are_joined (cell ∷ row) (next ∷ below) =
+    same cell.is_joined (is_on cell.symbol && is_on next.symbol) && are_joined row below
 are_joined row below = false
 
 abbrev pub all_joined : List Line → Bool
@@ -220,7 +230,8 @@ abbrev pub picture_of_lines : {G : Type 0} → (List Symbol → Option G) → Op
 picture_of_lines read None = None
 picture_of_lines read (Some lines) =
     if all_joined lines
-    then option_map (picture_with lines) (each_of read (columns (column_count lines) (map (λ line. map (λ cell. cell.symbol) line.cells) lines)))
+    then option_map (picture_with lines)
+    (each_of read (columns (column_count lines) (map (λ line. map (λ cell. cell.symbol) line.cells) lines)))
     else None
 
 abbrev pub with_line : List ℕ → List (List (List ℕ)) → List (List (List ℕ))
@@ -232,11 +243,14 @@ abbrev pub environments : Bool → List (List ℕ) → Option (List (List (List 
 environments false [] = Some []
 environments true [] = None
 environments false (line ∷ lines) =
-    if bytes_eq line [] then environments false lines else (if bytes_eq line begin_line then environments true lines else None)
+    if bytes_eq line [] then environments false lines else (if bytes_eq line begin_line
+    then environments true lines else None)
 environments true (line ∷ lines) =
-    if bytes_eq line end_line then option_map (λ blocks. [] ∷ blocks) (environments false lines) else option_map (with_line line) (environments true lines)
+    if bytes_eq line end_line then option_map (λ blocks. [] ∷ blocks) (environments false lines)
+    else option_map (with_line line) (environments true lines)
 
-abbrev pub pictures_of : {G : Type 0} → (List Symbol → Option G) → Option (List (List (List ℕ))) → Option (List (Picture G))
+abbrev pub pictures_of : {G : Type 0} → (List Symbol → Option G) → Option (List (List (List ℕ)))
+    → Option (List (Picture G))
 pictures_of read None = None
 pictures_of read (Some blocks) = each_of (λ block. picture_of_lines read (each_of line_of block)) blocks
 

@@ -9,13 +9,17 @@ escape byte text = record { byte = byte; text = text }
 
 abbrev pub latex_escapes : List Escape
 latex_escapes =
-    escape 32 (codes "\\ ") ∷ escape 34 (codes "\\symbol{34}") ∷ escape 35 (codes "\\#") ∷ escape 36 (codes "\\$") ∷ escape 37 (codes "\\%")
+    escape 32 (codes "\\ ") ∷ escape 34 (codes "\\symbol{34}") ∷ escape 35 (codes "\\#") ∷ escape 36 (codes "\\$")
+    ∷ escape 37 (codes "\\%")
     ∷ escape 38 (codes "\\symbol{38}") ∷ escape 60 (codes "\\textless{}") ∷ escape 62 (codes "\\textgreater{}")
     ∷ escape 92 (codes "\\textbackslash{}") ∷ escape 94 (codes "\\textasciicircum{}") ∷ escape 95 (codes "\\_")
-    ∷ escape 123 (codes "\\{") ∷ escape 124 (codes "\\textbar{}") ∷ escape 125 (codes "\\}") ∷ escape 126 (codes "\\textasciitilde{}") ∷ []
+    ∷ escape 123 (codes "\\{") ∷ escape 124 (codes "\\textbar{}") ∷ escape 125 (codes "\\}")
+    ∷ escape 126 (codes "\\textasciitilde{}") ∷ []
 
 abbrev pub svg_escapes : List Escape
-svg_escapes = escape 38 (codes "&amp;") ∷ escape 60 (codes "&lt;") ∷ escape 62 (codes "&gt;") ∷ escape 34 (codes "&quot;") ∷ escape 39 (codes "&#39;") ∷ []
+svg_escapes =
+    escape 38 (codes "&amp;") ∷ escape 60 (codes "&lt;") ∷ escape 62 (codes "&gt;") ∷ escape 34 (codes "&quot;")
+    ∷ escape 39 (codes "&#39;") ∷ []
 
 abbrev pub escapes : Markup → List Escape
 escapes Latex = latex_escapes

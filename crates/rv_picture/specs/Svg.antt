@@ -1,12 +1,15 @@
--- A picture in SVG: a group for each block, in it the labels and wires of its lines and a group for each gate, in that a group for each symbol.
-use Rattle.std.specs.Prelude.{ℕ, ◌+◌, ◌-◌, ◌*◌, ◌==◌, ◌&&◌, Bool, true, false, not, List, [], ◌∷◌, ◌++◌, codes, decimal, length, max, min, slice_index_or, if◌then◌else◌}
+-- A picture in SVG: a group for each block, in it the labels and wires of its lines and a group for each gate, in that
+-- a group for each symbol.
+use Rattle.std.specs.Prelude.{ℕ, ◌+◌, ◌-◌, ◌*◌, ◌==◌, ◌&&◌, Bool, true, false, not, List, [], ◌∷◌, ◌++◌, codes, decimal}
+use Rattle.std.specs.Prelude.{length, max, min, slice_index_or, if◌then◌else◌}
 use Rattle.std.specs.Fork.{slice_chunk}
 use Rattle.std.specs.List.{count_by, flat_map, range_with_len}
 use Rattle.rv_gate.specs.Circuit.{Cascade}
 use Rattle.rv_gate.specs.declared.circuit.Mark.{Mark}
 use Rattle.rv_gate.specs.declared.circuit.Mark.TheVariants as marks
 use Rattle.rv_draw.specs.declared.symbol.Symbol.{Symbol}
-use Rattle.rv_draw.specs.declared.symbol.Symbol.TheVariants.{Wire, Crossing, Positive, Negative, Target, Exchanged, Middle, Zero, One, Wall, H, T, Tdg, S, Sdg, Z, Y}
+use Rattle.rv_draw.specs.declared.symbol.Symbol.TheVariants.{Wire, Crossing, Positive, Negative, Target, Exchanged}
+use Rattle.rv_draw.specs.declared.symbol.Symbol.TheVariants.{Middle, Zero, One, Wall, H, T, Tdg, S, Sdg, Z, Y}
 use Rattle.rv_draw.specs.Drawing.{begins_character, block_count, label_at}
 use Rattle.rv_draw.specs.Reading.{is_touched}
 use Rattle.rv_draw.specs.Symbols.{glyph}
@@ -56,7 +59,8 @@ reach_text Y = codes "11"
 reach_text other = codes "0"
 
 abbrev pub box : List ℕ → List ℕ
-box name = codes "<rect x=\"-11\" y=\"-11\" width=\"22\" height=\"22\"/><text y=\"5\" text-anchor=\"middle\" fill=\"currentColor\" stroke=\"none\">" ++ (name ++ codes "</text>")
+box name =
+    codes "<rect x=\"-11\" y=\"-11\" width=\"22\" height=\"22\"/><text y=\"5\" text-anchor=\"middle\" fill=\"currentColor\" stroke=\"none\">" ++ (name ++ codes "</text>")
 
 abbrev pub shape : Symbol → List ℕ
 shape Wire = []
@@ -116,17 +120,20 @@ name_in_title f names line =
     else []
 
 abbrev pub title : (ℕ → Symbol) → List (List ℕ) → List ℕ
-title f names = codes "<title>" ++ (flat_map (name_in_title f names) (range_with_len 0 (length names)) ++ codes "</title>")
+title f names =
+    codes "<title>" ++ (flat_map (name_in_title f names) (range_with_len 0 (length names)) ++ codes "</title>")
 
 -- the group of the gate at a place of a block
 abbrev pub gate_lines : (ℕ → Symbol) → List (List ℕ) → ℕ → List (List ℕ)
 gate_lines f names place =
-    placed (middle_of place) 0 (title f names) ∷ (flat_map (mark_lines f (length names)) (range_with_len 0 (length names)) ++ close ∷ [])
+    placed (middle_of place) 0 (title f names)
+    ∷ (flat_map (mark_lines f (length names)) (range_with_len 0 (length names)) ++ close ∷ [])
 
 -- the groups of gates from a place on
 abbrev pub all_gate_lines : {G : Type 0} → (G → ℕ → Symbol) → List (List ℕ) → ℕ → List G → List (List ℕ)
 all_gate_lines draws names place [] = []
-all_gate_lines draws names place (gate ∷ gates) = gate_lines (draws gate) names place ++ all_gate_lines draws names (place + 1) gates
+all_gate_lines draws names place (gate ∷ gates) =
+    gate_lines (draws gate) names place ++ all_gate_lines draws names (place + 1) gates
 
 -- ---- lines
 
@@ -141,7 +148,8 @@ input_end marks.One = codes "<tspan> |1" ++ (226 ∷ 159 ∷ 169 ∷ codes "</ts
 
 abbrev pub input_body : List ℕ → Mark → List ℕ
 input_body label mark =
-    codes "<text x=\"-8\" y=\"4\" text-anchor=\"end\" fill=\"currentColor\" stroke=\"none\">" ++ (label_text label ++ input_end mark)
+    codes "<text x=\"-8\" y=\"4\" text-anchor=\"end\" fill=\"currentColor\" stroke=\"none\">" ++ (label_text label
+    ++ input_end mark)
 
 -- what stands after the label of an output: a bar at the wire's end where it is garbage
 abbrev pub output_end : Bool → List ℕ
@@ -149,25 +157,31 @@ output_end true = codes "</text><line y1=\"-6\" y2=\"6\"/></g>"
 output_end false = codes "</text></g>"
 
 abbrev pub output_body : List ℕ → Bool → List ℕ
-output_body label is_garbage = codes "<text x=\"8\" y=\"4\" fill=\"currentColor\" stroke=\"none\">" ++ (label_text label ++ output_end is_garbage)
+output_body label is_garbage =
+    codes "<text x=\"8\" y=\"4\" fill=\"currentColor\" stroke=\"none\">" ++ (label_text label ++ output_end is_garbage)
 
 -- a wire is not drawn under a symbol that the lines to it don't reach
 abbrev pub break_at : Symbol → ℕ → ℕ → List ℕ
 break_at symbol x y =
-    if reach symbol == 0 then [] else 72 ∷ (decimal (x - reach symbol) ++ (77 ∷ (decimal (x + reach symbol) ++ (32 ∷ decimal y))))
+    if reach symbol == 0 then [] else 72 ∷ (decimal (x - reach symbol) ++ (77 ∷ (decimal (x + reach symbol) ++ (32
+    ∷ decimal y))))
 
 abbrev pub breaks : {G : Type 0} → (G → ℕ → Symbol) → ℕ → ℕ → List G → List ℕ
 breaks draws line place [] = []
-breaks draws line place (gate ∷ gates) = break_at (draws gate line) (middle_of place) (middle_of line) ++ breaks draws line (place + 1) gates
+breaks draws line place (gate ∷ gates) =
+    break_at (draws gate line) (middle_of place) (middle_of line) ++ breaks draws line (place + 1) gates
 
 abbrev pub wire : {G : Type 0} → (G → ℕ → Symbol) → ℕ → List G → List ℕ
-wire draws line gates = codes "<path d=\"M0 " ++ (decimal (middle_of line) ++ (breaks draws line 0 gates ++ (72 ∷ (decimal (30 * length gates) ++ codes "\"/>"))))
+wire draws line gates =
+    codes "<path d=\"M0 " ++ (decimal (middle_of line) ++ (breaks draws line 0 gates ++ (72
+    ∷ (decimal (30 * length gates) ++ codes "\"/>"))))
 
 abbrev pub line_lines : {G : Type 0} → (G → ℕ → Symbol) → Cascade → List G → ℕ → List (List ℕ)
 line_lines draws c gates line =
     placed 0 (middle_of line) (input_body (label_at c.input_labels line) (slice_index_or c.constants line marks.Input))
     ∷ wire draws line gates
-    ∷ placed (30 * length gates) (middle_of line) (output_body (label_at c.output_labels line) (slice_index_or c.garbage line false))
+    ∷ placed (30 * length gates) (middle_of line) (output_body (label_at c.output_labels line)
+    (slice_index_or c.garbage line false))
     ∷ []
 
 -- ---- the text
@@ -176,7 +190,8 @@ line_lines draws c gates line =
 abbrev pub block_of : {G : Type 0} → (G → ℕ → Symbol) → Cascade → ℕ → List G → List (List ℕ)
 block_of draws c block gates =
     placed 0 (30 * (length c.names + 1) * block) []
-    ∷ (flat_map (line_lines draws c gates) (range_with_len 0 (length c.names)) ++ (all_gate_lines draws c.names 0 gates ++ close ∷ []))
+    ∷ (flat_map (line_lines draws c gates) (range_with_len 0 (length c.names))
+    ++ (all_gate_lines draws c.names 0 gates ++ close ∷ []))
 
 abbrev pub block_lines : {G : Type 0} → (G → ℕ → Symbol) → ℕ → Cascade → List G → ℕ → List (List ℕ)
 block_lines draws per_block c gates block = block_of draws c block (slice_chunk gates per_block block)
@@ -202,7 +217,8 @@ picture_height c blocks = 30 * (length c.names + 1) * blocks
 
 abbrev pub size : ℕ → ℕ → List ℕ
 size wide high =
-    decimal wide ++ (32 ∷ (decimal high ++ (codes "\" width=\"" ++ (decimal wide ++ (codes "\" height=\"" ++ (decimal high ++ 34 ∷ []))))))
+    decimal wide ++ (32 ∷ (decimal high ++ (codes "\" width=\"" ++ (decimal wide ++ (codes "\" height=\""
+    ++ (decimal high ++ 34 ∷ []))))))
 
 abbrev pub head : Cascade → ℕ → ℕ → List ℕ
 head c columns blocks =
@@ -219,5 +235,6 @@ unfoldable pub svg_with : {G : Type 0} → (G → ℕ → Symbol) → ℕ → Ca
 svg_with draws per_block c gates =
     text_of_lines (
     head c (column_count per_block (length gates)) (block_count per_block (length gates))
-    ∷ (flat_map (block_lines draws per_block c gates) (range_with_len 0 (block_count per_block (length gates))) ++ codes "</svg>" ∷ [])
+    ∷ (flat_map (block_lines draws per_block c gates) (range_with_len 0 (block_count per_block (length gates)))
+    ++ codes "</svg>" ∷ [])
     )

@@ -1,5 +1,6 @@
 -- What an SVG denotes: its symbols and labels, read by their places.
-use Rattle.std.specs.Prelude.{ℕ, zero, suc, ◌+◌, ◌*◌, ◌==◌, ◌&&◌, ◌||◌, Bool, true, false, not, List, [], ◌∷◌, ◌++◌, codes, length, map, Option, Some, None, is_some, if◌then◌else◌}
+use Rattle.std.specs.Prelude.{ℕ, zero, suc, ◌+◌, ◌*◌, ◌==◌, ◌&&◌, ◌||◌, Bool, true, false, not, List, [], ◌∷◌, ◌++◌}
+use Rattle.std.specs.Prelude.{codes, length, map, Option, Some, None, is_some, if◌then◌else◌}
 use Rattle.std.specs.Char.{digit_value, is_ascii_digit}
 use Rattle.std.specs.List.{flat_map}
 use Rattle.std.specs.Option.{option_map}
@@ -25,7 +26,8 @@ pub record Numbered : Type 0 where
 -- after digits of this value
 abbrev pub number_and : ℕ → List ℕ → Numbered
 number_and n [] = record { number = n; rest = [] }
-number_and n (c ∷ text) = if is_ascii_digit c then number_and (n * 10 + digit_value c) text else record { number = n; rest = c ∷ text }
+number_and n (c ∷ text) =
+    if is_ascii_digit c then number_and (n * 10 + digit_value c) text else record { number = n; rest = c ∷ text }
 
 -- something at a place
 pub record At (X : Type 0) : Type 0 where
@@ -76,7 +78,8 @@ abbrev pub stroke : Symbol → Bool → Bool → Stroke
 stroke symbol from_above is_joined = record { symbol = symbol; from_above = from_above; is_joined = is_joined }
 
 abbrev pub strokes : List Stroke
-strokes = flat_map (λ s. stroke s false false ∷ stroke s true false ∷ stroke s false true ∷ stroke s true true ∷ []) symbols
+strokes =
+    flat_map (λ s. stroke s false false ∷ stroke s true false ∷ stroke s false true ∷ stroke s true true ∷ []) symbols
 
 -- a label with its constant, and one with its garbage
 abbrev pub input_of : Option Begun → Option (List ℕ × Mark)
@@ -85,7 +88,8 @@ input_of (Some begun) = option_map (λ mark. (label_of begun.label, mark)) (valu
 
 abbrev pub output_of : Option Begun → Option (List ℕ × Bool)
 output_of None = None
-output_of (Some begun) = option_map (λ g. (label_of begun.label, g)) (value_with output_end (true ∷ false ∷ []) begun.rest)
+output_of (Some begun) =
+    option_map (λ g. (label_of begun.label, g)) (value_with output_end (true ∷ false ∷ []) begun.rest)
 
 abbrev pub title_start : List ℕ
 title_start = codes "<title>"
@@ -102,15 +106,18 @@ with_stroke x y (Some s) sheet = Some (record sheet { strokes = at x y s ∷ she
 
 abbrev pub with_output : ℕ → ℕ → Option (List ℕ × Bool) → Sheet → Option Sheet
 with_output x y None sheet = None
-with_output x y (Some output) sheet = Some (record sheet { block = record sheet.block { outputs = at x y output ∷ sheet.block.outputs } })
+with_output x y (Some output) sheet =
+    Some (record sheet { block = record sheet.block { outputs = at x y output ∷ sheet.block.outputs } })
 
 abbrev pub with_input : ℕ → ℕ → Option (List ℕ × Mark) → Sheet → Option Sheet
 with_input x y None sheet = None
-with_input x y (Some input) sheet = Some (record sheet { block = record sheet.block { inputs = at x y input ∷ sheet.block.inputs } })
+with_input x y (Some input) sheet =
+    Some (record sheet { block = record sheet.block { inputs = at x y input ∷ sheet.block.inputs } })
 
 -- a gate begins, with the strokes after it
 abbrev pub with_gate : ℕ → ℕ → Sheet → Sheet
-with_gate x y sheet = record sheet { strokes = []; block = record sheet.block { gates = at x y sheet.strokes ∷ sheet.block.gates } }
+with_gate x y sheet =
+    record sheet { strokes = []; block = record sheet.block { gates = at x y sheet.strokes ∷ sheet.block.gates } }
 
 -- a block begins, with the labels and gates after it
 abbrev pub with_block : ℕ → ℕ → Sheet → Sheet
@@ -161,13 +168,15 @@ column_in zero line [] = Some []
 column_in zero line (s ∷ rest) = None
 column_in (suc n) line [] = before (Some bare) (column_in n (line + 1) [])
 column_in (suc n) line (s ∷ rest) =
-    if s.x == 0 && s.y == middle_of line then before (Some s.what) (column_in n (line + 1) rest) else before (Some bare) (column_in n (line + 1) (s ∷ rest))
+    if s.x == 0 && s.y == middle_of line then before (Some s.what) (column_in n (line + 1) rest)
+    else before (Some bare) (column_in n (line + 1) (s ∷ rest))
 
 -- a vertical leads from one line to the next exactly where both have symbols on which it stands
 abbrev pub are_joined : Bool → List Stroke → Bool
 are_joined from [] = not from
 are_joined from (s ∷ []) = same s.from_above from && not s.is_joined
-are_joined from (s ∷ t ∷ rest) = same s.from_above from && (same s.is_joined (is_on s.symbol && is_on t.symbol) && are_joined s.is_joined (t ∷ rest))
+are_joined from (s ∷ t ∷ rest) =
+    same s.from_above from && (same s.is_joined (is_on s.symbol && is_on t.symbol) && are_joined s.is_joined (t ∷ rest))
 
 abbrev pub symbols_if : Option (List Stroke) → Option (List Symbol)
 symbols_if None = None
@@ -198,7 +207,8 @@ is_placed block =
 
 abbrev pub block_shown : {G : Type 0} → (List Symbol → Option G) → Block → Option (Picture G)
 block_shown read block =
-    if is_placed block then option_map (picture_with block) (each_of (gate_in read (length block.inputs)) block.gates) else None
+    if is_placed block
+    then option_map (picture_with block) (each_of (gate_in read (length block.inputs)) block.gates) else None
 
 -- how many lines there are
 abbrev pub line_count : List (At Block) → ℕ
@@ -208,7 +218,8 @@ line_count (block ∷ rest) = length block.what.inputs
 abbrev pub blocks_shown : {G : Type 0} → (List Symbol → Option G) → Option Sheet → Option (List (Picture G))
 blocks_shown read None = None
 blocks_shown read (Some sheet) =
-    if are_at (λ k. 0) (λ k. 30 * (line_count sheet.blocks + 1) * k) 0 sheet.blocks then each_of (λ block. block_shown read block.what) sheet.blocks else None
+    if are_at (λ k. 0) (λ k. 30 * (line_count sheet.blocks + 1) * k) 0 sheet.blocks
+    then each_of (λ block. block_shown read block.what) sheet.blocks else None
 
 -- what a text shows, if it is the SVG of gates that are read so
 unfoldable pub svg_shown_by : {G : Type 0} → (List Symbol → Option G) → List ℕ → Option (Picture G)

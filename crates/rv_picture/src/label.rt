@@ -17,7 +17,8 @@ pub(crate) enum Markup {
 
 // What is written for a byte that has another meaning.
 fn latex_escape(byte: u8) -> Option<&'static [u8]>
-    ensures { MatchOption result (escaped (escapes Markup.Latex) byte ≡ byte ∷ []) (λ text. text.now ≡ escaped (escapes Markup.Latex) byte) }
+    ensures { MatchOption result (escaped (escapes Markup.Latex) byte ≡ byte ∷ [])
+        (λ text. text.now ≡ escaped (escapes Markup.Latex) byte) }
 {
     if byte == b' ' {
         Some(b"\\ ")
@@ -55,7 +56,8 @@ fn latex_escape(byte: u8) -> Option<&'static [u8]>
 }
 
 fn svg_escape(byte: u8) -> Option<&'static [u8]>
-    ensures { MatchOption result (escaped (escapes Markup.Svg) byte ≡ byte ∷ []) (λ text. text.now ≡ escaped (escapes Markup.Svg) byte) }
+    ensures { MatchOption result (escaped (escapes Markup.Svg) byte ≡ byte ∷ [])
+        (λ text. text.now ≡ escaped (escapes Markup.Svg) byte) }
 {
     if byte == b'&' {
         Some(b"&amp;")
@@ -73,7 +75,8 @@ fn svg_escape(byte: u8) -> Option<&'static [u8]>
 }
 
 fn escape(markup: Markup, byte: u8) -> Option<&'static [u8]>
-    ensures { MatchOption result (escaped (escapes markup) byte ≡ byte ∷ []) (λ text. text.now ≡ escaped (escapes markup) byte) }
+    ensures { MatchOption result (escaped (escapes markup) byte ≡ byte ∷ [])
+        (λ text. text.now ≡ escaped (escapes markup) byte) }
 {
     match markup {
         Markup::Latex => latex_escape(byte),
@@ -93,7 +96,9 @@ fn put_byte<O: Sink>(writer: &mut Writer, sink: &mut O, markup: Markup, byte: u8
 
 /// Adds a label to the text.
 pub(crate) fn put_label<O: Sink>(writer: &mut Writer, sink: &mut O, markup: Markup, label: &[u8])
-    ensures { Adds writer.old (O.view sink.old) (written_label (escapes markup) label.now) writer.new (O.view sink.new) }
+    ensures { Adds writer.old (O.view sink.old)
+        (written_label (escapes markup) label.now)
+        writer.new (O.view sink.new) }
 {
     if is_printable(label) {
         put_bytes(writer, sink, markup, label);
@@ -105,7 +110,9 @@ pub(crate) fn put_label<O: Sink>(writer: &mut Writer, sink: &mut O, markup: Mark
 }
 
 fn put_bytes<O: Sink>(writer: &mut Writer, sink: &mut O, markup: Markup, bytes: &[u8])
-    ensures { Adds writer.old (O.view sink.old) (flat_map (escaped (escapes markup)) bytes.now) writer.new (O.view sink.new) }
+    ensures { Adds writer.old (O.view sink.old)
+        (flat_map (escaped (escapes markup)) bytes.now)
+        writer.new (O.view sink.new) }
 {
     for byte in bytes {
         put_byte(writer, sink, markup, *byte);
@@ -114,7 +121,9 @@ fn put_bytes<O: Sink>(writer: &mut Writer, sink: &mut O, markup: Markup, bytes: 
 
 // Two digits for each byte.
 fn put_digits<O: Sink>(writer: &mut Writer, sink: &mut O, markup: Markup, bytes: &[u8])
-    ensures { Adds writer.old (O.view sink.old) (flat_map (escaped (escapes markup)) (flat_map digits bytes.now)) writer.new (O.view sink.new) }
+    ensures { Adds writer.old (O.view sink.old)
+        (flat_map (escaped (escapes markup)) (flat_map digits bytes.now))
+        writer.new (O.view sink.new) }
 {
     for byte in bytes {
         put_two(writer, sink, markup, *byte);
@@ -122,7 +131,9 @@ fn put_digits<O: Sink>(writer: &mut Writer, sink: &mut O, markup: Markup, bytes:
 }
 
 fn put_two<O: Sink>(writer: &mut Writer, sink: &mut O, markup: Markup, byte: u8)
-    ensures { Adds writer.old (O.view sink.old) (flat_map (escaped (escapes markup)) (digits byte)) writer.new (O.view sink.new) }
+    ensures { Adds writer.old (O.view sink.old)
+        (flat_map (escaped (escapes markup)) (digits byte))
+        writer.new (O.view sink.new) }
 {
     put_byte(writer, sink, markup, digit(byte / 16));
     put_byte(writer, sink, markup, digit(byte % 16));

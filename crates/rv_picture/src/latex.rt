@@ -9,7 +9,9 @@ ghost use Rattle.rv_draw.specs.Networks.{network_picture, op_of};
 ghost use Rattle.rv_draw.specs.Reading.{gate_of, picture_of};
 ghost use Rattle.rv_draw.specs.Symbols.{op_symbol_on, symbol_on};
 ghost use Rattle.rv_picture.specs.Cut.{text_of_lines};
-ghost use Rattle.rv_picture.specs.Latex.{block_lines, cell_on, cell_text, cells_text, empty_line, input_end, input_text, is_joined_on, is_on, joined_text, latex_shown_by, latex_with, output_text, row_text, symbol_text, wire_end};
+ghost use Rattle.rv_picture.specs.Latex.{block_lines, cell_on, cell_text, cells_text, empty_line, input_end};
+ghost use Rattle.rv_picture.specs.Latex.{input_text, is_joined_on, is_on, joined_text, latex_shown_by, latex_with};
+ghost use Rattle.rv_picture.specs.Latex.{output_text, row_text, symbol_text, wire_end};
 
 use crate::label::{Markup, put_label};
 use rv_draw::{Drawn, Symbol, block_count, gates_of_block};
@@ -26,7 +28,9 @@ pub fn latex_circuit<O: Sink>(
     sink: &mut O,
 ) -> Result<(), WriteFault>
     requires some { 1 ≤ per_block }
-    ensures sends { Sends (O.view sink.old) (latex_with symbol_on per_block circuit.now circuit.now.gates) result (O.view sink.new) }
+    ensures sends { Sends (O.view sink.old)
+        (latex_with symbol_on per_block circuit.now circuit.now.gates)
+        result (O.view sink.new) }
 
     // What was sent shows the circuit.
     ensures back { latex_shown_by gate_of (latex_with symbol_on per_block circuit.now circuit.now.gates)
@@ -44,7 +48,9 @@ pub fn latex_network<O: Sink>(
     sink: &mut O,
 ) -> Result<(), WriteFault>
     requires some { 1 ≤ per_block }
-    ensures sends { Sends (O.view sink.old) (latex_with op_symbol_on per_block lines.now net.now.ops) result (O.view sink.new) }
+    ensures sends { Sends (O.view sink.old)
+        (latex_with op_symbol_on per_block lines.now net.now.ops)
+        result (O.view sink.new) }
 
     // What was sent shows the network, if it has as many lines.
     ensures back { length lines.now.names ≡ net.now.lines
@@ -79,7 +85,10 @@ fn put_blocks<O: Sink, G: Drawn>(
     per_block: usize,
 )
     requires { 1 ≤ per_block }
-    ensures { Adds writer.old (O.view sink.old) (text_of_lines (flat_map (block_lines G.draws per_block lines.now gates.now) (range_with_len 0 (block_count per_block (length gates.now))))) writer.new (O.view sink.new) }
+    ensures { Adds writer.old (O.view sink.old)
+        (text_of_lines (flat_map (block_lines G.draws per_block lines.now gates.now)
+        (range_with_len 0 (block_count per_block (length gates.now)))))
+        writer.new (O.view sink.new) }
 {
     for block in 0..block_count(per_block, gates.len()) {
         put_block(writer, sink, lines, gates, per_block, block);
@@ -96,7 +105,9 @@ fn put_block<O: Sink, G: Drawn>(
     block: usize,
 )
     requires { block * per_block ≤ length gates.now }
-    ensures { Adds writer.old (O.view sink.old) (text_of_lines (block_lines G.draws per_block lines.now gates.now block)) writer.new (O.view sink.new) }
+    ensures { Adds writer.old (O.view sink.old)
+        (text_of_lines (block_lines G.draws per_block lines.now gates.now block))
+        writer.new (O.view sink.new) }
 {
     put_gap(writer, sink, block);
     writer.put(sink, b"\\begin{quantikz}\n");
@@ -116,7 +127,9 @@ fn put_gap<O: Sink>(writer: &mut Writer, sink: &mut O, block: usize)
 
 // A row for each line.
 fn put_rows<O: Sink, G: Drawn>(writer: &mut Writer, sink: &mut O, lines: &Circuit, gates: &[G])
-    ensures { Adds writer.old (O.view sink.old) (text_of_lines (map (row_text G.draws lines.now gates.now) (range_with_len 0 (length lines.now.names)))) writer.new (O.view sink.new) }
+    ensures { Adds writer.old (O.view sink.old)
+        (text_of_lines (map (row_text G.draws lines.now gates.now) (range_with_len 0 (length lines.now.names))))
+        writer.new (O.view sink.new) }
 {
     for line in 0..lines.line_count() {
         put_row(writer, sink, lines, gates, line);
@@ -132,7 +145,9 @@ fn put_row<O: Sink, G: Drawn>(
     line: u8,
 )
     requires { line < length lines.now.names }
-    ensures { Adds writer.old (O.view sink.old) (text_of_lines (row_text G.draws lines.now gates.now line ∷ [])) writer.new (O.view sink.new) }
+    ensures { Adds writer.old (O.view sink.old)
+        (text_of_lines (row_text G.draws lines.now gates.now line ∷ []))
+        writer.new (O.view sink.new) }
 {
     let count = lines.line_count();
     put_input(writer, sink, lines.input_label(line), lines.constant(line));
@@ -194,7 +209,9 @@ fn put_cells<O: Sink, G: Drawn>(writer: &mut Writer, sink: &mut O, gates: &[G], 
 fn put_cell<O: Sink, G: Drawn>(writer: &mut Writer, sink: &mut O, gate: G, lines: u8, line: u8)
     requires line { line < lines }
     requires few { lines ≤ MOST_LINES }
-    ensures { Adds writer.old (O.view sink.old) (38 ∷ cell_text (cell_on (G.draws gate) lines line)) writer.new (O.view sink.new) }
+    ensures { Adds writer.old (O.view sink.old)
+        (38 ∷ cell_text (cell_on (G.draws gate) lines line))
+        writer.new (O.view sink.new) }
 {
     writer.put(sink, b"&");
     let symbol = gate.symbol_on(line);

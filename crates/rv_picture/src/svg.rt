@@ -1,4 +1,5 @@
-ghost use Rattle.std.specs.Prelude.{◌≡◌, ◌*◌, ◌+◌, ◌<◌, ◌≤◌, ◌^◌, [], ◌∷◌, ◌++◌, Bool, List, Some, decimal, length, map, max};
+ghost use Rattle.std.specs.Prelude.{◌≡◌, ◌*◌, ◌+◌, ◌<◌, ◌≤◌, ◌^◌, [], ◌∷◌, ◌++◌, Bool, List, Some, decimal, length};
+ghost use Rattle.std.specs.Prelude.{map, max};
 ghost use Rattle.std.specs.List.{count_by, flat_map, range_with_len};
 ghost use Rattle.rv_io.specs.Sink.{Sends};
 ghost use Rattle.rv_io.specs.Writer.{Adds};
@@ -10,7 +11,10 @@ ghost use Rattle.rv_draw.specs.Symbols.{op_symbol_on, symbol_on};
 ghost use Rattle.rv_picture.specs.Cut.{text_of_lines};
 ghost use Rattle.rv_picture.specs.Latex.{is_on};
 ghost use Rattle.rv_picture.specs.SvgReading.{svg_shown_by};
-ghost use Rattle.rv_picture.specs.Svg.{all_gate_lines, block_lines, body, break_at, breaks, gate_lines, head, input_body, input_end, down_if, line_lines, margin, mark_lines, mark_on, middle_of, name_in_title, output_body, output_end, placed, reach, reach_text, shape, size, svg_with, title, up_if, widest, width, wire};
+ghost use Rattle.rv_picture.specs.Svg.{all_gate_lines, block_lines, body, break_at, breaks, gate_lines, head};
+ghost use Rattle.rv_picture.specs.Svg.{input_body, input_end, down_if, line_lines, margin, mark_lines, mark_on};
+ghost use Rattle.rv_picture.specs.Svg.{middle_of, name_in_title, output_body, output_end, placed, reach, reach_text};
+ghost use Rattle.rv_picture.specs.Svg.{shape, size, svg_with, title, up_if, widest, width, wire};
 
 use crate::label::{Markup, is_printable, put_label};
 use crate::latex::{is_joined, is_on};
@@ -28,7 +32,9 @@ pub fn svg_circuit<O: Sink>(
     sink: &mut O,
 ) -> Result<(), WriteFault>
     requires some { 1 ≤ per_block }
-    ensures sends { Sends (O.view sink.old) (svg_with symbol_on per_block circuit.now circuit.now.gates) result (O.view sink.new) }
+    ensures sends { Sends (O.view sink.old)
+        (svg_with symbol_on per_block circuit.now circuit.now.gates)
+        result (O.view sink.new) }
 
     // What was sent shows the circuit.
     ensures back { svg_shown_by gate_of (svg_with symbol_on per_block circuit.now circuit.now.gates)
@@ -46,7 +52,9 @@ pub fn svg_network<O: Sink>(
     sink: &mut O,
 ) -> Result<(), WriteFault>
     requires some { 1 ≤ per_block }
-    ensures sends { Sends (O.view sink.old) (svg_with op_symbol_on per_block lines.now net.now.ops) result (O.view sink.new) }
+    ensures sends { Sends (O.view sink.old)
+        (svg_with op_symbol_on per_block lines.now net.now.ops)
+        result (O.view sink.new) }
 
     // What was sent shows the network, if it has as many lines.
     ensures back { length lines.now.names ≡ net.now.lines
@@ -84,7 +92,9 @@ fn put_head<O: Sink>(
     columns: usize,
     blocks: usize,
 )
-    ensures { Adds writer.old (O.view sink.old) (text_of_lines (head lines.now columns blocks ∷ [])) writer.new (O.view sink.new) }
+    ensures { Adds writer.old (O.view sink.old)
+        (text_of_lines (head lines.now columns blocks ∷ []))
+        writer.new (O.view sink.new) }
 {
     let margin = margin(lines);
     let width = 2 * margin + 30 * columns as u128;
@@ -182,7 +192,9 @@ fn put_blocks<O: Sink, G: Drawn>(
 )
     requires some { 1 ≤ per_block }
     requires blocks { blocks ≡ block_count per_block (length gates.now) }
-    ensures { Adds writer.old (O.view sink.old) (text_of_lines (flat_map (block_lines G.draws per_block lines.now gates.now) (range_with_len 0 blocks))) writer.new (O.view sink.new) }
+    ensures { Adds writer.old (O.view sink.old)
+        (text_of_lines (flat_map (block_lines G.draws per_block lines.now gates.now) (range_with_len 0 blocks)))
+        writer.new (O.view sink.new) }
 {
     for block in 0..blocks {
         put_block(writer, sink, lines, gates, per_block, block);
@@ -199,7 +211,9 @@ fn put_block<O: Sink, G: Drawn>(
     block: usize,
 )
     requires { block * per_block ≤ length gates.now }
-    ensures { Adds writer.old (O.view sink.old) (text_of_lines (block_lines G.draws per_block lines.now gates.now block)) writer.new (O.view sink.new) }
+    ensures { Adds writer.old (O.view sink.old)
+        (text_of_lines (block_lines G.draws per_block lines.now gates.now block))
+        writer.new (O.view sink.new) }
 {
     let y = height(lines.line_count(), block);
     put_place(writer, sink, 0, y);
@@ -244,7 +258,9 @@ fn end_of(gates: usize) -> u128
 
 // The labels and the wire of each line.
 fn put_lines<O: Sink, G: Drawn>(writer: &mut Writer, sink: &mut O, lines: &Circuit, gates: &[G])
-    ensures { Adds writer.old (O.view sink.old) (text_of_lines (flat_map (line_lines G.draws lines.now gates.now) (range_with_len 0 (length lines.now.names)))) writer.new (O.view sink.new) }
+    ensures { Adds writer.old (O.view sink.old)
+        (text_of_lines (flat_map (line_lines G.draws lines.now gates.now) (range_with_len 0 (length lines.now.names))))
+        writer.new (O.view sink.new) }
 {
     for line in 0..lines.line_count() {
         put_line(writer, sink, lines, gates, line);
@@ -259,7 +275,9 @@ fn put_line<O: Sink, G: Drawn>(
     line: u8,
 )
     requires { line < length lines.now.names }
-    ensures { Adds writer.old (O.view sink.old) (text_of_lines (line_lines G.draws lines.now gates.now line)) writer.new (O.view sink.new) }
+    ensures { Adds writer.old (O.view sink.old)
+        (text_of_lines (line_lines G.draws lines.now gates.now line))
+        writer.new (O.view sink.new) }
 {
     lines.recall_invariant();
     let y = middle_of_line(line);
@@ -340,7 +358,9 @@ fn put_breaks<O: Sink, G: Drawn>(writer: &mut Writer, sink: &mut O, gates: &[G],
 }
 
 fn put_break<O: Sink>(writer: &mut Writer, sink: &mut O, symbol: Symbol, place: usize, line: u8)
-    ensures { Adds writer.old (O.view sink.old) (break_at symbol (middle_of place) (middle_of line)) writer.new (O.view sink.new) }
+    ensures { Adds writer.old (O.view sink.old)
+        (break_at symbol (middle_of place) (middle_of line))
+        writer.new (O.view sink.new) }
 {
     let reach = reach(symbol);
     if reach != 0 {
@@ -381,7 +401,9 @@ fn reach_text(symbol: Symbol) -> &'static [u8]
 
 // The groups of the gates.
 fn put_gates<O: Sink, G: Drawn>(writer: &mut Writer, sink: &mut O, names: &Names, gates: &[G])
-    ensures { Adds writer.old (O.view sink.old) (text_of_lines (all_gate_lines G.draws names.now 0 gates.now)) writer.new (O.view sink.new) }
+    ensures { Adds writer.old (O.view sink.old)
+        (text_of_lines (all_gate_lines G.draws names.now 0 gates.now))
+        writer.new (O.view sink.new) }
 {
     for place in 0..gates.len() {
         put_gate(writer, sink, names, gates[place], place);
@@ -395,7 +417,9 @@ fn put_gate<O: Sink, G: Drawn>(
     gate: G,
     place: usize,
 )
-    ensures { Adds writer.old (O.view sink.old) (text_of_lines (gate_lines (G.draws gate) names.now place)) writer.new (O.view sink.new) }
+    ensures { Adds writer.old (O.view sink.old)
+        (text_of_lines (gate_lines (G.draws gate) names.now place))
+        writer.new (O.view sink.new) }
 {
     put_place(writer, sink, middle_of(place), 0);
     put_title(writer, sink, names, gate);
@@ -414,7 +438,9 @@ fn put_title<O: Sink, G: Drawn>(writer: &mut Writer, sink: &mut O, names: &Names
 }
 
 fn put_names<O: Sink, G: Drawn>(writer: &mut Writer, sink: &mut O, names: &Names, gate: G)
-    ensures { Adds writer.old (O.view sink.old) (flat_map (name_in_title (G.draws gate) names.now) (range_with_len 0 (length names.now))) writer.new (O.view sink.new) }
+    ensures { Adds writer.old (O.view sink.old)
+        (flat_map (name_in_title (G.draws gate) names.now) (range_with_len 0 (length names.now)))
+        writer.new (O.view sink.new) }
 {
     for line in 0..names.len() {
         put_name(writer, sink, names, gate, line);
@@ -423,7 +449,9 @@ fn put_names<O: Sink, G: Drawn>(writer: &mut Writer, sink: &mut O, names: &Names
 
 fn put_name<O: Sink, G: Drawn>(writer: &mut Writer, sink: &mut O, names: &Names, gate: G, line: u8)
     requires { line < length names.now }
-    ensures { Adds writer.old (O.view sink.old) (name_in_title (G.draws gate) names.now line) writer.new (O.view sink.new) }
+    ensures { Adds writer.old (O.view sink.old)
+        (name_in_title (G.draws gate) names.now line)
+        writer.new (O.view sink.new) }
 {
     names.recall_invariant();
     let symbol = gate.symbol_on(line);
@@ -444,7 +472,9 @@ fn is_touched(symbol: Symbol) -> bool
 // The symbols of a gate from the top.
 fn put_marks<O: Sink, G: Drawn>(writer: &mut Writer, sink: &mut O, gate: G, lines: u8)
     requires { lines ≤ MOST_LINES }
-    ensures { Adds writer.old (O.view sink.old) (text_of_lines (flat_map (mark_lines (G.draws gate) lines) (range_with_len 0 lines))) writer.new (O.view sink.new) }
+    ensures { Adds writer.old (O.view sink.old)
+        (text_of_lines (flat_map (mark_lines (G.draws gate) lines) (range_with_len 0 lines)))
+        writer.new (O.view sink.new) }
 {
     for line in 0..lines {
         put_mark(writer, sink, gate, lines, line);
@@ -454,7 +484,9 @@ fn put_marks<O: Sink, G: Drawn>(writer: &mut Writer, sink: &mut O, gate: G, line
 fn put_mark<O: Sink, G: Drawn>(writer: &mut Writer, sink: &mut O, gate: G, lines: u8, line: u8)
     requires line { line < lines }
     requires few { lines ≤ MOST_LINES }
-    ensures { Adds writer.old (O.view sink.old) (text_of_lines (mark_lines (G.draws gate) lines line)) writer.new (O.view sink.new) }
+    ensures { Adds writer.old (O.view sink.old)
+        (text_of_lines (mark_lines (G.draws gate) lines line))
+        writer.new (O.view sink.new) }
 {
     if is_on(gate.symbol_on(line)) {
         put_place(writer, sink, 0, middle_of_line(line));
@@ -466,7 +498,9 @@ fn put_mark<O: Sink, G: Drawn>(writer: &mut Writer, sink: &mut O, gate: G, lines
 fn put_body<O: Sink, G: Drawn>(writer: &mut Writer, sink: &mut O, gate: G, lines: u8, line: u8)
     requires line { line < lines }
     requires few { lines ≤ MOST_LINES }
-    ensures { Adds writer.old (O.view sink.old) (body (mark_on (G.draws gate) lines line)) writer.new (O.view sink.new) }
+    ensures { Adds writer.old (O.view sink.old)
+        (body (mark_on (G.draws gate) lines line))
+        writer.new (O.view sink.new) }
 {
     let symbol = gate.symbol_on(line);
     put_up(writer, sink, symbol, comes_from_above(gate, lines, line));

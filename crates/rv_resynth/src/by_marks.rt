@@ -6,9 +6,9 @@ ghost use Rattle.rv_resynth.specs.inside.Windows.{AreGates};
 ghost use Rattle.rv_resynth.specs.declared.by_marks.MarksFault.TheVariants.{Mem};
 
 use crate::Goal;
+use crate::marked_search::found_by_marks;
 use crate::replacing::all_fit;
 use crate::resynthesis::{is_no_dearer, with_gates};
-use crate::tries::{Effort, tried};
 use rv_compare::{Comparison, MOST_INPUTS, compare_circuits, input_count};
 use rv_gate::{Circuit, Gate, MOST_GATES};
 use std::alloc::{AllocError, Global};
@@ -82,6 +82,6 @@ pub fn resynth_by_marks(
     if effort == 0 {
         return Ok(circuit.copy()?);
     }
-    let gates = tried(alloc, circuit, &Effort::new(effort, seed))?;
+    let gates = found_by_marks(alloc, circuit, goal, effort, seed)?;
     Ok(taken(circuit, goal, gates)?)
 }

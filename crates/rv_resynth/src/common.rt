@@ -44,9 +44,11 @@ impl Common {
 }
 
 // The controls of a wide flip but for a few.
-fn most_of(gate: Gate, lines: u32) -> Common {
+fn most_of(gate: Gate, lines: u32, random: &mut Random) -> Common {
     let mut care = gate.controls();
-    for line in 0..64u32 {
+    let first = random.below(64) as u32;
+    for step in 0..64u32 {
+        let line = (first + step) % 64;
         let free = (gate.controls() & !care).count_ones();
         if free + 2 < lines && care.count_ones() > LEAST_COMMON {
             care &= !(1 << line);
@@ -83,12 +85,12 @@ pub(crate) fn common_of(gates: &[Gate], lines: u32, random: &mut Random) -> Comm
     let mut common = Common::none();
     for place in 1..gates.len().min(reach) {
         let found = shared(*first, gates[place]);
-        if !found.is_none() {
+        if !found.is_none() && (common.is_none() || random.below(2) == 0) {
             common = found;
         }
     }
     if common.is_none() && wide {
-        common = most_of(*first, lines);
+        common = most_of(*first, lines, random);
     }
     if common.size() > MOST_COMMON {
         return Common::none();

@@ -1,24 +1,14 @@
 //! The search for gates that do the same as some others. Nothing is proved of what it finds.
 ghost use Rattle.std.specs.Prelude.{◌<◌, length};
 
-use crate::beam::{Plan, Step, search};
+use crate::beam::{Plan, search};
 use crate::common::Common;
 use crate::lines::{list_lines, span};
-use crate::moves::{Bundle, Move, moves_on};
-use crate::random::Random;
-use crate::tables::{PLACES, SCALES, Tables, Turn};
+use crate::prices::Prices;
+use crate::space::{Bundle, Move, NONE, Space};
+use crate::table::{Eightfold, PLACES, Sevenfold, Sixfold, Table};
 use rv_gate::{Gate, LineSet, MOST_LINES, Shape};
 use std::alloc::{AllocError, Global};
-
-// What is found costs no more than this.
-const MOST_COST: u128 = 4000;
-
-// How much a search may do: a bound on the cost of what it finds, and on the states that it looks at.
-#[derive(Clone, Copy)]
-pub(crate) struct Bounds {
-    pub(crate) cost: u128,
-    pub(crate) nodes: u32,
-}
 
 // The places, among some lines, of those of a set.
 fn small_set(lines: &[u8], set: LineSet) -> u8 {
@@ -78,131 +68,150 @@ fn bundled(lines: &[u8], common: &Common, gate: Gate) -> u8 {
     }
 }
 
-// The permutation with a gate after it.
-fn follow(tables: &mut Tables, lines: &[u8], common: &Common, gate: Gate) {
+// Takes a gate to a permutation that stands before it.
+pub(crate) fn follow<T: Table>(
+    space: &Space<T>,
+    tables: &mut [T],
+    lines: &[u8],
+    common: &Common,
+    gate: Gate,
+) {
     match gate.shape() {
         Shape::Flip { care, want, target } => {
             let bundle = bundled(lines, common, gate);
             let care = small_set(lines, care) | bundle;
             let want = small_set(lines, want) | bundle;
-            tables.followed(Turn::new(care, want, place_of(lines, target)));
+            space.flip_off(tables, care, want, place_of(lines, target), false);
         }
         Shape::Swap { care, want, a, b } => {
-            let other = small_set(lines, 1 << (b % 64));
+            let (first, second) = (place_of(lines, a), place_of(lines, b));
             let own = small_set(lines, 1 << (a % 64));
-            let outer = Turn::new(other, other, place_of(lines, a));
+            let other = small_set(lines, 1 << (b % 64));
             let care = small_set(lines, care) | own;
             let want = small_set(lines, want) | own;
-            tables.followed(outer);
-            tables.followed(Turn::new(care, want, place_of(lines, b)));
-            tables.followed(outer);
+            space.flip_off(tables, other, other, first, false);
+            space.flip_off(tables, care, want, second, false);
+            space.flip_off(tables, other, other, first, false);
         }
         Shape::Peres { a, b, c } => {
             let one = small_set(lines, 1 << (a % 64));
             let both = one | small_set(lines, 1 << (b % 64));
-            tables.followed(Turn::new(both, both, place_of(lines, c)));
-            tables.followed(Turn::new(one, one, place_of(lines, b)));
+            space.flip_off(tables, both, both, place_of(lines, c), false);
+            space.flip_off(tables, one, one, place_of(lines, b), false);
         }
     }
 }
 
 // The gate of a move.
-fn gate_of(lines: &[u8], common: &Common, gate: &Move) -> Option<Gate> {
-    let first = gate.first;
+pub(crate) fn gate_of(lines: &[u8], common: &Common, by: &Move) -> Option<Gate> {
+    if by.second != NONE {
+        let first = by.care & !(1 << (by.second % 8));
+        return Gate::peres(
+            line_at(lines, first.trailing_zeros().min(7) as u8),
+            line_at(lines, by.second),
+            line_at(lines, by.target),
+        );
+    }
     let (mut care, mut want) = (0, 0);
-    if first.care & bundle_line(lines, common) != 0 {
+    if by.care & bundle_line(lines, common) != 0 {
         care = common.care;
         want = common.want;
     }
-    match gate.second {
-        None => Gate::flip(
-            large_set(lines, first.care) | care,
-            large_set(lines, first.want) | want,
-            line_at(lines, first.target),
-        ),
-        Some(second) => Gate::peres(
-            line_at(lines, second.care.trailing_zeros().min(7) as u8),
-            line_at(lines, second.target),
-            line_at(lines, first.target),
-        ),
-    }
+    Gate::flip(
+        large_set(lines, by.care) | care,
+        large_set(lines, by.want) | want,
+        line_at(lines, by.target),
+    )
 }
 
-// Adds the gate of a step.
-fn push_step(
+// Adds the gates of the moves at one side.
+fn push_side(
     found: &mut Vec<Gate>,
     lines: &[u8],
     common: &Common,
     moves: &[Move],
-    step: &Step,
+    front: bool,
 ) -> Result<(), AllocError> {
-    let Some(gate) = moves.get(step.by) else {
-        return Ok(());
-    };
-    if let Some(gate) = gate_of(lines, common, gate) {
-        found.push(gate)?;
+    let count = moves.len();
+    for k in 0..count {
+        let by = if front {
+            moves[count - 1 - k]
+        } else {
+            moves[k]
+        };
+        if by.front == front {
+            if let Some(gate) = gate_of(lines, common, &by) {
+                found.push(gate)?;
+            }
+        }
     }
     Ok(())
 }
 
-// The gates of steps: those taken off at the front from the first one on, then the others from the last one on.
-fn gates_of(
+// Gates on these lines that may make a permutation of the words.
+pub(crate) fn solve<T: Table>(
+    space: &Space<T>,
     alloc: Global,
+    tables: &[T],
     lines: &[u8],
     common: &Common,
-    moves: &[Move],
-    steps: &[Step],
-) -> Result<Vec<Gate>, AllocError> {
+    plan: &Plan,
+) -> Result<Option<Vec<Gate>>, AllocError> {
+    let end = space.end(alloc)?;
+    let Some(moves) = search(alloc, space, tables, &end, plan)? else {
+        return Ok(None);
+    };
     let mut found = Vec::new(alloc);
-    for k in 0..steps.len() {
-        let step = steps[steps.len() - 1 - k];
-        if step.front {
-            push_step(&mut found, lines, common, moves, &step)?;
-        }
-    }
-    for k in 0..steps.len() {
-        let step = steps[k];
-        if !step.front {
-            push_step(&mut found, lines, common, moves, &step)?;
-        }
-    }
-    Ok(found)
+    push_side(&mut found, lines, common, &moves, true)?;
+    push_side(&mut found, lines, common, &moves, false)?;
+    Ok(Some(found))
 }
 
-// Gates that may do the same as these, for no more than the bound.
+// Gates on these lines that may do the same as some others.
+fn find_on<T: Table>(
+    space: &Space<T>,
+    alloc: Global,
+    gates: &[Gate],
+    lines: &[u8],
+    common: &Common,
+    plan: &Plan,
+) -> Result<Option<Vec<Gate>>, AllocError> {
+    let mut tables = space.start(alloc)?;
+    for gate in gates {
+        follow(space, &mut tables, lines, common, *gate);
+    }
+    solve(space, alloc, &tables, lines, common, plan)
+}
+
+// Gates that may do the same as these, for less than the bound.
 pub(crate) fn find(
     alloc: Global,
     gates: &[Gate],
     common: &Common,
-    bounds: Bounds,
-    random: &mut Random,
+    prices: &Prices,
+    plan: &Plan,
 ) -> Result<Option<Vec<Gate>>, AllocError> {
     let mut room = [0u8; MOST_LINES as usize];
     let count = list_lines(span(gates) & !common.care, &mut room);
-    let bundles = if common.is_none() { 0 } else { 1 };
-    if count + bundles > PLACES {
-        return Ok(None);
-    }
     let lines = &room[..count];
-    let mut tables = Tables::identity();
-    for gate in gates {
-        follow(&mut tables, lines, common, *gate);
-    }
-    let cost = bounds.cost.min(MOST_COST) as u32;
     let bundle = Bundle {
-        line: bundle_line(lines, common),
+        line: if common.is_none() { PLACES } else { count },
         size: common.size(),
     };
-    let moves = moves_on(alloc, (count + bundles) as u8, bundle)?;
-    let plan = Plan {
-        bound: cost as usize + 1,
-        width: (bounds.nodes / cost.max(16)).clamp(1, 32) as usize,
-        scale: random.below(SCALES.len()),
-        salt: random.next() | 1,
-    };
-    let Some(steps) = search(alloc, &tables, &moves, &plan)? else {
-        return Ok(None);
-    };
-    let found = gates_of(alloc, lines, common, &moves, &steps)?;
-    Ok(Some(found))
+    let count = if common.is_none() { count } else { count + 1 };
+    match count {
+        0..=6 => {
+            let space: Space<Sixfold> = Space::new(alloc, count, bundle, prices)?;
+            find_on(&space, alloc, gates, lines, common, plan)
+        }
+        7 => {
+            let space: Space<Sevenfold> = Space::new(alloc, count, bundle, prices)?;
+            find_on(&space, alloc, gates, lines, common, plan)
+        }
+        8 => {
+            let space: Space<Eightfold> = Space::new(alloc, count, bundle, prices)?;
+            find_on(&space, alloc, gates, lines, common, plan)
+        }
+        _ => Ok(None),
+    }
 }

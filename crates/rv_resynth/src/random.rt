@@ -7,8 +7,11 @@ pub(crate) struct Random {
 }
 
 impl Random {
-    pub(crate) fn new(seed: u64) -> Random {
-        Random { state: seed | 1 }
+    pub(crate) fn new(seed: u16) -> Random {
+        let odd = u64::from(seed).wrapping_mul(2) | 1;
+        Random {
+            state: odd.wrapping_mul(0x9E37_79B9_7F4A_7C15),
+        }
     }
 
     // The next number.
@@ -18,7 +21,7 @@ impl Random {
         x ^= x >> 7;
         x ^= x << 17;
         self.state = x;
-        x
+        x.wrapping_mul(0x2545_F491_4F6C_DD1D) >> 11
     }
 
     // A number below a bound.

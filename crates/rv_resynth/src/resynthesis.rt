@@ -2,11 +2,13 @@ ghost use Rattle.std.specs.Prelude.{◌≡◌, ◌≤◌, length, IfOk, IsTrue};
 ghost use Rattle.rv_gate.specs.declared.circuit.TheConstants.{MOST_GATES};
 ghost use Rattle.rv_resynth.specs.Measure.{measure};
 ghost use Rattle.rv_resynth.specs.Resynthesis.{IsResynthesis};
-ghost use Rattle.rv_resynth.specs.inside.Windows.{AreGates};
+ghost use Rattle.rv_resynth.specs.inside.Windows.{AreGates, Replaces};
 
 use crate::Goal;
-use crate::measure::measure;
-use crate::tries::{Effort, tried};
+use crate::measure::{lines_with, measure};
+use crate::prices::Prices;
+use crate::random::Random;
+use crate::whole::searched;
 use rv_gate::{Circuit, Gate};
 use std::alloc::{AllocError, Global};
 
@@ -31,6 +33,26 @@ pub(crate) fn with_gates(circuit: &Circuit, gates: Vec<Gate>) -> Result<Circuit,
     Ok(new)
 }
 
+// What a search makes of the gates of a circuit.
+fn found(
+    alloc: Global,
+    circuit: &Circuit,
+    goal: Goal,
+    effort: u16,
+    seed: u16,
+) -> Result<Vec<Gate>, AllocError>
+    ensures { IfOk result (λ gates. Replaces (length circuit.now.names) circuit.now.gates gates.items) }
+{
+    circuit.recall_invariant();
+    let lines = circuit.line_count();
+    let prices = Prices {
+        goal,
+        lines: lines_with(lines, circuit.gates()),
+    };
+    let mut random = Random::new(seed);
+    searched(alloc, circuit.gates(), lines, &prices, effort, &mut random)
+}
+
 /// The circuit with gates that make the same of every word, and of which the goal counts no more. Fails only for want of
 /// memory.
 ///
@@ -49,7 +71,7 @@ pub fn resynth(
     if effort == 0 {
         return circuit.copy();
     }
-    let gates = tried(alloc, circuit, &Effort::new(effort, seed))?;
+    let gates = found(alloc, circuit, goal, effort, seed)?;
     if !is_no_dearer(goal, circuit, &gates) {
         return circuit.copy();
     }

@@ -1,87 +1,97 @@
-ghost use Rattle.std.specs.Prelude.{◌≡◌, ℕ, ◌+◌, ◌^◌, ◌<◌, ◌≤◌, length, All, IfOk, IfSome};
+ghost use Rattle.std.specs.Prelude.{◌≡◌, ℕ, ◌+◌, ◌<◌, ◌≤◌, length, All, IfOk, IfSome};
 ghost use Rattle.rv_gate.specs.declared.circuit.TheConstants.{MOST_GATES};
 ghost use Rattle.rv_resynth.specs.inside.Windows.{AreGates, Replaces};
 
+use crate::beam::Plan;
 use crate::common::{Common, common_of};
-use crate::find::{Bounds, find};
-use crate::measure::cost_of;
+use crate::find::find;
+use crate::prices::Prices;
 use crate::random::Random;
 use crate::replacing::{can_replace, replaced};
+use crate::scale::SCALES;
+use crate::thin::thinned;
 use crate::window::{Choice, collect};
-use rv_cost::quantum_cost;
-use rv_gate::{Circuit, Gate, MOST_GATES};
+use rv_gate::{Gate, MOST_GATES};
 use std::alloc::{AllocError, Global};
 
 // What a window costs, at most, unless its first gate is dear.
-const LIMITS: [u128; 4] = [30, 60, 120, 240];
+const LIMITS: [u32; 4] = [30, 60, 120, 240];
 
-// What a window of all gates costs, at most.
-const MOST_LIMIT: u128 = 1 << 90;
+// What is found in a window costs no more than this.
+const MOST_PRICE: u64 = 4000;
 
-// The first windows are of all gates, and one in so many of the others; a search for one looks at so many times more states.
-const FIRST_WHOLE: u32 = 8;
+// The lines of most windows, and one in so many has up to two more.
+const MOST_LINES: usize = 6;
 
-const WHOLE: usize = 32;
+const WIDE: usize = 4;
 
-const WHOLE_NODES: u32 = 8;
+// So many permutations are looked at in a window of much cost, and at most so many of each cost.
+const NODES: u64 = 400;
 
-// How much is tried.
-#[derive(Clone, Copy, Debug, PartialEq, Eq)]
-pub(crate) struct Effort {
-    // How many windows are looked at.
-    pub(crate) tries: u32,
-    // On how many lines a window is, at most, 3 to 6.
-    pub(crate) lines: u32,
-    // How many states a search looks at, at most.
-    pub(crate) nodes: u32,
-    // Where the choices begin.
-    pub(crate) seed: u64,
-}
+const MOST_WIDTH: u64 = 32;
 
-impl Effort {
-    pub(crate) fn new(effort: u16, seed: u16) -> Effort {
-        Effort {
-            tries: 25 * u32::from(effort),
-            lines: 6,
-            nodes: 400,
-            seed: 2 * u64::from(seed) + 1,
-        }
-    }
-}
+// So many moves are made of each.
+const MOVES: usize = 100;
 
-// Whether all gates from the first one on are wanted, and not only a few: in the first tries, and now and then.
-fn is_whole(number: u32, random: &mut Random) -> bool {
-    number < FIRST_WHOLE || random.below(WHOLE) == 0
-}
-
-// Chooses where a window begins among so many gates.
-fn place_in(count: usize, whole: bool, random: &mut Random) -> usize
-    requires { 0 < count }
-    ensures { result < count }
-{
-    if whole { 0 } else { random.below(count) }
-}
-
-// Chooses how large a window may be that begins with the first gate, of this cost.
-fn chosen(effort: &Effort, gates: &[Gate], first: u128, whole: bool, random: &mut Random) -> Choice
-    requires { first < 2 ^ 67 }
-{
-    if whole {
-        return Choice {
-            lines: effort.lines,
-            limit: MOST_LIMIT,
-            common: Common::none(),
-        };
-    }
-    let lines = 3 + random.below(effort.lines.clamp(3, 6) as usize - 2) as u32;
-    let limit = LIMITS[random.below(LIMITS.len())].max(2 * first + 20);
+// Chooses how large a window may be that begins with the first gate.
+fn chosen(gates: &[Gate], prices: &Prices, random: &mut Random) -> Choice {
+    let first = match gates.first() {
+        Some(gate) => prices.gate(*gate),
+        None => 0,
+    };
+    let more = if random.below(WIDE) == 0 { 2 } else { 0 };
+    let lines = 3 + random.below(MOST_LINES - 2 + more) as u32;
+    let limit = LIMITS[random.below(LIMITS.len())].max(first.saturating_mul(2).saturating_add(20));
     let common = common_of(gates, lines, random);
     let lines = if common.is_none() { lines } else { lines - 1 };
     Choice {
         lines,
         limit,
         common,
+        prices: *prices,
     }
+}
+
+// How gates of some cost are searched for.
+fn plan_for(price: u64, random: &mut Random) -> Plan {
+    Plan {
+        bound: price.min(MOST_PRICE) as usize + 1,
+        width: (NODES / price.max(16)).clamp(1, MOST_WIDTH) as usize,
+        moves: MOVES,
+        nodes: usize::MAX,
+        scale: random.below(SCALES),
+        salt: random.next() | 1,
+        peres: random.below(2) == 0,
+        controls: 8,
+        patience: usize::MAX,
+    }
+}
+
+// Gates that may stand in the place of a window's.
+fn offered(
+    alloc: Global,
+    window: &[Gate],
+    common: &Common,
+    lines: u8,
+    prices: &Prices,
+    random: &mut Random,
+) -> Result<Option<Vec<Gate>>, AllocError> {
+    let found = if window.len() < 2 {
+        match window.first() {
+            Some(gate) => thinned(alloc, *gate, lines)?,
+            None => None,
+        }
+    } else {
+        let plan = plan_for(prices.gates(window), random);
+        find(alloc, window, common, prices, &plan)?
+    };
+    let Some(new) = found else {
+        return Ok(None);
+    };
+    if !prices.are_as_good(&new, window) {
+        return Ok(None);
+    }
+    Ok(Some(new))
 }
 
 // Tries one window. Answers what the gates become, and `None` if nothing is found that can stand in its place.
@@ -89,8 +99,7 @@ fn attempt(
     alloc: Global,
     gates: &[Gate],
     lines: u8,
-    effort: &Effort,
-    whole: bool,
+    prices: &Prices,
     random: &mut Random,
 ) -> Result<Option<Vec<Gate>>, AllocError>
     requires gates { AreGates lines gates.now }
@@ -100,27 +109,10 @@ fn attempt(
     if gates.is_empty() {
         return Ok(None);
     }
-    let from = place_in(gates.len(), whole, random);
-    let choice = chosen(
-        effort,
-        &gates[from..],
-        quantum_cost(gates[from]),
-        whole,
-        random,
-    );
+    let from = random.below(gates.len());
+    let choice = chosen(&gates[from..], prices, random);
     let (window, count) = collect(alloc, &gates[from..], &choice, random)?;
-    if window.gates.len() < 2 || window.gates.len() > MOST_GATES {
-        return Ok(None);
-    }
-    let bounds = Bounds {
-        cost: cost_of(&window.gates),
-        nodes: if whole {
-            effort.nodes.saturating_mul(WHOLE_NODES)
-        } else {
-            effort.nodes
-        },
-    };
-    let Some(new) = find(alloc, &window.gates, &choice.common, bounds, random)? else {
+    let Some(new) = offered(alloc, &window.gates, &choice.common, lines, prices, random)? else {
         return Ok(None);
     };
     if !can_replace(&window.gates, &new, lines) {
@@ -133,20 +125,22 @@ fn attempt(
     Ok(Some(all))
 }
 
-// Tries many windows, one after another.
+// Tries so many windows, one after another.
 pub(crate) fn tried(
     alloc: Global,
-    circuit: &Circuit,
-    effort: &Effort,
+    old: &[Gate],
+    lines: u8,
+    prices: &Prices,
+    windows: u32,
+    random: &mut Random,
 ) -> Result<Vec<Gate>, AllocError>
-    ensures { IfOk result (λ gates. Replaces (length circuit.now.names) circuit.now.gates gates.items) }
+    requires gates { AreGates lines old.now }
+    requires few { length old.now ≤ MOST_GATES }
+    ensures { IfOk result (λ new. Replaces lines old.now new.items) }
 {
-    let lines = circuit.line_count();
-    let mut random = Random::new(effort.seed);
-    let mut gates = Vec::from_slice(alloc, circuit.gates())?;
-    for number in 0..effort.tries {
-        let whole = is_whole(number, &mut random);
-        if let Some(better) = attempt(alloc, &gates, lines, effort, whole, &mut random)? {
+    let mut gates = Vec::from_slice(alloc, old)?;
+    for _ in 0..windows {
+        if let Some(better) = attempt(alloc, &gates, lines, prices, random)? {
             gates = better;
         }
     }

@@ -5,8 +5,8 @@ ghost use Rattle.rv_gate.specs.Gate.{FitsIn};
 ghost use Rattle.rv_resynth.specs.inside.Windows.{AreGates, Splits};
 
 use crate::common::Common;
+use crate::prices::Prices;
 use crate::random::Random;
-use rv_cost::quantum_cost;
 use rv_gate::{Gate, LineSet};
 use std::alloc::{AllocError, Global};
 
@@ -51,8 +51,9 @@ fn add(window: &mut Window, gate: Gate, wanted: bool) -> Result<(), AllocError>
 #[derive(Clone, Copy)]
 pub(crate) struct Choice {
     pub(crate) lines: u32,
-    pub(crate) limit: u128,
+    pub(crate) limit: u32,
     pub(crate) common: Common,
+    pub(crate) prices: Prices,
 }
 
 // Whether a gate is wanted in a window of which some lines are taken. One that needs a new line is wanted three times of
@@ -85,7 +86,7 @@ pub(crate) fn collect(
             return Ok((window, place));
         }
         let gate = gates[place];
-        let cost = quantum_cost(gate);
+        let cost = choice.prices.gate(gate);
         let wanted = cost <= left && is_wanted(gate, taken, choice, random);
         let size = window.gates.len();
         add(&mut window, gate, wanted)?;

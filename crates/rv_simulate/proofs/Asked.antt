@@ -1,5 +1,6 @@
 -- A circuit without constants and garbage: its words are answered as if all bits were asked for.
-use Rattle.std.proofs.Common.{◌≡◌, ◌∙◌, ℕ, Bool, true, false, ◌||◌, ◌&&◌, not, List, [], ◌∷◌, ◌++◌, length, map, replicate, cond, nat_eq, Option, Some, None, refl, ap, sym}
+use Rattle.std.proofs.Common.{arith}
+use Rattle.std.proofs.Common.{◌≡◌, ℕ, Bool, true, false, ◌||◌, ◌&&◌, not, List, [], ◌∷◌, ◌++◌, length, map, replicate, cond, nat_eq, Option, Some, None, refl, ap}
 use Rattle.std.specs.List.{list_all}
 use Rattle.rv_gate.specs.Circuit.{Cascade, IsCascade}
 use Rattle.rv_gate.specs.Gate.{run}
@@ -27,15 +28,9 @@ answer_by c marks garbage bits =
     cond (nat_eq (length bits) (input_count marks)) (Some (map bit_byte (without_garbage garbage (run c.gates (with_constants marks bits))) ++ line_feed ∷ [])) None
 
 same_bits : (c : Cascade) → replicate (length c.names) Input ≡ c.constants → replicate (length c.names) false ≡ c.garbage → (bits : Option (List Bool)) → answer_to_bits c true bits ≡ answer_to_bits c false bits
-same_bits c marks garbage None = refl
-same_bits c marks garbage (Some []) = refl
-same_bits c marks garbage (Some (bit ∷ bits)) =
-    ap (λ m. answer_by c m (replicate (length c.names) false) (bit ∷ bits)) marks ∙ ap (λ g. answer_by c c.constants g (bit ∷ bits)) garbage
+same_bits c h h1 bits = grind arith
 
 pub asked_same : (c : Cascade) (all unmarked : Bool) → IsCascade c → unmarked ≡ (list_all takes_input c.constants && list_all not c.garbage)
     → (line : List ℕ) → answer_to c (all || unmarked) line ≡ answer_to c all line
-asked_same c true unmarked is h line = refl
-asked_same c false false is h line = refl
-asked_same c false true is h line =
-    let plain = and_parts (list_all takes_input c.constants) (list_all not c.garbage) (sym h) in
-    same_bits c (ap (λ n. replicate n Input) (sym is.constants) ∙ all_inputs c.constants plain.0) (ap (λ n. replicate n false) (sym is.garbage) ∙ no_garbage c.garbage plain.1) (line_bits line)
+asked_same c all unmarked h h1 line =
+    grind (arith, and_parts, list_all, takes_input, same_bits, all_inputs, no_garbage, line_bits)

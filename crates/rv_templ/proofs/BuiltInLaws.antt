@@ -1,16 +1,15 @@
 -- The built-in templates are identities.
 use Rattle.std.proofs.Common.{◌&&◌, lit<, lit≤, inl, inr, ◌≡◌, ℕ, zero, suc, ◌<◌, Bool, true, false, eqb, List, [], ◌∷◌, length, refl, arith}
-use Rattle.std.proofs.lemmas.Bool.{and_parts, false≢true, or_cases, cases_lt, eqb-true}
+use Rattle.std.proofs.lemmas.Bool.{and_parts, or_cases, cases_lt, eqb-true}
 use Rattle.std.proofs.lemmas.Nat.Bits.{bit_at_above}
 use Rattle.std.specs.Int.{bit_at}
 use Rattle.rv_templ.specs.Gates.{Identity}
 use Rattle.rv_gate.specs.Word.{has}
-use Rattle.rv_gate.specs.Gate.{run, same, holds, IsGate, FitsIn, same_word}
+use Rattle.rv_gate.specs.Gate.{run, holds, IsGate, FitsIn, same_word}
 use Rattle.rv_gate.specs.declared.gate.Shape.{Shape}
 use Rattle.rv_gate.specs.declared.gate.Shape.TheVariants.{Flip}
 use Rattle.rv_templ.specs.Templates.{IsTemplate, AreTemplates}
 use Rattle.rv_templ.specs.BuiltIn.{crossed, exchanges, built_in}
-use Rattle.rv_gate.proofs.Bits.{same_true}
 use Rattle.rv_gate.proofs.Words.{same_word-is}
 
 -- every word of n lines that begins so passes

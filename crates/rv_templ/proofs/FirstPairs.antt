@@ -1,12 +1,12 @@
 -- The step by pairs makes the first pair.
-use Rattle.std.proofs.Common.{◌≡◌, ℕ, zero, suc, ◌+◌, ◌<◌, Bool, true, false, List, [], ◌∷◌, ◌++◌, length, take, drop, get_or, sym, refl, ◌∙◌, ap, arith, if◌then◌else◌}
+use Rattle.std.proofs.Common.{◌≡◌, ℕ, zero, suc, ◌<◌, true, List, [], ◌∷◌, ◌++◌, length, take, drop, get_or, sym, refl, ◌∙◌, ap, arith, if◌then◌else◌}
 use Rattle.std.specs.Option.{option_or}
 use Rattle.std.specs.Prelude.{Option, Some, None, option_map}
 use Rattle.std.proofs.lemmas.Option.{none-some, same_Some}
 use Rattle.rv_gate.specs.Commuting.{rule}
 use Rattle.rv_gate.specs.declared.gate.Shape.{Shape}
 use Rattle.rv_templ.specs.Gates.{no_gate}
-use Rattle.rv_templ.specs.Pairs.{paired, after_gates, partner, pair_step, IsFirstPair, IsPair, IsPairMade}
+use Rattle.rv_templ.specs.Pairs.{paired, after_gates, partner, pair_step, IsPair, IsPairMade}
 use Rattle.rv_templ.proofs.JoinLaws.{cond_some}
 use Rattle.rv_templ.proofs.Options.{after_some}
 use Rattle.rv_templ.proofs.SettledPairs.{no_partner}

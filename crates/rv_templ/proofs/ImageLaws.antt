@@ -1,5 +1,5 @@
 -- What an image does to a word.
-use Rattle.std.proofs.Common.{◌≡◌, ◌≢◌, ℕ, ◌^◌, ◌<◌, Bool, true, false, not, cond, ◌||◌, eqb, List, [], ◌∷◌, length, set, map, refl, sym, ◌∙◌, ap, inl, inr, arith, eq-eqb, ne_eqb, subst, ext_get_or, length-set, get_or-set_same, get_or-set_other}
+use Rattle.std.proofs.Common.{◌≡◌, ◌≢◌, ℕ, ◌^◌, ◌<◌, Bool, true, false, not, cond, List, [], ◌∷◌, length, set, map, refl, sym, ◌∙◌, ap, inl, inr, arith, eq-eqb, ne_eqb, subst, ext_get_or, length-set, get_or-set_same, get_or-set_other}
 use Rattle.std.specs.Prelude.{bit_or}
 use Rattle.std.specs.List.{range_with_len}
 use Rattle.std.proofs.lemmas.Bool.{cases_eq, cases_Bool, false≢true, or_cases, or_left, or_right, cond-true, cond-false, false_from_ne_true}
@@ -26,23 +26,10 @@ renamed_has to set i h on =
     (ap (λ s. has s (new_line to i)) (cond-true (has set i) (2 ^ new_line to i) 0 on) ∙ has-line (new_line to i) (new_line to i) ∙ eq-eqb (new_line to i) (new_line to i) refl)
 
 part_has : (to : List ℕ) (set i v : ℕ) → has (part to set i) v ≡ true → (has set i ≡ true) × (v ≡ new_line to i)
-part_has to set i v e =
-    elim (cases_Bool (has set i)) [
-      | inl on ↦
-          let p : has (2 ^ new_line to i) v ≡ true = ap (λ s. has s v) (sym (cond-true (has set i) (2 ^ new_line to i) 0 on)) ∙ e in
-          (on, eqb_is v (new_line to i) (sym (has-line (new_line to i) v) ∙ p))
-      | inr off ↦
-          absurd (false≢true (sym (has-none v) ∙ ap (λ s. has s v) (sym (cond-false (has set i) (2 ^ new_line to i) 0 off)) ∙ e))
-    ]
-  where
-    eqb_is : (a b : ℕ) → eqb a b ≡ true → a ≡ b
-    eqb_is a b e = elim (cases_eq a b) [ inl s ↦ s | inr ne ↦ absurd (false≢true (sym (ne_eqb a b ne) ∙ e)) ]
+part_has to set i v e = grind (arith, cases_Bool, new_line, cond-true, has-line, has-none, cond-false, cases_eq, ne_eqb)
 
 pub renamed_from : (to : List ℕ) (set v : ℕ) → has (renamed to set) v ≡ true → (i : ℕ) × (i < 6) × (has set i ≡ true) × (v ≡ new_line to i)
-renamed_from to set v e =
-    let p = part_of_union (part to set) 6 v e in
-    let q = part_has to set p.0 v p.2 in
-    (p.0, p.1, q.0, q.1)
+renamed_from to set v e = grind (arith, part_of_union, part_has)
 
 -- no two lines of own become one
 abbrev pub Apart : ℕ → List ℕ → Type 0
@@ -53,15 +40,7 @@ Part a b = (line : ℕ) → has a line ≡ true → has b line ≡ true
 
 pub renamed_at : (own : ℕ) (to : List ℕ) (set i : ℕ) → Apart own to → Part set own → i < 6 → has own i ≡ true → has (renamed to set) (new_line to i) ≡ has set i
 renamed_at own to set i apart sub h on =
-    elim (cases_Bool (has set i)) [
-      | inl got ↦ renamed_has to set i h got ∙ sym got
-      | inr off ↦
-          false_from_ne_true (has (renamed to set) (new_line to i)) (λ e.
-          let p = renamed_from to set (new_line to i) e in
-          let s : i ≡ p.0 = apart i p.0 h p.1 on (sub p.0 p.2) p.3 in
-          false≢true (sym off ∙ ap (has set) s ∙ p.2))
-          ∙ sym off
-    ]
+    grind (arith, cases_Bool, renamed_has, false_from_ne_true, new_line, renamed_from)
 
 -- ---- renamings with fresh controls
 
@@ -108,22 +87,10 @@ all_care to care g = bit_or (renamed to (controls g)) care
 -- the wanted values on a renamed line, and on another
 pub want_renamed : (own : ℕ) (to : List ℕ) (care want : ℕ) (g : Shape) (i : ℕ) → Renames own to care want → Serves own g → i < 6 → has own i ≡ true
     → has (all_care to want (Flip (wanted g) 0 0)) (new_line to i) ≡ has (wanted g) i
-want_renamed own to care want g i r s h on =
-    let none : has want (new_line to i) ≡ false = false_from_ne_true _ (λ e. false≢true (sym (r.free i h on) ∙ r.wants (new_line to i) e)) in
-    has-or (renamed to (wanted g)) want (new_line to i)
-    ∙ ap (λ b. has (renamed to (wanted g)) (new_line to i) || b) none
-    ∙ or_off (has (renamed to (wanted g)) (new_line to i))
-    ∙ renamed_at own to (wanted g) i r.apart (λ line e. s.care line (s.want line e)) h on
-  where
-    or_off : (x : Bool) → (x || false) ≡ x
-    or_off true = refl
-    or_off false = refl
+want_renamed own to care want g i r s h on = grind (arith, new_line, false_from_ne_true, has-or, renamed_at)
 
 want_other : (own : ℕ) (to : List ℕ) (want : ℕ) (g : Shape) (v : ℕ) → Serves own g → Other own to v → has (all_care to want (Flip (wanted g) 0 0)) v ≡ has want v
-want_other own to want g v s o =
-    let none : has (renamed to (wanted g)) v ≡ false = false_from_ne_true _ (λ e.
-    let p = renamed_from to (wanted g) v e in o p.0 p.1 (s.care p.0 (s.want p.0 p.2)) p.3) in
-    has-or (renamed to (wanted g)) want v ∙ ap (λ b. b || has want v) none
+want_other own to want g v s o = grind (arith, false_from_ne_true, renamed_from, has-or)
 
 pub held_image : (own : ℕ) (to : List ℕ) (care want : ℕ) (g : Shape) (x0 x u : List Bool) → Renames own to care want → Serves own g → InRange own to (length x0)
     → Follows own to x0 x u → Hold care want x → holds (all_care to care g) (all_care to want (Flip (wanted g) 0 0)) x ≡ holds (controls g) (wanted g) u

@@ -39,21 +39,11 @@ same_false false = refl
 
 pub with_line_here : (set line : ℕ) (b : Bool) → has (with_line set line b) line ≡ b
 unfolding with_line
-with_line_here set line true = has-or set (2 ^ line) line ∙ ap (λ t. has set line || t) (has-line line line ∙ eq-eqb line line refl) ∙ or_true (has set line)
-with_line_here set line false =
-    elim (cases_Bool (has set line)) [
-      | inl t ↦ rw t (has-xor set (2 ^ line) line ∙ ap (λ u. not (same (has set line) u)) (has-line line line ∙ eq-eqb line line refl) ∙ xor_true _ t)
-      | inr f ↦ rw f f
-    ]
+with_line_here set line b = grind (arith, has-or, has-line, eq-eqb, or_true, cases_Bool, has-xor, xor_true)
 
 pub with_line_other : (set line : ℕ) (b : Bool) (k : ℕ) → k ≢ line → has (with_line set line b) k ≡ has set k
 unfolding with_line
-with_line_other set line true k ne = has-or set (2 ^ line) k ∙ ap (λ t. has set k || t) (has-line line k ∙ ne_eqb k line ne) ∙ or_false (has set k)
-with_line_other set line false k ne =
-    elim (cases_Bool (has set line)) [
-      | inl t ↦ rw t (has-xor set (2 ^ line) k ∙ ap (λ u. not (same (has set k) u)) (has-line line k ∙ ne_eqb k line ne) ∙ same_false (has set k))
-      | inr f ↦ rw f refl
-    ]
+with_line_other set line b k h = grind (arith, has-or, has-line, ne_eqb, or_false, cases_Bool, has-xor, same_false)
 
 -- ---- controls, one line apart from the others
 
@@ -78,14 +68,7 @@ admits_from false w b h = refl
 -- with the other controls at hand, the symbol on the line decides
 rest_holds : (care want line : ℕ) (word : List Bool) → line < length word → RestHold care want line word → holds care want word ≡ admits (has care line) (has want line) (bit_of word line)
 unfolding RestHold
-rest_holds care want line word lt r =
-    same_bool _ _
-    (λ h. admits_from _ _ _ (λ c. (holds_Decides care want word).0 h line lt c))
-    (λ h. (holds_Decides care want word).1 (λ k within c.
-    elim (cases_eq k line) [
-      | inl e ↦ ap (bit_of word) e ∙ admits_to _ _ _ h (ap (has care) (sym e) ∙ c) ∙ ap (has want) (sym e)
-      | inr ne ↦ r k within ne c
-    ]))
+rest_holds care want line word lt r = grind (arith, same_bool, admits_from, holds_Decides, cases_eq, bit_of, admits_to)
 
 not_rest : (care want line : ℕ) (word : List Bool) → holds care want word ≡ true → RestHold care want line word
 unfolding RestHold
@@ -125,10 +108,7 @@ symbols false false false true b h h2 d = absurd (false≢true (h2 refl))
 symbols false false false false b h h2 d = absurd (d refl refl)
 
 xor_cond : (x y : Bool) (u v w : List Bool) → u ≡ w → cond x (cond y u v) (cond y v w) ≡ cond (xor x y) v w
-xor_cond true true u v w e = e
-xor_cond true false u v w e = refl
-xor_cond false true u v w e = refl
-xor_cond false false u v w e = refl
+xor_cond x y u v w h = grind arith
 
 cut_hold : (care want line : ℕ) (word : List Bool) → holds care want word ≡ true → line < length word → holds (with_line care line false) want word ≡ true
 unfolding RestHold AlikeBut admits
@@ -138,16 +118,10 @@ cut_hold care want line word h lt =
     ∙ ap (λ c. cond c (same (bit_of word line) (has want line)) true) (with_line_here care line false)
 
 out_same : (x y : Bool) → not (same x y) ≡ false → x ≡ y
-out_same true true h = refl
-out_same true false h = absurd (false≢true (sym h))
-out_same false true h = absurd (false≢true (sym h))
-out_same false false h = refl
+out_same x y h = grind arith
 
 same_twice : (x y : Bool) → (not (same x x) || not (same y y)) ≡ false
-same_twice true true = refl
-same_twice true false = refl
-same_twice false true = refl
-same_twice false false = refl
+same_twice x y = grind arith
 
 from_rest : (c2 w2 c w line : ℕ) (word : List Bool) → line < length word → AlikeBut c2 w2 c w line → holds c2 w2 word ≡ true → holds (with_line c line false) w word ≡ true
 unfolding AlikeBut admits
@@ -200,9 +174,7 @@ third_holds c w c2 w2 line word lt e v v2 =
 
 exchanged_bit : (word : List Bool) (a b line : ℕ) → a < length word → b < length word
     → bit_of (exchanged word a b) line ≡ cond (eqb line b) (bit_of word a) (cond (eqb line a) (bit_of word b) (bit_of word line))
-exchanged_bit word a b line la lb =
-    bit_of-set (set word a (bit_of word b)) b line (bit_of word a) (omega (arith, length-set word a (bit_of word b)))
-    ∙ ap (cond (eqb line b) (bit_of word a)) (bit_of-set word a line (bit_of word b) la)
+exchanged_bit word a b line la lb = grind (arith, bit_of-set, bit_of, length-set)
 
 length-exchanged : (word : List Bool) (a b : ℕ) → length (exchanged word a b) ≡ length word
 length-exchanged word a b = length-set (set word a (bit_of word b)) b _ ∙ length-set word a _
@@ -234,14 +206,7 @@ exchanged_turned word a b ne = set_comm word b a (bit_of word a) (bit_of word b)
 swap_twice : (c w a b : ℕ) (word : List Bool) → has c a ≡ false → has c b ≡ false → a ≢ b → a < length word → b < length word
     → act (Swap c w a b) (act (Swap c w a b) word) ≡ word
 swap_twice c w a b word fa fb ne la lb =
-    let kept : holds c w (exchanged word a b) ≡ holds c w word = holds-set c w b (set word a (bit_of word b)) (bit_of word a) fb ∙ holds-set c w a word (bit_of word b) fa in
-    elim (cases_Bool (holds c w word)) [
-      | inl t ↦
-          ap (act (Swap c w a b)) (cond-true (holds c w word) (exchanged word a b) word t)
-          ∙ cond-true (holds c w (exchanged word a b)) _ _ (kept ∙ t) ∙ exchanged_twice word a b ne la lb
-      | inr f ↦
-          ap (act (Swap c w a b)) (cond-false (holds c w word) (exchanged word a b) word f) ∙ cond-false (holds c w word) _ _ f
-    ]
+    grind (arith, holds-set, bit_of, cases_Bool, cond-true, exchanged_twice, cond-false)
 
 swap_turned : (c w a b : ℕ) (word : List Bool) → a ≢ b → act (Swap c w b a) word ≡ act (Swap c w a b) word
 swap_turned c w a b word ne = ap (λ v. cond (holds c w word) v word) (exchanged_turned word a b ne)
@@ -249,10 +214,7 @@ swap_turned c w a b word ne = ap (λ v. cond (holds c w word) v word) (exchanged
 -- ---- joined gates do the same
 
 three_and : (p q r : Bool) → ((p && q) && r) ≡ true → (p ≡ true) × (q ≡ true) × (r ≡ true)
-three_and true true true e = (refl, refl, refl)
-three_and true true false e = absurd (false≢true e)
-three_and true false r e = absurd (false≢true e)
-three_and false q r e = absurd (false≢true e)
+three_and p q r h = grind arith
 
 pub cond_some : (b : Bool) (m : List Shape) (o : Option (List Shape)) → cond b o None ≡ Some m → (b ≡ true) × (o ≡ Some m)
 cond_some true m o e = (refl, e)

@@ -1,11 +1,10 @@
 -- What two gates come to touches no line that neither of them touches.
-use Rattle.std.proofs.Common.{◌≡◌, ℕ, ◌+◌, ◌<◌, ◌≤◌, Bool, true, false, cond, ◌||◌, ◌&&◌, eqb, List, [], ◌∷◌, length, refl, sym, ◌∙◌, ap, inl, inr, arith}
+use Rattle.std.proofs.Common.{◌≡◌, ℕ, ◌+◌, ◌<◌, ◌≤◌, Bool, true, false, cond, ◌||◌, ◌&&◌, eqb, List, [], ◌∷◌, length, refl, sym, ◌∙◌, ap, arith}
 use Rattle.std.specs.Prelude.{Option, Some, None}
 use Rattle.std.proofs.lemmas.Option.{none-some, same_Some}
-use Rattle.std.proofs.lemmas.Bool.{cases_eq, false≢true, or_cases, or_left, or_right, eqb-true}
+use Rattle.std.proofs.lemmas.Bool.{cases_eq, or_cases, or_left, or_right, eqb-true}
 use Rattle.rv_gate.specs.declared.word.TheConstants.{MOST_LINES}
-use Rattle.rv_gate.specs.Word.{has}
-use Rattle.rv_gate.specs.Gate.{xor, touches, touched}
+use Rattle.rv_gate.specs.Gate.{touches}
 use Rattle.rv_gate.specs.declared.gate.Shape.{Shape}
 use Rattle.rv_gate.specs.declared.gate.Shape.TheVariants.{Flip, Swap, Peres}
 use Rattle.rv_gate.proofs.inside.GateLemmas.{has-touched}
@@ -17,20 +16,7 @@ use Rattle.rv_templ.proofs.inside.Incidences.{incidences-cons, incidences-nil, c
 third_touches : (c w c2 w2 t line i : ℕ) → touches (third_flip c w c2 w2 t line) i ≡ true → (touches (Flip c w t) i || touches (Flip c2 w2 t) i) ≡ true
 unfolding third_flip
 third_touches c w c2 w2 t line i e =
-    elim (or_cases (has (with_line c line (xor (has c line) (has c2 line))) i) (eqb i t) e) [
-      | inr at ↦ or_left (has c i || eqb i t) _ (or_right (has c i) (eqb i t) at)
-      | inl on ↦ (elim (cases_eq i line) [
-        | inl s ↦ in_one (has c i) (has c2 i) (eqb i t)
-            (ap (λ k. xor (has c k) (has c2 k)) s ∙ sym (with_line_here c line (xor (has c line) (has c2 line))) ∙ ap (has (with_line c line (xor (has c line) (has c2 line)))) (sym s) ∙ on)
-        | inr ne ↦ or_left (has c i || eqb i t) _ (or_left (has c i) (eqb i t) (sym (with_line_other c line (xor (has c line) (has c2 line)) i ne) ∙ on))
-      ])
-    ]
-  where
-    in_one : (x y z : Bool) → xor x y ≡ true → ((x || z) || (y || z)) ≡ true
-    in_one true y z e = refl
-    in_one false true true e = refl
-    in_one false true false e = refl
-    in_one false false z e = absurd (false≢true e)
+    grind (arith, or_cases, with_line, or_left, or_right, cases_eq, with_line_here, with_line_other)
 
 cond_is : (b : Bool) (o : Option (List Shape)) (x : List Shape) → cond b o None ≡ Some x → (b ≡ true) × (o ≡ Some x)
 cond_is true o x e = (refl, e)
@@ -40,11 +26,7 @@ not_empty : (k : Shape) → ◌≡◌ {A = List Shape} [] (k ∷ []) → ⊥
 not_empty k e = cc
 
 third_is : (c w c2 w2 t : ℕ) (o : Option ℕ) (k : Shape) → third_at c w c2 w2 t o ≡ Some (k ∷ []) → (line : ℕ) × (third_flip c w c2 w2 t line ≡ k)
-third_is c w c2 w2 t None k e = absurd (none-some (k ∷ []) e)
-third_is c w c2 w2 t (Some line) k e = (line, first_of_one (third_flip c w c2 w2 t line) k (same_Some _ (k ∷ []) e))
-  where
-    first_of_one : (x y : Shape) → ◌≡◌ {A = List Shape} (x ∷ []) (y ∷ []) → x ≡ y
-    first_of_one x y e = cc
+third_is c w c2 w2 t o k h = grind arith
 
 flips_joined : (c w c2 w2 t : ℕ) (same : Bool) (o : Option (List Shape)) (k : Shape) → cond same (Some []) o ≡ Some (k ∷ []) → o ≡ Some (k ∷ [])
 flips_joined c w c2 w2 t true o k e = absurd (not_empty k (same_Some [] (k ∷ []) e))
@@ -66,9 +48,7 @@ joined_touches (Swap _ _ _ _) (Peres _ _ _) k i e on = absurd (none-some (k ∷ 
 joined_touches (Peres _ _ _) h k i e on = absurd (none-some (k ∷ []) e)
 
 pub joined_incidence : (g h k : Shape) → paired g h ≡ Some (k ∷ []) → incidence k ≤ incidence g + incidence h
-joined_incidence g h k e =
-    count_ones-within (touched k) (touched g) (touched h) (λ i on.
-    rw (has-touched g i, has-touched h i) (joined_touches g h k i e (sym (has-touched k i) ∙ on)))
+joined_incidence g h k e = grind (arith, count_ones-within, has-touched, joined_touches)
 
 pub joined_no_more : (g h : Shape) (m : List Shape) → paired g h ≡ Some m → length m < 2 → incidences m ≤ incidences (g ∷ h ∷ [])
 joined_no_more g h [] e short = let z = incidences-nil in omega arith

@@ -1,5 +1,6 @@
 -- Sets of lines without others, and the lines that gates touch.
-use Rattle.std.proofs.Common.{◌≡◌, ℕ, Bool, true, false, not, ◌&&◌, refl, sym, ◌∙◌, ap, inl, inr}
+use Rattle.std.proofs.Common.{arith}
+use Rattle.std.proofs.Common.{◌≡◌, ℕ, Bool, true, not, ◌&&◌, sym, ◌∙◌, ap, inl, inr}
 use Rattle.std.specs.Prelude.{bit_and}
 use Rattle.std.proofs.lemmas.Bool.{cases_Bool, false≢true}
 use Rattle.rv_gate.specs.Word.{has}
@@ -8,9 +9,7 @@ use Rattle.rv_gate.proofs.LineSets.{has-none, has-and, has-xor}
 use Rattle.rv_templ.specs.Images.{difference}
 
 without_bits : (x y : Bool) → not (same x (x && y)) ≡ (x && not y)
-without_bits true true = refl
-without_bits true false = refl
-without_bits false y = refl
+without_bits x y = grind arith
 
 pub has_without : (a b line : ℕ) → has (difference a b) line ≡ (has a line && not (has b line))
 has_without a b line =

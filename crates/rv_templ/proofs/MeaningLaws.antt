@@ -1,7 +1,7 @@
 -- The chosen window is a window, and where none is chosen there is none.
 use Rattle.std.proofs.Common.{◌≡◌, ℕ, zero, suc, ◌*◌, ◌<◌, ◌≤◌, Bool, true, false, not, ◌&&◌, ◌||◌, eqb, List, [], ◌∷◌, ◌++◌, length, take, drop, refl, sym, ◌∙◌, ap, inl, inr, arith, subst, eq-eqb, append_assoc}
 use Rattle.std.specs.Prelude.{leb, ltb, Some, None}
-use Rattle.std.proofs.lemmas.Bool.{cases_eq, cases_Bool, false≢true, and_parts, and_from, or_left, or_right, or_cases, cond-true, le-leb, lt-ltb, eqb-true, not_from_false, false_from_ne_true}
+use Rattle.std.proofs.lemmas.Bool.{cases_eq, cases_Bool, false≢true, and_parts, and_from, or_right, or_cases, cond-true, le-leb, lt-ltb, eqb-true, not_from_false, false_from_ne_true}
 use Rattle.std.proofs.lemmas.Option.{none-some, cond_some}
 use Rattle.std.proofs.lemmas.List.{get_or-take, length-take-le, append-nil}
 use Rattle.rv_gate.specs.declared.word.TheConstants.{MOST_LINES}
@@ -90,12 +90,7 @@ fresh_is window0 own care kept to at sub free =
 
 plain_from : (own : ℕ) (to : List ℕ) → IsRenaming own to → zero_elsewhere own to ≡ true
 unfolding zero_elsewhere
-plain_from own to r =
-    all_below-from (λ i. has own i || eqb (new_line to i) 0) 6 (λ i h.
-    elim (cases_Bool (has own i)) [
-      | inl on ↦ or_left (has own i) _ on
-      | inr off ↦ or_right (has own i) _ (eq-eqb (new_line to i) 0 (r.zero_elsewhere i h off))
-    ])
+plain_from own to r = grind arith
 
 distinct_from : (own : ℕ) (to : List ℕ) → IsRenaming own to → distinct own to ≡ true
 unfolding distinct

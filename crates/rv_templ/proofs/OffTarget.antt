@@ -1,4 +1,5 @@
 -- A gate makes no pair with one that doesn't touch its target.
+use Rattle.std.proofs.Common.{arith}
 use Rattle.std.proofs.Common.{◌≡◌, ℕ, true, false, ◌&&◌, ◌||◌, eqb, [], refl, sym, ◌∙◌, inl, inr, eq-eqb}
 use Rattle.std.specs.Prelude.{Some, None}
 use Rattle.std.proofs.lemmas.Bool.{cond-false, false≢true, and_parts, or_cases, or_left, or_right, false_from_ne_true, eqb-true}
@@ -11,9 +12,7 @@ use Rattle.rv_templ.specs.Pairs.{paired}
 
 -- the target is touched
 pub on_target : (g : Shape) → touches g (target_of g) ≡ true
-on_target (Flip c w t) = or_right (has c t) (eqb t t) (eq-eqb t t refl)
-on_target (Swap c w a b) = or_left (has c a || eqb a a) (eqb a b) (or_right (has c a) (eqb a a) (eq-eqb a a refl))
-on_target (Peres a b d) = or_left (eqb a a || eqb a b) (eqb a d) (or_left (eqb a a) (eqb a b) (eq-eqb a a refl))
+on_target g = grind arith
 
 pub joined_off : (g h : Shape) → touches h (target_of g) ≡ false → paired g h ≡ None
 unfolding paired

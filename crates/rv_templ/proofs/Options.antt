@@ -1,4 +1,5 @@
 -- Answers that may be missing.
+use Rattle.std.proofs.Common.{arith}
 use Rattle.std.proofs.Common.{◌≡◌, List, ◌++◌, refl, inl, inr, sym}
 use Rattle.std.specs.Option.{option_or}
 use Rattle.std.specs.Prelude.{◌⊎◌, Option, Some, None, option_map}
@@ -23,5 +24,4 @@ after_some before None out e = absurd (none-some out e)
 after_some before (Some l) out e = (l, refl, same_Some _ out e)
 
 pub after_none : (before : List Shape) (o : Option (List Shape)) → after_gates before o ≡ None → o ≡ None
-after_none before None e = refl
-after_none before (Some x) e = absurd (none-some _ (sym e))
+after_none before o h = grind arith

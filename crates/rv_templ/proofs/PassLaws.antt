@@ -1,9 +1,10 @@
 -- Flips of one target commute.
-use Rattle.std.proofs.Common.{◌≡◌, ℕ, ◌^◌, true, false, not, sym, ◌∙◌, ap}
+use Rattle.std.proofs.Common.{arith}
+use Rattle.std.proofs.Common.{◌≡◌, ℕ, ◌^◌, true, false, sym, ◌∙◌, ap}
 use Rattle.std.proofs.lemmas.Bool.{eqb-true, and_from, or_right}
 use Rattle.rv_gate.specs.Word.{has}
 use Rattle.rv_gate.specs.Gate.{IsGate}
-use Rattle.rv_gate.specs.Commuting.{meet, opposed, rule}
+use Rattle.rv_gate.specs.Commuting.{rule}
 use Rattle.rv_gate.specs.declared.gate.Shape.TheVariants.{Flip}
 use Rattle.rv_gate.proofs.LineSets.{Apart, has-line}
 use Rattle.rv_links.proofs.inside.UsedLemmas.{no_meet}
@@ -14,8 +15,4 @@ off_line set line off i on = ap (has set) (eqb-true i line (sym (has-line line i
 pub one_target : (care want care2 want2 target target2 : ℕ) → IsGate (Flip care want target) → IsGate (Flip care2 want2 target2) → target ≡ target2
     → true ≡ rule (Flip care want target) (Flip care2 want2 target2)
 unfolding rule
-one_target care want care2 want2 target target2 first second same =
-    sym (or_right (opposed (Flip care want target) (Flip care2 want2 target2)) _
-    (and_from (not (meet (2 ^ target) care2)) (not (meet (2 ^ target2) care))
-    (no_meet (2 ^ target) care2 (off_line care2 target (ap (has care2) same ∙ second.1)))
-    (no_meet (2 ^ target2) care (off_line care target2 (ap (has care) (sym same) ∙ first.1)))))
+one_target care want care2 want2 target target2 first second same = grind (arith, or_right, and_from, no_meet, off_line)

@@ -26,11 +26,7 @@ pub traded_left : (v u : ℕ) → traded v u v ≡ u
 traded_left v u = cond-true (eqb v v) u (cond (eqb v u) v v) (eq-eqb v v refl)
 
 pub traded_right : (v u : ℕ) → traded v u u ≡ v
-traded_right v u =
-    elim (cases_eq u v) [
-      | inl s ↦ cond-true (eqb u v) u (cond (eqb u u) v u) (eq-eqb u v s) ∙ s
-      | inr ne ↦ cond-false (eqb u v) u (cond (eqb u u) v u) (ne_eqb u v ne) ∙ cond-true (eqb u u) v u (eq-eqb u u refl)
-    ]
+traded_right v u = grind arith
 
 pub traded_other : (v u x : ℕ) → x ≢ v → x ≢ u → traded v u x ≡ x
 traded_other v u x a b = cond-false (eqb x v) u (cond (eqb x u) v x) (ne_eqb x v a) ∙ cond-false (eqb x u) v x (ne_eqb x u b)
@@ -62,28 +58,12 @@ traded_set v u set = with_line (with_line set v (has set u)) u (has set v)
 
 pub has-traded : (v u set x : ℕ) → has (traded_set v u set) x ≡ has set (traded v u x)
 has-traded v u set x =
-    elim (cases_eq x u) [
-      | inl s ↦ ap (has (traded_set v u set)) s ∙ with_line_here (with_line set v (has set u)) u (has set v) ∙ ap (has set) (sym (traded_right v u) ∙ ap (traded v u) (sym s))
-      | inr b ↦
-          with_line_other (with_line set v (has set u)) u (has set v) x b
-          ∙ (elim (cases_eq x v) [
-            | inl s ↦ ap (has (with_line set v (has set u))) s ∙ with_line_here set v (has set u) ∙ ap (has set) (sym (traded_left v u) ∙ ap (traded v u) (sym s))
-            | inr a ↦ with_line_other set v (has set u) x a ∙ ap (has set) (sym (traded_other v u x a b))
-          ])
-    ]
+    grind (arith, cases_eq, with_line_here, with_line, traded_right, with_line_other, traded_left, traded_other)
 
 pub renamed_traded : (own : ℕ) (to to2 : List ℕ) (v u set x : ℕ) → Part set own → ((j : ℕ) → j < 6 → has own j ≡ true → new_line to2 j ≡ traded v u (new_line to j))
     → has (renamed to2 set) x ≡ has (renamed to set) (traded v u x)
 renamed_traded own to to2 v u set x sub each =
-    same_bool _ _
-    (λ e.
-    let p = renamed_from to2 set x e in
-    let at : traded v u x ≡ new_line to p.0 = ap (traded v u) (p.3 ∙ each p.0 p.1 (sub p.0 p.2)) ∙ traded_twice v u (new_line to p.0) in
-    ap (has (renamed to set)) at ∙ renamed_has to set p.0 p.1 p.2)
-    (λ e.
-    let p = renamed_from to set (traded v u x) e in
-    let at : x ≡ new_line to2 p.0 = sym (traded_twice v u x) ∙ ap (traded v u) p.3 ∙ sym (each p.0 p.1 (sub p.0 p.2)) in
-    ap (has (renamed to2 set)) at ∙ renamed_has to2 set p.0 p.1 p.2)
+    grind (arith, same_bool, renamed_from, new_line, traded_twice, renamed_has)
 
 -- a renamed set with fresh lines
 pub both_traded : (own : ℕ) (to to2 : List ℕ) (v u set care x : ℕ) → Part set own → ((j : ℕ) → j < 6 → has own j ≡ true → new_line to2 j ≡ traded v u (new_line to j))

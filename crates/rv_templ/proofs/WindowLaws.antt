@@ -104,14 +104,10 @@ flip_at (x ∷ xs) zero f h = f.0
 flip_at (x ∷ xs) (suc j) f h = flip_at xs j f.1 (omega arith)
 
 pub target_touched : (g : Shape) → IsFlip g → touches g (target_of g) ≡ true
-target_touched (Flip c w t) f = or_right (has c t) (eqb t t) (eq-eqb t t refl)
-target_touched (Swap c w a b) f = absurd (false≢true f)
-target_touched (Peres a b d) f = absurd (false≢true f)
+target_touched g h = grind arith
 
 pub care_touched : (g : Shape) (line : ℕ) → IsFlip g → has (controls g) line ≡ true → touches g line ≡ true
-care_touched (Flip c w t) line f h = or_left (has c line) (eqb line t) h
-care_touched (Swap c w a b) line f h = absurd (false≢true f)
-care_touched (Peres a b d) line f h = absurd (false≢true f)
+care_touched g line h h1 = grind arith
 
 want_cared : (g : Shape) → IsFlip g → IsGate g → Part (wanted g) (controls g)
 want_cared (Flip c w t) f v = v.2
@@ -133,9 +129,7 @@ pub span_has : (gates : List Shape) (j line : ℕ) → j < length gates → touc
 span_has gates j line h e = union_part (λ k. touched (gate_in gates k)) (length gates) j line h (has-touched (gate_in gates j) line ∙ e)
 
 pub span_from : (gates : List Shape) (line : ℕ) → has (span gates) line ≡ true → (j : ℕ) × (j < length gates) × (touches (gate_in gates j) line ≡ true)
-span_from gates line e =
-    let p = part_of_union (λ k. touched (gate_in gates k)) (length gates) line e in
-    (p.0, p.1, sym (has-touched (gate_in gates p.0) line) ∙ p.2)
+span_from gates line e = grind (arith, part_of_union, gate_in, has-touched)
 
 serves_one : (own : ℕ) (g : Shape) → IsFlip g → IsGate g → FitsIn g 6 → ((line : ℕ) → touches g line ≡ true → has own line ≡ true) → Serves own g
 serves_one own g f v fits inside = record {
@@ -257,15 +251,7 @@ apart_from own to d i j hi hj oi oj e =
     ]
 
 pub same_gate_is : (g : Shape) (c w t : ℕ) → same_gate g (Flip c w t) ≡ true → g ≡ Flip c w t
-same_gate_is (Flip c2 w2 t2) c w t e =
-    let two = and_parts (eqb c2 c && eqb w2 w) (eqb t2 t) e in
-    let one = and_parts (eqb c2 c) (eqb w2 w) two.0 in
-    let a = eqb-true c2 c one.0 in
-    let b = eqb-true w2 w one.1 in
-    let d = eqb-true t2 t two.1 in
-    cc
-same_gate_is (Swap c2 w2 a b) c w t e = absurd (false≢true e)
-same_gate_is (Peres a b d) c w t e = absurd (false≢true e)
+same_gate_is g c w t h = grind arith
 
 pub match_at : (window template : List Shape) (to : List ℕ) (care want j : ℕ) → fits_window window template to care want ≡ true → j < length window
     → gate_in window j ≡ image_of to care want (gate_in template j)
@@ -288,13 +274,8 @@ window_is window template to care want m room =
 
 -- the new line of a line that a gate touches is touched by the gate's image
 pub touched_image : (to : List ℕ) (care want : ℕ) (g : Shape) (i : ℕ) → IsFlip g → i < 6 → touches g i ≡ true → touches (image_of to care want g) (new_line to i) ≡ true
-touched_image to care want (Flip c w t) i f h e =
-    elim (or_cases (has c i) (eqb i t) e) [
-      | inl on ↦ or_left (has (bit_or (renamed to c) care) (new_line to i)) _ (has-or (renamed to c) care (new_line to i) ∙ or_left (has (renamed to c) (new_line to i)) _ (renamed_has to c i h on))
-      | inr at ↦ or_right (has (bit_or (renamed to c) care) (new_line to i)) _ (eq-eqb (new_line to i) (new_line to t) (ap (new_line to) (eqb-true i t at)))
-    ]
-touched_image to care want (Swap c w a b) i f h e = absurd (false≢true f)
-touched_image to care want (Peres a b d) i f h e = absurd (false≢true f)
+touched_image to care want g i h h1 h2 =
+    grind (arith, or_cases, or_left, bit_or, new_line, has-or, renamed_has, or_right, eq-eqb, eqb-true)
 
 pub within_at : (gates : List Shape) (set j line : ℕ) → within gates set ≡ true → j < length gates → touches (gate_in gates j) line ≡ true → has set line ≡ true
 unfolding within
@@ -327,9 +308,7 @@ pub span_fits : (n : ℕ) (gates : List Shape) (line : ℕ) → AreGates n gates
 span_fits n gates line g e = let p = span_from gates line e in (gates_at n gates p.0 g p.1).1 line p.2
 
 pub without_parts : (a b line : ℕ) → has (difference a b) line ≡ true → (has a line ≡ true) × (has b line ≡ false)
-without_parts a b line e =
-    let p = and_parts (has a line) (not (has b line)) (sym (has_without a b line) ∙ e) in
-    (p.0, not-true (has b line) p.1)
+without_parts a b line e = grind (arith, and_parts, has_without, not-true)
 
 pub without_from : (a b line : ℕ) → has a line ≡ true → has b line ≡ false → has (difference a b) line ≡ true
 without_from a b line x y = has_without a b line ∙ and_from (has a line) (not (has b line)) x (ap not y)
@@ -391,10 +370,7 @@ replaces n window template to g most is some room e =
 
 -- and there are fewer gates
 pub shorter : (window template : List Shape) (to : List ℕ) → length template < 2 * length window → length (replacement window template to) < length window
-shorter window template to h =
-    let own : ℕ = span template in
-    let o : List Shape = others (length window) template to (fresh_care window own to) (fresh_want window own to) in
-    omega (arith, length-reverse o, length-map (drop (length window) template) (image_of to (fresh_care window own to) (fresh_want window own to)), length-drop (length window) template, h)
+shorter window template to h = grind (arith, fresh_care, fresh_want, length-reverse, length-map, image_of, length-drop)
 
 -- a list whose first gates are replaced
 pub replaced_same : (n : ℕ) (window new rest : List Shape) → Same n window new → Same n (window ++ rest) (new ++ rest)
@@ -403,31 +379,17 @@ replaced_same n window new rest s word len = run-append window rest word ∙ ap 
 -- ---- a turned list touches the same lines
 
 span_left : (xs ys : List Shape) (line : ℕ) → has (span xs) line ≡ true → has (span (xs ++ ys)) line ≡ true
-span_left xs ys line e =
-    let p = span_from xs line e in
-    span_has (xs ++ ys) p.0 line (omega (arith, p.1, length-append xs ys)) (ap (λ g. touches g line) (get_or_append_left xs ys (Peres 0 0 0) p.0 p.1) ∙ p.2)
+span_left xs ys line e = grind (arith, span_from, span_has, length-append, get_or_append_left)
 
 span_right : (xs ys : List Shape) (line : ℕ) → has (span ys) line ≡ true → has (span (xs ++ ys)) line ≡ true
-span_right xs ys line e =
-    let p = span_from ys line e in
-    span_has (xs ++ ys) (length xs + p.0) line (omega (arith, p.1, length-append xs ys)) (ap (λ g. touches g line) (get_or-append-add xs ys p.0 (Peres 0 0 0)) ∙ p.2)
+span_right xs ys line e = grind (arith, span_from, span_has, length-append, get_or-append-add)
 
 span_either : (xs ys : List Shape) (line : ℕ) → has (span (xs ++ ys)) line ≡ true → (has (span xs) line ≡ true) ⊎ (has (span ys) line ≡ true)
 span_either xs ys line e =
-    let p = span_from (xs ++ ys) line e in
-    elim (cases_lt p.0 (length xs)) [
-      | inl lt ↦ inl (span_has xs p.0 line lt (ap (λ g. touches g line) (sym (get_or_append_left xs ys (Peres 0 0 0) p.0 lt)) ∙ p.2))
-      | inr ge ↦
-          inr (span_has ys (p.0 - length xs) line (omega (arith, p.1, length-append xs ys))
-          (ap (λ g. touches g line) (sym (get_or-append_right xs ys (length xs) p.0 (Peres 0 0 0) refl ge)) ∙ p.2))
-    ]
+    grind (arith, span_from, cases_lt, span_has, get_or_append_left, length-append, get_or-append_right)
 
 span_exchanged : (xs ys : List Shape) (line : ℕ) → has (span (xs ++ ys)) line ≡ true → has (span (ys ++ xs)) line ≡ true
-span_exchanged xs ys line e =
-    elim (span_either xs ys line e) [
-      | inl l ↦ span_right ys xs line l
-      | inr r ↦ span_left ys xs line r
-    ]
+span_exchanged xs ys line e = grind (arith, span_either, span_right, span_left)
 
 pub span_turned : (r : ℕ) (t : List Shape) → span (turned r t) ≡ span t
 span_turned r t =

@@ -1,5 +1,5 @@
 -- Unions and tests over numbers, and the least list that passes a test.
-use Rattle.std.specs.Prelude.{ℕ, zero, suc, Bool, true, ◌&&◌, if◌then◌else◌, List, [], ◌∷◌, ◌++◌, bit_or, Option, Some, None}
+use Rattle.std.specs.Prelude.{ℕ, zero, suc, Bool, if◌then◌else◌, List, [], ◌∷◌, ◌++◌, bit_or, Option, Some, None}
 use Rattle.rv_gate.specs.FirstAnswer.{first}
 use Rattle.rv_gate.specs.declared.word.TheConstants.{MOST_LINES}
 

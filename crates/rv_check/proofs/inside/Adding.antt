@@ -1,4 +1,5 @@
 -- A value added to that of a word.
+use Rattle.rv_gate.proofs.Words.{same_word-true, same_word-false}
 use Rattle.std.proofs.Common.{◌≡◌, ◌≢◌, ℕ, zero, suc, ◌<◌, Bool, cond, List, [], ◌∷◌, ◌++◌, length, get_or, set, refl, sym, ap, ◌∙◌, arith, le_of_suc-le-suc, not-suc-le-zero, inl, inr, All, length-append, get_or-set_same, get_or-set_other}
 use Rattle.std.proofs.lemmas.Bool.{cases_eq}
 use Rattle.std.proofs.lemmas.List.{get_or_append_left}
@@ -8,7 +9,7 @@ use Rattle.rv_net.specs.Cyclotomic.{Cyclotomic, plus}
 use Rattle.rv_check.specs.declared.member.Member.{Member}
 use Rattle.rv_check.specs.inside.Kept.{added}
 use Rattle.rv_check.specs.inside.Placed.{ArePlaced}
-use Rattle.rv_check.proofs.Words.{same_word-true, same_word-false, same_from_ones}
+use Rattle.rv_check.proofs.Words.{same_from_ones}
 
 abbrev pub more : Member → Cyclotomic → Member
 more m v = record m { value = plus m.value v }
@@ -33,11 +34,7 @@ added_new (m ∷ ms) w v d other =
 -- the word found at its place
 pub added_at_place : (places : List ℕ) (ms : List Member) (w : List Bool) (v : Cyclotomic) (i : ℕ) (d : Member) → ArePlaced places ms → i < length ms
     → (get_or ms i d).word ≡ w → added ms w v ≡ set ms i (more (get_or ms i d) v)
-added_at_place places ms w v i d placed h e =
-    added_at ms w v i d h e (λ j lt same.
-    let at_j : get_or places (ones_of w) 0 ≡ j = ap (λ x. get_or places (ones_of x) 0) (sym same) ∙ placed j d (omega arith) in
-    let at_i : get_or places (ones_of w) 0 ≡ i = ap (λ x. get_or places (ones_of x) 0) (sym e) ∙ placed i d h in
-    omega arith)
+added_at_place places ms w v i d placed h e = grind (arith, added_at, ones_of)
 
 -- the word not found at its place
 pub IsNew : List Member → List Bool → Type 0

@@ -1,4 +1,5 @@
 -- Members whose words differ: the value at a member's word is that member's value.
+use Rattle.rv_gate.proofs.Words.{same_word-is, same_word-true, same_word-false}
 use Rattle.std.proofs.Common.{◌≡◌, ◌≢◌, ℕ, Bool, true, false, cond, ◌&&◌, List, [], ◌∷◌, map, length, set, fold, filter, refl, sym, ap, ap₂, ◌∙◌}
 use Rattle.std.proofs.lemmas.Bool.{false≢true, and_parts}
 use Rattle.std.proofs.lemmas.List.Elements.{All-head, All-tail}
@@ -15,7 +16,6 @@ use Rattle.rv_check.specs.inside.Stands.{Apart, Fresh, On, value_at}
 use Rattle.rv_check.proofs.inside.Adding.{more}
 use Rattle.rv_check.proofs.Back.{goes_apart}
 use Rattle.rv_check.proofs.inside.Sparse.{Word}
-use Rattle.rv_check.proofs.Words.{same_word-true, same_word-false, same_from_same_word}
 
 fresh-added : (u : Word) (ms : List Member) (w : Word) (v : Cyclotomic) → Fresh u ms → w ≢ u → Fresh u (added ms w v)
 unfolding added
@@ -108,7 +108,7 @@ values_pass f none (m ∷ ms) h e z =
     go (same_word m.word z) refl b.0 (values_pass f none ms h.1 b.1 z) where
       go : (b : Bool) → same_word m.word z ≡ b → f m.word m.value ≡ true → f z (value_at ms z) ≡ true → f z (value_at (m ∷ ms) z) ≡ true
       go true e p r =
-          let same = same_from_same_word m.word z e in
+          let same = same_word-is m.word z e in
           ap₂ f (sym same) (head_value m ms z same h.0) ∙ p
       go false e p r = ap (f z) (tail_value m ms z (λ same. false≢true (sym e ∙ same_word-true m.word z same))) ∙ r
 
@@ -121,5 +121,5 @@ members_pass f none n (m ∷ ms) h on passes =
     ap₂ (λ a b. a && b) own (members_pass f none n ms h.1 (All-tail (λ m. length m.word ≡ n) m ms on)
     (λ z e. go z (same_word m.word z) refl (passes z e))) where
       go : (z : Word) (b : Bool) → same_word m.word z ≡ b → f z (value_at (m ∷ ms) z) ≡ true → f z (value_at ms z) ≡ true
-      go z true e p = ap (f z) (fresh_value z ms (rw (sym (same_from_same_word m.word z e)) h.0)) ∙ none z
+      go z true e p = ap (f z) (fresh_value z ms (rw (sym (same_word-is m.word z e)) h.0)) ∙ none z
       go z false e p = ap (f z) (sym (tail_value m ms z (λ same. false≢true (sym e ∙ same_word-true m.word z same)))) ∙ p

@@ -1,4 +1,5 @@
 -- Values of all words taken from members, and made members again.
+use Rattle.rv_gate.proofs.Words.{same_word-true, same_word-false}
 use Rattle.std.proofs.Common.{◌≡◌, ◌≢◌, ℕ, zero, suc, ◌+◌, ◌^◌, ◌<◌, Bool, true, false, cond, List, [], ◌∷◌, ◌++◌, map, length, filter, take, get_or, set, All, refl, sym, ap, ap₂, ◌∙◌, arith, inl, inr, ◌⊎◌, ◌||◌, ℤ, subst, get_or-set_same, get_or-set_other}
 use Rattle.std.proofs.lemmas.Bool.{cases_eq, le-ltb}
 use Rattle.std.proofs.lemmas.List.{take_more}
@@ -27,7 +28,6 @@ use Rattle.rv_check.proofs.inside.Sparse.{Word, value_at-filter}
 use Rattle.rv_check.proofs.inside.Stands.{over_reduced}
 use Rattle.rv_check.proofs.inside.Vectors.{vector_all}
 use Rattle.rv_check.proofs.inside.Wholes.{reduced_values}
-use Rattle.rv_check.proofs.Words.{same_word-false, same_word-true}
 
 -- ---- a member for each word
 

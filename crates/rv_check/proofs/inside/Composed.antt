@@ -1,5 +1,6 @@
 -- Operations that are done by three others.
-use Rattle.std.proofs.Common.{arith, ◌≡◌, ◌≢◌, ℕ, ◌<◌, Bool, true, cond, not, ◌&&◌, length, map, set, sym, ap, ap₂, ◌∙◌, set-set, length-set, subst}
+use Rattle.std.proofs.lemmas.Grind.{common_steps}
+use Rattle.std.proofs.Common.{arith, ◌≡◌, ◌≢◌, ℕ, ◌<◌, Bool, cond, not, ◌&&◌, length, map, set, sym, ap, set-set, length-set, subst}
 use Rattle.std.proofs.lemmas.List.{set_comm}
 use Rattle.rv_gate.specs.Gate.{xor}
 use Rattle.rv_gate.specs.Word.{bit_of}
@@ -8,7 +9,6 @@ use Rattle.rv_net.specs.Op.{OpFitsIn, goes_to}
 use Rattle.rv_net.specs.declared.op.Op.TheVariants.{X, Y, S, Sdg, Cx, Ccx, Swap, Cswap}
 use Rattle.rv_check.specs.Reduced.{words}
 use Rattle.rv_check.specs.inside.Dense.{moved_at}
-use Rattle.rv_check.proofs.Back.{here, there}
 use Rattle.rv_check.proofs.inside.Numbers.{same_map}
 use Rattle.rv_check.proofs.inside.Sparse.{Word}
 
@@ -20,22 +20,12 @@ y_turned b u = grind arith
 
 pub y_of_three : (n q : ℕ) (f : Word → Cyclotomic) → q < n → map (moved_at (S q) (moved_at (X q) (moved_at (Sdg q) f))) (words n) ≡ map (moved_at (Y q) f) (words n)
 unfolding times_w_power
-y_of_three n q f lt =
-    same_map _ _ n (λ x l.
-    let y = set x q (not (bit_of x q)) in
-    let e : bit_of y q ≡ not (bit_of x q) = here x q _ (subst (λ m. q < m) (sym l) lt) in
-    ap (λ b. times_w_power (cond (bit_of x q) 2 0) (times_w_power (cond b 6 0) (f y))) e
-    ∙ y_turned (bit_of x q) (f y)
-    ∙ ap (λ b. times_w_power (cond b 6 2) (f y)) (sym e))
+y_of_three n q f lt = grind (arith, common_steps, same_map, bit_of, times_w_power, y_turned)
 
 -- ---- swaps
 
 thrice : (x : Word) (a b : ℕ) (p q r s t : Bool) → a ≢ b → q ≡ t → r ≡ s → set (set (set x a p) b q) a r ≡ set (set x a s) b t
-thrice x a b p q r s t ne e g =
-    ap (λ l. set l a r) (set_comm x a b p q ne)
-    ∙ set-set (set x b q) a p r
-    ∙ sym (set_comm x a b r q ne)
-    ∙ ap₂ (λ u v. set (set x a u) b v) g e
+thrice x a b p q r s t ne e g = grind (arith, set_comm, set-set)
 
 other_of : (s t : Bool) → xor (xor t s) t ≡ s
 other_of s t = grind arith
@@ -47,27 +37,10 @@ held_back : (on s t : Bool) → xor (cond on s t) (xor t s) ≡ cond on t s
 held_back on s t = grind arith
 
 swap_of_three : (x : Word) (a b : ℕ) → OpFitsIn (Swap a b) (length x) → goes_to (Cx b a) (goes_to (Cx a b) (goes_to (Cx b a) x)) ≡ goes_to (Swap a b) x
-swap_of_three x a b h =
-    let p = xor (bit_of x b) (bit_of x a) in
-    let y = set x a p in
-    let at_a : bit_of y a ≡ p = here x a p h.0 in
-    let at_b : bit_of y b ≡ bit_of x b = there x a b p (λ e. h.2 (sym e)) in
-    let q = xor (bit_of y a) (bit_of y b) in
-    let second : q ≡ bit_of x a = ap₂ xor at_a at_b ∙ held_other true (bit_of x a) (bit_of x b) in
-    let z = set y b q in
-    thrice x a b p q _ (bit_of x b) (bit_of x a) h.2 second
-    (ap₂ xor (here y b q (subst (λ m. b < m) (sym (length-set x a p)) h.1) ∙ second) (there y b a q h.2 ∙ at_a) ∙ held_back true (bit_of x a) (bit_of x b))
+swap_of_three x a b h = grind (arith, common_steps, bit_of, held_other, thrice, length-set, held_back)
 
 cswap_of_three : (x : Word) (c a b : ℕ) → OpFitsIn (Cswap c a b) (length x) → goes_to (Cx b a) (goes_to (Ccx c a b) (goes_to (Cx b a) x)) ≡ goes_to (Cswap c a b) x
-cswap_of_three x c a b h =
-    let p = xor (bit_of x b) (bit_of x a) in
-    let y = set x a p in
-    let at_a : bit_of y a ≡ p = here x a p h.1 in
-    let at_b : bit_of y b ≡ bit_of x b = there x a b p (λ e. h.5 (sym e)) in
-    let q = xor (bit_of y c && bit_of y a) (bit_of y b) in
-    let second : q ≡ cond (bit_of x c) (bit_of x a) (bit_of x b) = ap₂ xor (ap₂ (λ u v. u && v) (there x a c p h.3) at_a) at_b ∙ held_other (bit_of x c) (bit_of x a) (bit_of x b) in
-    thrice x a b p q _ (cond (bit_of x c) (bit_of x b) (bit_of x a)) _ h.5 second
-    (ap₂ xor (here y b q (subst (λ m. b < m) (sym (length-set x a p)) h.2) ∙ second) (there y b a q h.5 ∙ at_a) ∙ held_back (bit_of x c) (bit_of x a) (bit_of x b))
+cswap_of_three x c a b h = grind (arith, common_steps, bit_of, held_other, thrice, length-set, held_back)
 
 pub swap_moves : (n a b : ℕ) (f : Word → Cyclotomic) → OpFitsIn (Swap a b) n → map (moved_at (Cx b a) (moved_at (Cx a b) (moved_at (Cx b a) f))) (words n) ≡ map (moved_at (Swap a b) f) (words n)
 unfolding times_w_power

@@ -1,4 +1,6 @@
 -- What the kept vector tells of the whole one.
+use Rattle.rv_gate.proofs.Bits.{same_bool, or_true, and_false}
+use Rattle.rv_gate.proofs.Words.{same_word-is, same_word-same, same_word-true}
 use Rattle.std.proofs.Common.{◌≡◌, ℕ, zero, suc, ◌+◌, Bool, true, false, cond, not, ◌&&◌, ◌||◌, ◌==◌, List, map, length, refl, sym, ap, ap₂, ◌∙◌, arith, inl, inr, ◌⊎◌, ℤ}
 use Rattle.std.proofs.lemmas.Bool.Decides.{Decides-int_eq}
 use Rattle.std.specs.Ordering.{int_eq}
@@ -18,8 +20,7 @@ use Rattle.rv_check.proofs.inside.Apart.{members_pass, values_pass}
 use Rattle.rv_check.proofs.inside.Multiples.{multiple-nought, multiple-root2}
 use Rattle.rv_check.proofs.inside.Scaled.{scaled-nought, scaled-unity, scaled_cancel}
 use Rattle.rv_check.proofs.inside.Sparse.{Word, same_from}
-use Rattle.rv_check.proofs.inside.Vectors.{all_words, any_is, each_word, reduced_is, same_bool, vector_all, vector_large}
-use Rattle.rv_check.proofs.Words.{same_word-same, same_word-true, same_from_same_word}
+use Rattle.rv_check.proofs.inside.Vectors.{all_words, any_is, each_word, reduced_is, vector_all, vector_large}
 
 -- ---- the reduced vector
 
@@ -69,12 +70,6 @@ neither_one : are_same nought unity ≡ false
 unfolding nought unity
 neither_one = refl
 
-or_true : (b : Bool) → (b || true) ≡ true
-or_true b = grind arith
-
-and_false : (b : Bool) → (b && false) ≡ false
-and_false b = grind arith
-
 -- 0, or the image with the value 1
 fitting : Word → Word → Cyclotomic → Bool
 fitting image w v = not (not (are_same v nought)) || (same_word w image && are_same v unity)
@@ -111,7 +106,7 @@ only_from_map n ms image apart on l is =
     false≢true (sym (other_one image) ∙ ap (other image image) (sym (image_value n ms image is l)) ∙ values_pass (other image) (other_nought image) ms apart all image)))) where
       go : (z : Word) (b : Bool) → same_word image z ≡ b → value_at ms z ≡ at_word image z unity → fitting image z (value_at ms z) ≡ true
       go z true e v =
-          let same = same_from_same_word image z e in
+          let same = same_word-is image z e in
           ap (fitting image z) (v ∙ ap (λ b. cond b unity nought) e) ∙ ap (λ w. fitting image w unity) (sym same) ∙ fitting_one image
       go z false e v = ap (fitting image z) (v ∙ ap (λ b. cond b unity nought) e) ∙ fitting_nought image z
 
@@ -121,7 +116,7 @@ unfolding fitting
 fitting_cases image z v e = go (are_same v nought) refl (same_word z image) refl (are_same v unity) refl e where
   go : (a : Bool) → are_same v nought ≡ a → (b : Bool) → same_word z image ≡ b → (c : Bool) → are_same v unity ≡ c → (not (not a) || (b && c)) ≡ true → (v ≡ nought) ⊎ ((z ≡ image) × (v ≡ unity))
   go true p b q c r e = inl (same_from v nought p)
-  go false p true q true r e = inr (same_from_same_word z image q, same_from v unity r)
+  go false p true q true r e = inr (same_word-is z image q, same_from v unity r)
   go false p true q false r e = absurd (false≢true e)
   go false p false q c r e = absurd (false≢true e)
 
@@ -129,7 +124,7 @@ one_at_image : (n : ℕ) (ms : List Member) (image : Word) → Apart ms → On n
 unfolding other
 one_at_image n ms image apart on any = go (are_same (value_at ms image) unity) refl where
   rest : are_same (value_at ms image) unity ≡ false → (z : Word) → (b : Bool) → same_word z image ≡ b → other image z (value_at ms z) ≡ true
-  rest e z true q = ap (λ w. other image z (value_at ms w)) (same_from_same_word z image q) ∙ ap (λ b. not (same_word z image && b)) e ∙ ap not (and_false (same_word z image))
+  rest e z true q = ap (λ w. other image z (value_at ms w)) (same_word-is z image q) ∙ ap (λ b. not (same_word z image && b)) e ∙ ap not (and_false (same_word z image))
   rest e z false q = ap (λ b. not (b && are_same (value_at ms z) unity)) q
 
   go : (b : Bool) → are_same (value_at ms image) unity ≡ b → value_at ms image ≡ unity
@@ -143,7 +138,7 @@ map_from_only n ms image apart on e z l =
     let b = and_parts (list_all (λ m. not (is_present m) || is_image image m) ms) (list_any (is_image image) ms) e in
     go (same_word image z) refl (one_at_image n ms image apart on b.1) (fitting_cases image z (value_at ms z) (values_pass (fitting image) (fitting_nought image) ms apart b.0 z)) where
       go : (c : Bool) → same_word image z ≡ c → value_at ms image ≡ unity → (value_at ms z ≡ nought) ⊎ ((z ≡ image) × (value_at ms z ≡ unity)) → value_at ms z ≡ cond c unity nought
-      go true q one cases = ap (value_at ms) (sym (same_from_same_word image z q)) ∙ one
+      go true q one cases = ap (value_at ms) (sym (same_word-is image z q)) ∙ one
       go false q one (inl v) = v
       go false q one (inr (same, v)) = absurd (false≢true (sym q ∙ same_word-true image z (sym same)))
 

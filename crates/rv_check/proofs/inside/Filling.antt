@@ -1,5 +1,5 @@
 -- Values that are filled in, and members that are collected.
-use Rattle.std.proofs.Common.{◌≡◌, ℕ, zero, suc, ◌+◌, ◌<◌, List, [], ◌∷◌, ◌++◌, filter, map, length, take, drop, get_or, All, refl, sym, ap, ◌∙◌, arith, subst, append_assoc}
+use Rattle.std.proofs.Common.{◌≡◌, ℕ, zero, suc, ◌+◌, ◌<◌, List, [], ◌∷◌, ◌++◌, filter, map, length, take, drop, get_or, All, refl, sym, arith, subst, append_assoc}
 use Rattle.std.proofs.lemmas.List.{drop_more}
 use Rattle.rv_gate.specs.Word.{number_of, word_of}
 use Rattle.rv_net.specs.Cyclotomic.{Cyclotomic, nought}
@@ -34,14 +34,7 @@ pub collected_more : (n i : ℕ) (vs : List Cyclotomic) (ms os : List Member) (d
     → os ≡ ms ++ record { word = word_of n i; value = get_or vs i d } ∷ [] → ms ++ members_from n i (drop i vs) ≡ members_from n 0 vs
     → os ++ members_from n (i + 1) (drop (i + 1) vs) ≡ members_from n 0 vs
 unfolding members_from
-collected_more n i vs ms os d lt is before =
-    let e : suc i ≡ i + 1 = omega arith in
-    let one : Member = record { word = word_of n i; value = get_or vs i d } in
-    let parts = drop_more vs i d lt in
-    ap (λ l. l ++ members_from n (i + 1) (drop (i + 1) vs)) is
-    ∙ append_assoc ms (one ∷ []) (members_from n (i + 1) (drop (i + 1) vs))
-    ∙ ap (λ l. ms ++ l) (sym (ap (members_from n i) parts ∙ ap (λ j. one ∷ members_from n j (drop (i + 1) vs)) e))
-    ∙ before
+collected_more n i vs ms os d lt is before = grind (arith, word_of, drop_more, members_from, append_assoc)
 
 -- the members taken over, and made again
 pub filled_shows : (ops : List Op) (x : Word) (n start : ℕ) (vs : List Cyclotomic) (k : Kept) → length x ≡ n → (Apart k.members → vs ≡ map (value_at k.members) (words n)) → Stands (take start ops) x k

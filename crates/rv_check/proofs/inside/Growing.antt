@@ -1,5 +1,5 @@
 -- A vector that grows by what is added.
-use Rattle.std.proofs.Common.{◌≡◌, ℕ, suc, ◌+◌, ◌*◌, ◌^◌, ◌≤◌, Bool, true, false, cond, List, [], ◌∷◌, length, set, All, fold, ◌∙◌, arith, length-set}
+use Rattle.std.proofs.Common.{◌≡◌, ℕ, suc, ◌+◌, ◌*◌, ◌^◌, ◌≤◌, Bool, true, false, cond, List, [], ◌∷◌, length, All, fold, ◌∙◌, arith, length-set}
 use Rattle.std.proofs.lemmas.List.Elements.{All-nil, All-cons, All-filter, All-head, All-tail}
 use Rattle.rv_gate.specs.Word.{bit_of}
 use Rattle.rv_net.specs.Amplitude.{same_word}
@@ -53,10 +53,7 @@ signed_small p false v h = h
 
 pub length-spread : (line : ℕ) (ms : List Member) (m : Member) → length (spread line ms m) ≤ length ms + 2
 unfolding spread
-length-spread line ms m =
-    let first = length-added ms (set m.word line false) m.value in
-    let second = length-added (added ms (set m.word line false) m.value) (set m.word line true) (cond (bit_of m.word line) (negated m.value) m.value) in
-    omega arith
+length-spread line ms m = grind (arith, length-added, bit_of)
 
 pub on-spread : (n line : ℕ) (ms : List Member) (m : Member) → On n ms → length m.word ≡ n → On n (spread line ms m)
 unfolding spread

@@ -1,11 +1,12 @@
 -- Passes over the places that have the bit 1 wherever a mask has it.
+use Rattle.rv_gate.proofs.LineSets.{bit_or-assoc}
 use Rattle.std.proofs.Common.{◌≡◌, ◌≢◌, ◌⊎◌, ℕ, zero, suc, ◌+◌, ◌-◌, ◌*◌, ◌/◌, ◌%◌, ◌^◌, ◌<◌, ◌≤◌, ◌==◌, ◌&&◌, Bool, true, false, cond, List, map, length, get_or, set, refl, sym, ap, ap₂, ◌∙◌, arith, inl, inr, length-set}
 use Rattle.std.proofs.Math.Nat.{add-div_right}
 use Rattle.std.proofs.Math.Pow.{pow_mono}
-use Rattle.std.proofs.lemmas.Bool.{both_ways, cases_eq, cases_lt, eq-eqb, eqb-false, eqb-true, ne_eqb}
+use Rattle.std.proofs.lemmas.Bool.{cases_eq, cases_lt, eq-eqb, eqb-false, eqb-true, ne_eqb}
 use Rattle.std.proofs.lemmas.List.{get_or-set_other, get_or-set_same}
 use Rattle.std.proofs.lemmas.Nat.{and_or_self, le_or_l, le_or_r}
-use Rattle.std.proofs.lemmas.Nat.Bits.{and_pow, bit_at-lt, bit_at_or, same_from_bits}
+use Rattle.std.proofs.lemmas.Nat.Bits.{and_pow, bit_at-lt}
 use Rattle.std.specs.Int.{bit_at}
 use Rattle.std.specs.Int.Bits.{bit_or, or_add_and, or_self, or_step, or_zero_r}
 use Rattle.rv_gate.specs.Word.{bit_of, number_of, word_of}
@@ -24,9 +25,7 @@ covered : (mask k : ℕ) → covers mask k ≡ true → Covers mask k
 covered mask k e = eqb-true (bit_or k mask) k e
 
 half_step : (k m : ℕ) → bit_or k m ≡ k → (bit_or (k / 2) (m / 2) ≡ k / 2) × (m % 2 ≤ k % 2)
-half_step k m h =
-    let s = or_step k m in
-    (omega (arith, h, s), omega (arith, h, s))
+half_step k m h = grind (arith, or_step)
 
 -- the next such place after one is the number after it with the mask's bits
 next_le : (n p q m : ℕ) → m ≤ n → Covers m p → Covers m q → p < q → bit_or (p + 1) m ≤ q
@@ -52,10 +51,7 @@ pub next_covers : (m k : ℕ) → Covers m (bit_or k m)
 next_covers m k = omega (arith, or_add_and (bit_or k m) m, and_or_self m k)
 
 pub none_before : (m k : ℕ) → k < m → covers m k ≡ false
-none_before m k lt = go (covers m k) refl where
-  go : (b : Bool) → covers m k ≡ b → b ≡ false
-  go true e = absurd (omega (arith, lt, le_or_r k m, covered m k e))
-  go false e = refl
+none_before m k lt = grind (arith, le_or_r, covered)
 
 pub none_between : (m p k : ℕ) → Covers m p → p < k → k < bit_or (p + 1) m → covers m k ≡ false
 none_between m p k g less lt = go (covers m k) refl where
@@ -134,21 +130,9 @@ covers_line n q x l lt =
     covers_bit (n - 1 - q) (number_of x)
     ∙ sym (sym (ap (λ y. get_or y q false) (ap (λ k. word_of k (number_of x)) (sym l) ∙ word_of-number_of x)) ∙ bit_of-word_of n (number_of x) q lt)
 
-or_all : (k a b : ℕ) → bit_or k (bit_or a b) ≡ bit_or (bit_or k a) b
-or_all k a b =
-    same_from_bits _ _ (λ i.
-    omega (arith, bit_at_or k (bit_or a b) i, bit_at_or a b i, bit_at_or (bit_or k a) b i, bit_at_or k a i))
-
 -- both masks
 pub covers_both : (a b k : ℕ) → covers (bit_or a b) k ≡ (covers a k && covers b k)
-covers_both a b k = go (covers (bit_or a b) k) (covers a k) (covers b k) refl refl refl where
-  go : (p q r : Bool) → covers (bit_or a b) k ≡ p → covers a k ≡ q → covers b k ≡ r → p ≡ (q && r)
-  go true true true e f g = refl
-  go true false r e f g = absurd (eqb-false _ k f (omega (arith, covered (bit_or a b) k e, or_all k a b, le_or_l (bit_or k a) b, le_or_l k a)))
-  go true true false e f g = absurd (eqb-false _ k g (let s = covered a k f in sym (or_all k a b ∙ ap (λ j. bit_or j b) s) ∙ covered (bit_or a b) k e))
-  go false true true e f g = absurd (eqb-false _ k e (or_all k a b ∙ ap (λ j. bit_or j b) (covered a k f) ∙ covered b k g))
-  go false true false e f g = refl
-  go false false r e f g = refl
+covers_both a b k = grind (arith, bit_or, eqb-false, covered, bit_or-assoc, le_or_l)
 
 -- ---- pairs of places that differ in one bit of the mask
 
@@ -159,7 +143,7 @@ pub record HasBit (m b : ℕ) : Type 0 where
   pub apart : (k : ℕ) → covers m (k + b) ≡ true → covers m k ≡ false
 
 covers_more : (m b k : ℕ) → Covers m k → Covers b m → Covers b k
-covers_more m b k g h = ap (λ j. bit_or j b) (sym g) ∙ sym (or_all k m b) ∙ ap (bit_or k) h ∙ g
+covers_more m b k g h = ap (λ j. bit_or j b) (sym g) ∙ sym (bit_or-assoc k m b) ∙ ap (bit_or k) h ∙ g
 
 pub has_bit : (m b i : ℕ) → b ≡ 2 ^ i → Covers b m → HasBit m b
 has_bit m b i e h = record {
@@ -196,27 +180,18 @@ pub record Paired (m b : ℕ) (low high : Cyclotomic → Cyclotomic → Cyclotom
   pub rest : (k : ℕ) → place ≤ Top m b k → get_or after k nought ≡ get_or before k nought
 
 top_none : (m b k : ℕ) → covers m (Top m b k) ≡ false → (covers m k ≡ false) × (covers m (k + b) ≡ false)
-top_none m b k none = go (covers m k) refl where
-  go : (c : Bool) → covers m k ≡ c → (covers m k ≡ false) × (covers m (k + b) ≡ false)
-  go true e = absurd (both_ways _ (sym (ap (λ c. covers m (cond c k (k + b))) e) ∙ none) e)
-  go false e = (e, sym (ap (λ c. covers m (cond c k (k + b))) e) ∙ none)
+top_none m b k none = grind arith
 
 -- a place that belongs to no pair
 pub other_pair : (m b k : ℕ) (low high : Cyclotomic → Cyclotomic → Cyclotomic) (vs : List Cyclotomic) → (covers m k ≡ false) × (covers m (k + b) ≡ false) → Pair m b low high vs k ≡ get_or vs k nought
-other_pair m b k low high vs (e, g) =
-    let h = high (get_or vs (k - b) nought) (get_or vs k nought) in
-    let l = low (get_or vs k nought) (get_or vs (k + b) nought) in
-    ap (λ c. cond c h (cond (covers m (k + b)) l (get_or vs k nought))) e ∙ ap (λ c. cond c l (get_or vs k nought)) g
+other_pair m b k low high vs (e, g) = grind arith
 
 pub high_pair : (m b k : ℕ) (low high : Cyclotomic → Cyclotomic → Cyclotomic) (vs : List Cyclotomic) → covers m k ≡ true → Pair m b low high vs k ≡ high (get_or vs (k - b) nought) (get_or vs k nought)
 high_pair m b k low high vs e =
     ap (λ c. cond c (high (get_or vs (k - b) nought) (get_or vs k nought)) (cond (covers m (k + b)) (low (get_or vs k nought) (get_or vs (k + b) nought)) (get_or vs k nought))) e
 
 pub low_pair : (m b k : ℕ) (low high : Cyclotomic → Cyclotomic → Cyclotomic) (vs : List Cyclotomic) → covers m k ≡ false → covers m (k + b) ≡ true → Pair m b low high vs k ≡ low (get_or vs k nought) (get_or vs (k + b) nought)
-low_pair m b k low high vs e g =
-    let h = high (get_or vs (k - b) nought) (get_or vs k nought) in
-    let l = low (get_or vs k nought) (get_or vs (k + b) nought) in
-    ap (λ c. cond c h (cond (covers m (k + b)) l (get_or vs k nought))) e ∙ ap (λ c. cond c l (get_or vs k nought)) g
+low_pair m b k low high vs e g = grind arith
 
 pub paired_start : (m b : ℕ) (low high : Cyclotomic → Cyclotomic → Cyclotomic) (before : List Cyclotomic) → Paired m b low high before before m
 paired_start m b low high before = record {
@@ -234,18 +209,11 @@ pub top_low : (m b k : ℕ) → covers m k ≡ false → Top m b k ≡ k + b
 top_low m b k e = ap (λ c. cond c k (k + b)) e
 
 top_from : (m b k place : ℕ) → Top m b k ≡ place → (k ≡ place) ⊎ (k + b ≡ place)
-top_from m b k place e = go (covers m k) refl where
-  go : (c : Bool) → covers m k ≡ c → (k ≡ place) ⊎ (k + b ≡ place)
-  go true h = inl (sym (top_high m b k h) ∙ e)
-  go false h = inr (sym (top_low m b k h) ∙ e)
+top_from m b k place e = grind arith
 
 pub paired_own : (m b : ℕ) (low high : Cyclotomic → Cyclotomic → Cyclotomic) (before after : List Cyclotomic) (place : ℕ) → HasBit m b → Paired m b low high before after place
     → (get_or after (place - b) nought ≡ get_or before (place - b) nought) × (get_or after place nought ≡ get_or before place nought)
-paired_own m b low high before after place has s =
-    let sum : place - b + b ≡ place = omega (arith, has.within place s.here) in
-    let upper : covers m place ≡ true = eq-eqb _ place s.here in
-    let lower : covers m (place - b) ≡ false = has.apart (place - b) (ap (covers m) sum ∙ upper) in
-    (s.rest (place - b) (omega (arith, top_low m b (place - b) lower, sum)), s.rest place (omega (arith, top_high m b place upper)))
+paired_own m b low high before after place has s = grind arith
 
 pub paired_more : (m b : ℕ) (low high : Cyclotomic → Cyclotomic → Cyclotomic) (before after : List Cyclotomic) (place : ℕ) (x y : Cyclotomic) → HasBit m b → place < length after
     → x ≡ low (get_or after (place - b) nought) (get_or after place nought) → y ≡ high (get_or after (place - b) nought) (get_or after place nought)

@@ -89,9 +89,7 @@ find_word f (suc n) e =
 
 amplitudes_differ : (ops : List Op) (x image : Word) → agrees ops x image ≡ false → (y : Word) × (length y ≡ length x) × (amplitude ops x y ≢ amplitude_of_map ops image y)
 unfolding agrees
-amplitudes_differ ops x image e =
-    let r = find_word (λ y. are_same (amplitude ops x y) (amplitude_of_map ops image y)) (length x) e in
-    (r.0, r.1, λ same. false≢true (sym r.2 ∙ are_same-same _ _ same))
+amplitudes_differ ops x image e = grind (arith, find_word, are_same, amplitude_of_map, are_same-same)
 
 no_break : (gates : List Shape) (net : Network) (number : ℕ) → difference_at gates net number ≡ None → ¬ Breaks gates net number
 no_break gates net number e (y, l, ne) =
@@ -99,18 +97,10 @@ no_break gates net number e (y, l, ne) =
 
 -- a word that breaks nothing agrees, and one that breaks something doesn't
 agrees_unless : (gates : List Shape) (net : Network) (number : ℕ) → ¬ Breaks gates net number → difference_at gates net number ≡ None
-agrees_unless gates net number unbroken = go (agrees net.ops (word_of net.lines number) (run gates (word_of net.lines number))) refl where
-  go : (b : Bool) → agrees net.ops (word_of net.lines number) (run gates (word_of net.lines number)) ≡ b → cond b None (Some number) ≡ None
-  go true e = refl
-  go false e =
-      let d = amplitudes_differ net.ops (word_of net.lines number) (run gates (word_of net.lines number)) e in
-      absurd (unbroken (d.0, d.1 ∙ length-word_of net.lines number, d.2))
+agrees_unless gates net number unbroken = grind (arith, word_of, amplitudes_differ, length-word_of)
 
 differs_where : (gates : List Shape) (net : Network) (number : ℕ) → Breaks gates net number → difference_at gates net number ≡ Some number
-differs_where gates net number breaks = go (agrees net.ops (word_of net.lines number) (run gates (word_of net.lines number))) refl where
-  go : (b : Bool) → agrees net.ops (word_of net.lines number) (run gates (word_of net.lines number)) ≡ b → cond b None (Some number) ≡ Some number
-  go true e = absurd (no_break gates net number (ap (λ b. cond b None (Some number)) e) breaks)
-  go false e = refl
+differs_where gates net number breaks = grind (arith, word_of, no_break)
 
 denotes_from_none : (gates : List Shape) (net : Network) → first_difference gates net ≡ None → Denotes net.lines net.ops (run gates)
 unfolding first_difference Denotes
@@ -122,9 +112,7 @@ denotes_from_none gates net none x y lx ly =
 
 none_from_denotes : (gates : List Shape) (net : Network) → Denotes net.lines net.ops (run gates) → first_difference gates net ≡ None
 unfolding first_difference Denotes
-none_from_denotes gates net denotes =
-    none_first (difference_at gates net) 0 (2 ^ net.lines)
-    (λ number g h. agrees_unless gates net number (λ b. b.2 (denotes (word_of net.lines number) b.0 (length-word_of net.lines number) b.1)))
+none_from_denotes gates net denotes = grind (arith, none_first, difference_at, agrees_unless, word_of, length-word_of)
 
 least_break : (gates : List Shape) (net : Network) (w : ℕ) → FirstAt ℕ (difference_at gates net) 0 (2 ^ net.lines) w → IsLeastBreak gates net w
 least_break gates net w r =
@@ -174,9 +162,7 @@ no_place net number e place le =
 
 none_at_word : (net : Network) (number : ℕ) → ((place : ℕ) → place ≤ length net.ops → ¬ IsLarge net number place) → large_at net number ≡ None
 unfolding first_large_place
-none_at_word net number small =
-    ap (option_map (λ place. TooLarge number place))
-    (none_first (large_after net.ops (word_of net.lines number)) 0 (length net.ops + 1) (λ p g h. none_after net number p (small p (omega arith))))
+none_at_word net number small = grind (arith, option_map, none_first, large_after, word_of, none_after)
 
 none_large_from : (net : Network) → first_large net ≡ None → NoneLarge net
 unfolding first_large
@@ -242,9 +228,7 @@ other_lines c net g h ne = rw (le-ltb MOST_CHECKED_LINES (length c.names) g, le-
 
 pub same_lines : (c : Cascade) (net : Network) → length c.names ≡ net.lines → net.lines ≤ MOST_CHECKED_LINES → check_of c net ≡ compared (first_large net) (first_difference c.gates net)
 unfolding check_of
-same_lines c net e h =
-    let g : length c.names ≤ MOST_CHECKED_LINES = omega (arith, e, h) in
-    rw (le-ltb MOST_CHECKED_LINES (length c.names) g, le-ltb MOST_CHECKED_LINES net.lines h, eq-eqb (length c.names) net.lines e) refl
+same_lines c net e h = grind arith
 
 -- ---- what each answer tells, and that no other answer could be given
 
@@ -316,6 +300,4 @@ exact c net = record {
 -- an answer that isn't want of memory is that of the definition
 pub exact_answer : (c : Cascade) (net : Network) (answer : Answer) → MatchResult answer (λ v. check_of c net ≡ Ok v) (λ fault. (fault ≡ Mem) ⊎ (check_of c net ≡ Err fault))
     → (answer ≡ Err Mem) ⊎ IsExact c net answer
-exact_answer c net (Ok v) e = inr (subst (IsExact c net) e (exact c net))
-exact_answer c net (Err fault) (inl mem) = inl (ap Err mem)
-exact_answer c net (Err fault) (inr e) = inr (subst (IsExact c net) e (exact c net))
+exact_answer c net answer h = grind (arith, exact)

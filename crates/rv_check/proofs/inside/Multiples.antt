@@ -82,9 +82,7 @@ multiple-nought = refl
 
 pub multiple-times_w : (u : Cyclotomic) → is_multiple u ≡ true → is_multiple (times_w u) ≡ true
 unfolding times_w
-multiple-times_w u g = go (halves_of u g) where
-  go : Even (u.a +ℤ u.c) × Even (u.b +ℤ u.d) → is_multiple (times_w u) ≡ true
-  go ((p, hp), (q, hq)) = multiple_from (record { a = neg_ℤ u.d; b = u.a; c = u.b; d = u.c }) (q -ℤ u.d, omega (arith, ints, hq)) (p, hp)
+multiple-times_w u g = grind arith
 
 multiples_on : (p : ℕ) (u : Cyclotomic) → is_multiple u ≡ true → is_multiple (times_w_power p u) ≡ true
 unfolding times_w_power
@@ -102,17 +100,12 @@ multiple_turned (suc p) u g = multiple_turned p u (multiple_back (times_w_power 
 
 -- ---- beyond the limit
 
-abs-neg : (z : ℤ) → unsigned_abs (neg_ℤ z) ≡ unsigned_abs z
-abs-neg z = grind arith
-
 last_first : (a b c d : Bool) → (d || a || b || c) ≡ (a || b || c || d)
 last_first a b c d = grind arith
 
 pub large-times_w : (u : Cyclotomic) → is_large (times_w u) ≡ is_large u
 unfolding times_w
-large-times_w u =
-    ap (λ n. nat_lt MOST_COEFFICIENT n || is_large_number u.a || is_large_number u.b || is_large_number u.c) (abs-neg u.d)
-    ∙ last_first (is_large_number u.a) (is_large_number u.b) (is_large_number u.c) (is_large_number u.d)
+large-times_w u = grind arith
 
 pub large_turned : (p : ℕ) (u : Cyclotomic) → is_large (times_w_power p u) ≡ is_large u
 unfolding times_w_power

@@ -1,4 +1,5 @@
 -- Words in the order of their numbers.
+use Rattle.rv_gate.proofs.Lists.{map_map}
 use Rattle.std.proofs.Common.{◌≡◌, ℕ, zero, suc, ◌+◌, ◌^◌, ◌<◌, true, false, List, [], ◌∷◌, ◌++◌, map, length, get_or, All, refl, sym, ap, ap₂, ◌∙◌, arith, subst, ext_get_or, length-append}
 use Rattle.std.proofs.Math.Nat.{pow-suc}
 use Rattle.rv_gate.specs.Word.{number_of, word_of}
@@ -12,10 +13,6 @@ map-append2 : {A B : Type 0} (f : A → B) (xs ys : List A) → map f (xs ++ ys)
 map-append2 f [] ys = refl
 map-append2 f (x ∷ xs) ys = ap (λ l. f x ∷ l) (map-append2 f xs ys)
 
-pub map-after : {A B C : Type 0} (f : B → C) (g : A → B) (xs : List A) → map f (map g xs) ≡ map (λ x. f (g x)) xs
-map-after f g [] = refl
-map-after f g (x ∷ xs) = ap (λ l. f (g x) ∷ l) (map-after f g xs)
-
 length-mapped : {A B : Type 0} (f : A → B) (xs : List A) → length (map f xs) ≡ length xs
 length-mapped f [] = refl
 length-mapped f (x ∷ xs) = ap suc (length-mapped f xs)
@@ -23,9 +20,7 @@ length-mapped f (x ∷ xs) = ap suc (length-mapped f xs)
 -- both halves
 pub map_words : {A : Type 0} (f : Word → A) (n : ℕ) → map f (words (suc n)) ≡ map (λ x. f (false ∷ x)) (words n) ++ map (λ x. f (true ∷ x)) (words n)
 unfolding words
-map_words f n =
-    map-append2 f (map (λ x. false ∷ x) (words n)) (map (λ x. true ∷ x) (words n))
-    ∙ ap₂ (λ xs ys. xs ++ ys) (map-after f (λ x. false ∷ x) (words n)) (map-after f (λ x. true ∷ x) (words n))
+map_words f n = grind (arith, map-append2, map_map)
 
 pub length-words : (n : ℕ) → length (words n) ≡ 2 ^ n
 unfolding words

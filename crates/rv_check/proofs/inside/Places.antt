@@ -155,9 +155,7 @@ pub followed_done : (ops : List Op) (x image : Word) → All (λ op. OpFitsIn op
     → followed ops x image ≡ Agrees (((kept_after ops x).exponent == 0) && is_only image (kept_after ops x).members)
 unfolding first_large_place NotLarge
 followed_done ops x image fits before lines =
-    ap (λ o. answer o (agrees ops x image))
-    (none_first (large_after ops x) 0 (length ops + 1) (λ p g h. told_at ops x p false fits (before p (omega arith))))
-    ∙ ap Agrees (agrees_is ops x (kept_after ops x) (stands_after ops x fits) image lines)
+    grind (arith, none_first, large_after, told_at, agrees_is, kept_after, stands_after)
 
 -- an operation that is no H
 pub kept_more-moved : (op : Op) (k : Kept) → ((q : ℕ) → op ≡ H q → ⊥) → kept_more k op ≡ record k { members = map (moved op) k.members }

@@ -1,4 +1,5 @@
 -- One or two words whose values are powers of w, and what operations make of them.
+use Rattle.rv_gate.proofs.Words.{same_word-same, same_word-false}
 use Rattle.std.proofs.Common.{◌≡◌, ◌≢◌, ℕ, zero, suc, ◌+◌, ◌*◌, ◌/◌, ◌%◌, ◌^◌, ◌<◌, Bool, true, false, cond, not, ◌&&◌, ◌||◌, List, [], ◌∷◌, length, set, filter, refl, sym, ap, ap₂, ◌∙◌, arith, set-set}
 use Rattle.std.proofs.lemmas.Int.{ints}
 use Rattle.std.proofs.lemmas.Bool.{false≢true, false_from_ne_true}
@@ -22,7 +23,6 @@ use Rattle.rv_check.proofs.inside.Multiples.{large_turned, multiple-nought, mult
 use Rattle.rv_check.proofs.inside.Reducing.{reduced_more, reduced_stop}
 use Rattle.rv_check.proofs.inside.Scaled.{scaled-nought, scaled_cancel}
 use Rattle.rv_check.proofs.inside.Sparse.{Word, same_from}
-use Rattle.rv_check.proofs.Words.{same_word-false, same_word-same}
 
 -- ---- powers of w
 
@@ -127,10 +127,7 @@ all_added : (w z : Word) (a b c d : Cyclotomic) → same_word w z ≡ false
     → added (added (record { word = w; value = a } ∷ record { word = z; value = b } ∷ []) w c) z d
     ≡ record { word = w; value = plus a c } ∷ record { word = z; value = plus b d } ∷ []
 unfolding added
-all_added w z a b c d e =
-    ap (λ t. added (cond t (record { word = w; value = plus a c } ∷ record { word = z; value = b } ∷ []) (record { word = w; value = a } ∷ added (record { word = z; value = b } ∷ []) w c)) z d) (same_word-same w)
-    ∙ ap (λ t. cond t (record { word = w; value = plus (plus a c) d } ∷ record { word = z; value = b } ∷ []) (record { word = w; value = plus a c } ∷ added (record { word = z; value = b } ∷ []) z d)) e
-    ∙ ap (λ t. record { word = w; value = plus a c } ∷ cond t (record { word = z; value = plus b d } ∷ []) (record { word = z; value = b } ∷ record { word = z; value = d } ∷ [])) (same_word-same z)
+all_added w z a b c d e = grind (arith, same_word-same)
 
 -- what H on a line makes of two words that differ on it alone
 pub mixed-two : (line : ℕ) (w z : Word) (v u : Cyclotomic) → line < length w → z ≡ set w line (not (bit_of w line))

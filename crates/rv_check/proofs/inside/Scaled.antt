@@ -1,5 +1,5 @@
 -- The root of two, multiplied in so many times.
-use Rattle.std.proofs.Common.{◌≡◌, ℕ, zero, suc, refl, sym, ap, ap₂, ◌∙◌, arith}
+use Rattle.std.proofs.Common.{◌≡◌, ℕ, zero, suc, refl, sym, ap, ◌∙◌, arith}
 use Rattle.std.proofs.lemmas.Int.{ints}
 use Rattle.rv_net.specs.Cyclotomic.{Cyclotomic, nought, unity, root2, plus, power, times, times_w, times_w_power}
 use Rattle.rv_net.proofs.Cyclotomic.{same_cyclotomic, times-add_left, times-add_right, times_w_power-times}
@@ -13,11 +13,7 @@ unfolding plus times_w_power times_w
 root2-turns u = times_root2 u ∙ same_cyclotomic _ _ (omega (arith, ints)) (omega (arith, ints)) (omega (arith, ints)) (omega (arith, ints))
 
 pub root2-times : (u v : Cyclotomic) → times (times root2 u) v ≡ times root2 (times u v)
-root2-times u v =
-    ap (λ x. times x v) (root2-turns u)
-    ∙ times-add_right v (times_w_power 1 u) (times_w_power 7 u)
-    ∙ ap₂ plus (sym (times_w_power-times 1 u v)) (sym (times_w_power-times 7 u v))
-    ∙ sym (root2-turns (times u v))
+root2-times u v = grind (arith, root2-turns, times-add_right, times_w_power, times_w_power-times)
 
 root2-nought : times root2 nought ≡ nought
 unfolding times root2 nought

@@ -1,4 +1,5 @@
 -- The vector that a list of members stands for: each word has the sum of the values of its members.
+use Rattle.rv_gate.proofs.Words.{same_word-is}
 use Rattle.std.proofs.Common.{◌≡◌, ℕ, zero, suc, ◌*◌, Bool, true, false, cond, not, List, [], ◌∷◌, ◌++◌, map, length, set, fold, filter, ℤ, ◌*ℤ◌, neg_ℤ, refl, sym, ap, ap₂, ◌∙◌, arith}
 use Rattle.std.proofs.lemmas.Int.{ints}
 use Rattle.std.proofs.lemmas.Bool.{and_parts}
@@ -12,7 +13,7 @@ use Rattle.rv_net.specs.Amplitude.{amplitude, same_word, sum_over_words}
 use Rattle.rv_net.specs.Cyclotomic.{Cyclotomic, nought, unity, negated, plus, times, times_w, times_w_power, root2}
 use Rattle.rv_net.specs.declared.op.Op.{Op}
 use Rattle.rv_net.specs.declared.op.Op.TheVariants.{H}
-use Rattle.rv_net.proofs.Cyclotomic.{same_cyclotomic, plus_assoc, plus_comm, plus_nought, nought_plus, plus_swap, nought_times, times-add_left, times-add_right}
+use Rattle.rv_net.proofs.Cyclotomic.{same_cyclotomic, plus_assoc, plus_comm, plus_nought, nought_plus, plus_swap, nought_times, times-add_left, times-add_right, times_w_power-zero}
 use Rattle.rv_net.proofs.Matrix.{same_sum, sum_over_words-zero, amplitude_product}
 use Rattle.rv_check.specs.Check.{are_same}
 use Rattle.rv_check.specs.Reduced.{is_multiple, quotient}
@@ -22,7 +23,6 @@ use Rattle.rv_check.specs.inside.Stands.{On, at_word, scaled, value_at}
 use Rattle.rv_check.proofs.inside.Adding.{more}
 use Rattle.rv_check.proofs.inside.Multiples.{root2_quotient}
 use Rattle.rv_check.proofs.inside.Scaled.{scaled-plus, scaled-times}
-use Rattle.rv_check.proofs.Words.{same_from_same_word}
 
 abbrev pub Word : Type 0
 Word = List Bool
@@ -87,11 +87,6 @@ unfolding times_w_power
 times-turned zero u v = refl
 times-turned (suc p) u v = times-times_w u _ ∙ ap times_w (times-turned p u v)
 
-turned-nought : (p : ℕ) → times_w_power p nought ≡ nought
-unfolding times_w_power times_w nought
-turned-nought zero = refl
-turned-nought (suc p) = ap times_w (turned-nought p)
-
 times_unity : (u : Cyclotomic) → times u unity ≡ u
 unfolding times unity
 times_unity u = same_cyclotomic _ _ (omega (arith, ints)) (omega (arith, ints)) (omega (arith, ints)) (omega (arith, ints))
@@ -111,7 +106,7 @@ negated-nought = refl
 -- a value times a phase or a sign, at a word
 pub turned_at : (p : ℕ) (v : Cyclotomic) (b : Bool) → times v (times_w_power p (cond b unity nought)) ≡ cond b (times_w_power p v) nought
 turned_at p v true = times-turned p v unity ∙ ap (times_w_power p) (times_unity v)
-turned_at p v false = ap (times v) (turned-nought p) ∙ times_nought v
+turned_at p v false = ap (times v) (times_w_power-zero p) ∙ times_nought v
 
 pub signed_at : (s b : Bool) (v : Cyclotomic) → times v (cond s (negated (cond b unity nought)) (cond b unity nought)) ≡ cond b (cond s (negated v) v) nought
 signed_at s b v = grind (arith, times_negated, times_unity, negated-nought, times_nought)
@@ -126,7 +121,7 @@ value_at-added (m ∷ ms) w v z = go (same_word m.word w) refl (value_at-added m
 
   go : (b : Bool) → same_word m.word w ≡ b → value_at (added ms w v) z ≡ plus (value_at ms z) (at_word w z v)
       → value_at (cond b (more m v ∷ ms) (m ∷ added ms w v)) z ≡ plus (value_at (m ∷ ms) z) (at_word w z v)
-  go true e rest = at-plus (same_word m.word z) m.value v (value_at ms z) ∙ ap (λ x. plus (value_at (m ∷ ms) z) (at_word x z v)) (same_from_same_word m.word w e)
+  go true e rest = at-plus (same_word m.word z) m.value v (value_at ms z) ∙ ap (λ x. plus (value_at (m ∷ ms) z) (at_word x z v)) (same_word-is m.word w e)
   go false e rest = ap (plus (at_word m.word z m.value)) rest ∙ sym (plus_assoc _ _ _)
 
 value_at-spread : (line : ℕ) (ms : List Member) (m : Member) (z : Word) → value_at (spread line ms m) z ≡ plus (value_at ms z) (times m.value (amplitude (H line ∷ []) m.word z))
@@ -152,11 +147,7 @@ value_at-fold_spread line acc (m ∷ ms) z =
     ∙ plus_assoc _ _ _
 
 pub same_from : (u v : Cyclotomic) → are_same u v ≡ true → u ≡ v
-same_from u v e =
-    let a = and_parts (int_eq u.a v.a) _ e in
-    let b = and_parts (int_eq u.b v.b) _ a.1 in
-    let c = and_parts (int_eq u.c v.c) _ b.1 in
-    same_cyclotomic u v ((Decides-int_eq u.a v.a).0 a.0) ((Decides-int_eq u.b v.b).0 b.0) ((Decides-int_eq u.c v.c).0 c.0) ((Decides-int_eq u.d v.d).0 c.1)
+same_from u v e = grind (arith, and_parts, int_eq, same_cyclotomic, Decides-int_eq)
 
 pub value_at-filter : (ms : List Member) (z : Word) → value_at (filter is_present ms) z ≡ value_at ms z
 unfolding value_at

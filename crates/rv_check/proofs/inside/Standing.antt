@@ -1,5 +1,5 @@
 -- A network followed from a word, at a place where the kept vector stands for the first operations.
-use Rattle.std.proofs.Common.{◌≡◌, ℕ, ◌+◌, ◌<◌, ◌≤◌, true, false, ◌&&◌, ◌==◌, List, length, take, get_or, All, sym, ap, ◌∙◌, arith, inl, inr, subst}
+use Rattle.std.proofs.Common.{◌≡◌, ℕ, ◌+◌, ◌<◌, ◌≤◌, true, false, ◌&&◌, ◌==◌, List, length, take, get_or, All, sym, ◌∙◌, arith, inl, inr, subst}
 use Rattle.std.proofs.lemmas.Bool.{cases_eq, cases_lt}
 use Rattle.std.proofs.lemmas.List.{take_all, take_more}
 use Rattle.std.specs.List.{list_any}
@@ -41,9 +41,7 @@ too_large_here ops x image place k fits s before lt large = followed_large ops x
 pub done_here : (ops : List Op) (x image : Word) (place : ℕ) (k : Kept) → All (λ op. OpFitsIn op (length x)) ops → Stands (take place ops) x k → length ops ≤ place → ((p : ℕ) → p ≤ place → NotLarge ops x p)
     → length image ≡ length x → followed ops x image ≡ Agrees ((k.exponent == 0) && is_only image k.members)
 done_here ops x image place k fits s end before lines =
-    let whole : Stands ops x k = subst (λ l. Stands l x k) (take_all place ops end) s in
-    followed_done ops x image fits (λ p le. before p (omega (arith, le, end))) lines
-    ∙ ap Agrees (sym (agrees_is ops x (kept_after ops x) (stands_after ops x fits) image lines) ∙ agrees_is ops x k whole image lines)
+    grind (arith, take_all, followed_done, agrees_is, kept_after, stands_after)
 
 -- after one operation, and more
 pub not_large_on : (ops : List Op) (x : Word) (place next : ℕ) → ((p : ℕ) → p ≤ place → NotLarge ops x p) → NotLarge ops x (place + 1) → NoneLargeIn ops x (place + 1) next → (p : ℕ) → p ≤ next → NotLarge ops x p

@@ -20,11 +20,7 @@ use Rattle.rv_check.proofs.inside.Sparse.{Word}
 -- ---- sets of lines as the code makes them
 
 pub shifted : (q n : ℕ) → q < n → n ≤ 10 → 1 * 2 ^ q % 18446744073709551616 ≡ 2 ^ q
-shifted q n lt few =
-    let le : 2 ^ q ≤ 2 ^ 10 = pow_mono (let h : q ≤ 10 = omega (arith, lt, few) in h) in
-    let one : 1 * 2 ^ q ≡ 2 ^ q = omega arith in
-    let below : 1 * 2 ^ q < 18446744073709551616 = omega (arith, le) in
-    mod-eq_of_lt below ∙ one
+shifted q n lt few = grind (arith, pow_mono, mod-eq_of_lt)
 
 -- ---- phases
 
@@ -46,9 +42,7 @@ line_turned n q power mask f ws lt e is =
     masked_turned n power mask (λ x. bit_of x q) f ws (λ x l. ap (λ m. covers m (number_of x)) e ∙ covers_line n q x l lt) is
 
 covers_two : (n a b p q : ℕ) (x : Word) → length x ≡ n → a < n → b < n → p ≡ 2 ^ (n - 1 - a) → q ≡ 2 ^ (n - 1 - b) → covers (bit_or p q) (number_of x) ≡ (bit_of x a && bit_of x b)
-covers_two n a b p q x l lt less e g =
-    covers_both p q (number_of x)
-    ∙ ap₂ (λ s t. s && t) (ap (λ m. covers m (number_of x)) e ∙ covers_line n a x l lt) (ap (λ m. covers m (number_of x)) g ∙ covers_line n b x l less)
+covers_two n a b p q x l lt less e g = grind (arith, covers_both, number_of, covers_line)
 
 pub cz_done : (n a b p q : ℕ) (op : Op) (f : Word → Cyclotomic) (ws : List Cyclotomic) → op ≡ Cz a b → OpFitsIn (Cz a b) n → p ≡ 2 ^ (n - 1 - a) → q ≡ 2 ^ (n - 1 - b)
     → ws ≡ map (Turned (bit_or p q) 4 f) (words n) → ws ≡ map (moved_at op f) (words n)

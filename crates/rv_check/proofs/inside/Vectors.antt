@@ -1,4 +1,5 @@
 -- Vectors over all words, and their reduction.
+use Rattle.rv_gate.proofs.Bits.{same_bool}
 use Rattle.std.proofs.Common.{◌≡◌, ℕ, zero, suc, ◌+◌, Bool, true, false, cond, not, ◌&&◌, ◌||◌, List, [], ◌∷◌, map, length, refl, sym, ap, ap₂, ◌∙◌, arith, ◌⊎◌}
 use Rattle.std.proofs.lemmas.Bool.{and_parts}
 use Rattle.std.proofs.lemmas.List.Folds.{list_all-append, list_all-map}
@@ -10,9 +11,6 @@ use Rattle.rv_check.specs.inside.Stands.{Apart, On, scaled, value_at}
 use Rattle.rv_check.proofs.inside.Apart.{members_pass, values_pass}
 use Rattle.rv_check.proofs.inside.Multiples.{multiple-root2, quotient_root2, large-nought}
 use Rattle.rv_check.proofs.inside.Sparse.{Word}
-
-pub same_bool : (p q : Bool) → (p ≡ true → q ≡ true) → (q ≡ true → p ≡ true) → p ≡ q
-same_bool p q h h2 = grind arith
 
 -- ---- tests of all words
 
@@ -55,10 +53,7 @@ vector_all f none n ms apart on =
     (λ e. all_words (λ z. f (value_at ms z)) n (λ z l. values_pass (λ w v. f v) (λ z. none) ms apart e z))
 
 pub vector_large : (n : ℕ) (ms : List Member) → Apart ms → On n ms → list_any is_large (map (value_at ms) (words n)) ≡ list_any (λ m. is_large m.value) ms
-vector_large n ms apart on =
-    any_is is_large (map (value_at ms) (words n))
-    ∙ ap not (vector_all (λ u. not (is_large u)) (ap not large-nought) n ms apart on)
-    ∙ sym (any_is (λ m. is_large m.value) ms)
+vector_large n ms apart on = grind (arith, any_is, is_large, value_at, vector_all, large-nought)
 
 -- ---- reduction
 

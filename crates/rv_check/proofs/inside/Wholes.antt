@@ -1,6 +1,7 @@
 -- The values of all words, as the operations change them: those of the kept vector.
+use Rattle.rv_gate.proofs.Lists.{map_map}
+use Rattle.rv_gate.proofs.Words.{same_word-is, same_word-true, same_word-false}
 use Rattle.std.proofs.Common.{◌≡◌, ℕ, zero, suc, ◌+◌, ◌<◌, Bool, true, false, cond, ◌&&◌, List, [], ◌∷◌, map, length, take, set, fold, refl, sym, ap, ap₂, ◌∙◌, arith, subst}
-use Rattle.std.proofs.lemmas.Bool.{false≢true}
 use Rattle.std.proofs.lemmas.Int.{ints}
 use Rattle.std.proofs.lemmas.List.Elements.{All-head, All-tail}
 use Rattle.rv_gate.specs.Gate.{same}
@@ -19,27 +20,29 @@ use Rattle.rv_check.specs.inside.Stands.{Apart, On, at_word, multiples, value_at
 use Rattle.rv_check.proofs.inside.Apart.{apart-divided}
 use Rattle.rv_check.proofs.Back.{goes_back}
 use Rattle.rv_check.proofs.inside.Multiples.{multiple-nought, quotient_root2}
-use Rattle.rv_check.proofs.inside.Numbers.{map-after, same_map}
+use Rattle.rv_check.proofs.inside.Numbers.{same_map}
 use Rattle.rv_check.proofs.inside.Sparse.{Word, signed_at, turned_at, value_at-divided, value_at-filter, value_at-fold_spread, worth}
 use Rattle.rv_check.proofs.inside.Stands.{on_divided, over, over_reduced}
 use Rattle.rv_check.proofs.inside.Vectors.{vector_all}
-use Rattle.rv_check.proofs.Words.{same_from_same_word, same_word-false, same_word-true}
 
 -- ---- an operation that is no H
 
 moved_one : (op : Op) (w z : Word) (v : Cyclotomic) → OpFitsIn op (length w) → OpFitsIn op (length z)
     → at_word (goes_to op w) z (times_w_power (phase_of op w) v) ≡ times_w_power (phase_of op (goes_to op z)) (at_word w (goes_to op z) v)
-moved_one op w z v g h = go (same_word w (goes_to op z)) refl where
-  go : (b : Bool) → same_word w (goes_to op z) ≡ b
-      → at_word (goes_to op w) z (times_w_power (phase_of op w) v) ≡ times_w_power (phase_of op (goes_to op z)) (cond b v nought)
-  go true e =
-      let same = same_from_same_word w (goes_to op z) e in
-      ap (λ b. cond b (times_w_power (phase_of op w) v) nought) (same_word-true (goes_to op w) z (ap (goes_to op) same ∙ goes_back op z h))
-      ∙ ap (λ y. times_w_power (phase_of op y) v) same
-  go false e =
-      ap (λ b. cond b (times_w_power (phase_of op w) v) nought)
-      (same_word-false (goes_to op w) z (λ to. false≢true (sym e ∙ same_word-true w (goes_to op z) (sym (goes_back op w g) ∙ ap (goes_to op) to))))
-      ∙ sym (times_w_power-zero (phase_of op (goes_to op z)))
+moved_one op w z v g h =
+    grind (
+      arith,
+      same_word,
+      goes_to,
+      at_word,
+      times_w_power,
+      phase_of,
+      same_word-is,
+      same_word-true,
+      goes_back,
+      same_word-false,
+      times_w_power-zero,
+    )
 
 pub value_at-moved : (op : Op) (n : ℕ) (ms : List Member) (z : Word) → OpFitsIn op n → On n ms → length z ≡ n → value_at (map (moved op) ms) z ≡ moved_at op (value_at ms) z
 unfolding value_at
@@ -80,18 +83,11 @@ minus-plus p q r s = same_cyclotomic _ _ (omega (arith, ints)) (omega (arith, in
 
 mixed_at-plus : (q : ℕ) (f g : Word → Cyclotomic) (z : Word) → mixed_at q (λ y. plus (f y) (g y)) z ≡ plus (mixed_at q f z) (mixed_at q g z)
 unfolding mixed_at
-mixed_at-plus q f g z = go (bit_of z q) where
-  go : (b : Bool) → cond b (minus (plus (f (set z q false)) (g (set z q false))) (plus (f (set z q true)) (g (set z q true)))) (plus (plus (f (set z q false)) (g (set z q false))) (plus (f (set z q true)) (g (set z q true))))
-      ≡ plus (cond b (minus (f (set z q false)) (f (set z q true))) (plus (f (set z q false)) (f (set z q true)))) (cond b (minus (g (set z q false)) (g (set z q true))) (plus (g (set z q false)) (g (set z q true))))
-  go true = minus-plus _ _ _ _
-  go false = plus_swap _ _ _ _
+mixed_at-plus q f g z = grind (arith, bit_of, minus-plus, plus_swap)
 
 mixed_at-nought : (q : ℕ) (z : Word) → mixed_at q (λ y. nought) z ≡ nought
 unfolding mixed_at
-mixed_at-nought q z = go (bit_of z q) where
-  go : (b : Bool) → cond b (minus nought nought) (plus nought nought) ≡ nought
-  go true = minus_nought nought
-  go false = plus_nought nought
+mixed_at-nought q z = grind (arith, bit_of, minus_nought, plus_nought)
 
 both_parts : (q : ℕ) (w z : Word) (v : Cyclotomic) → q < length w → length w ≡ length z
     → plus (at_word (set w q false) z v) (at_word (set w q true) z (cond (bit_of w q) (negated v) v)) ≡ mixed_at q (λ y. at_word w y v) z
@@ -144,7 +140,7 @@ value_at-mixed q n ms z lt on l =
 
 quotients : (n : ℕ) (ms : List Member) → multiples ms ≡ true → map quotient (map (value_at ms) (words n)) ≡ map (value_at (map divided ms)) (words n)
 quotients n ms all =
-    map-after quotient (value_at ms) (words n)
+    map_map quotient (value_at ms) (words n)
     ∙ same_map _ _ n (λ z l. ap quotient (value_at-divided ms z all) ∙ quotient_root2 (value_at (map divided ms) z))
 
 pub reduced_values : (n exponent : ℕ) (ms : List Member) → Apart ms → On n ms → reduced exponent (map (value_at ms) (words n)) ≡ map (value_at (reduced_kept exponent ms).members) (words n)

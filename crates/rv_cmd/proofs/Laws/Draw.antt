@@ -23,7 +23,8 @@ use Rattle.rv_qasm.specs.Reading.{Listing}
 use Rattle.rv_words.specs.declared.command.PictureForm.{PictureForm}
 use Rattle.rv_words.specs.declared.command.PictureForm.TheVariants.{Text, Svg, Latex}
 use Rattle.rv_cmd.specs.declared.product.Product.TheVariants.{Drawing, NetDrawing}
-use Rattle.rv_cmd.specs.Commands.Draw.{IsDrawing, IsNetworkDrawing, StandsInRows, draw_report, network_report, per_block, picture_text, shown_in}
+use Rattle.rv_cmd.specs.Commands.Draw.{IsDrawing, IsNetworkDrawing, StandsInRows, draw_report, network_report}
+use Rattle.rv_cmd.specs.Commands.Draw.{per_block, picture_text, shown_in}
 use Rattle.rv_cmd.specs.inside.Products.{IsProductOf}
 
 some-per_block : (wrap : ℕ) → 1 ≤ per_block wrap

@@ -55,16 +55,19 @@ abbrev pub draw_report : PictureForm → ℕ → Cascade → LimitedText
 draw_report picture wrap c = unlimited (circuit_text picture wrap c)
 
 abbrev pub network_report : PictureForm → ℕ → Listing → LimitedText
-network_report picture wrap listing = unlimited (network_text picture wrap (network_lines listing.net.lines) listing.net.ops)
+network_report picture wrap listing =
+    unlimited (network_text picture wrap (network_lines listing.net.lines) listing.net.ops)
 
--- Read column by column, the text shows the circuit: its labels, constants and garbage, and its gates (a swap's lines from the top),
+-- Read column by column, the text shows the circuit: its labels, constants and garbage, and its gates (a swap's lines
+-- from the top),
 -- which do the same to every word.
 pub record IsDrawing (picture : PictureForm) (wrap : ℕ) (c : Cascade) (text : List ℕ) : Type 0 where
   pub shows : shown_in picture gate_of text ≡ Some (picture_of c)
   pub same : (word : List Bool) → run (picture_of c).gates word ≡ run c.gates word
   pub laid_out : StandsInRows picture wrap text
 
--- Read column by column, the text shows the network: its operations in their order, one a column (lines that may be exchanged from the
+-- Read column by column, the text shows the network: its operations in their order, one a column (lines that may be
+-- exchanged from the
 -- top).
 pub record IsNetworkDrawing (picture : PictureForm) (wrap : ℕ) (listing : Listing) (text : List ℕ) : Type 0 where
   pub shows : shown_in picture op_of text ≡ Some (network_picture (network_lines listing.net.lines) listing.net.ops)

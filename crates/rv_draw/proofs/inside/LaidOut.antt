@@ -1,5 +1,6 @@
 -- The rows of a drawing that was written stand below one another.
-use Rattle.std.proofs.Common.{◌≡◌, ℕ, zero, suc, ◌+◌, ◌*◌, ◌<◌, ◌≤◌, List, [], ◌∷◌, ◌++◌, length, map, Some, refl, sym, ap, ◌∙◌, subst, arith, length-append, All}
+use Rattle.std.proofs.Common.{◌≡◌, ℕ, zero, suc, ◌+◌, ◌*◌, ◌<◌, ◌≤◌, List, [], ◌∷◌, ◌++◌, length, map, Some, refl, sym}
+use Rattle.std.proofs.Common.{ap, ◌∙◌, subst, arith, length-append, All}
 use Rattle.std.specs.Prelude.{Option, false, replicate, slice_index_or}
 use Rattle.std.specs.Fork.{slice_chunk}
 use Rattle.std.specs.List.{range_with_len}
@@ -8,7 +9,8 @@ use Rattle.std.proofs.lemmas.List.Elements.{All-cons, All-nil}
 use Rattle.rv_gate.specs.Circuit.{Cascade, IsCascade}
 use Rattle.rv_draw.specs.declared.symbol.Symbol.{Symbol}
 use Rattle.rv_draw.specs.declared.symbol.Symbol.TheVariants.{Wire}
-use Rattle.rv_draw.specs.Drawing.{block_count, cells_on, label_at, last_symbol, pad_after, text_with, widest, width, wire_on}
+use Rattle.rv_draw.specs.Drawing.{block_count, cells_on, label_at, last_symbol, pad_after, text_with, widest, width}
+use Rattle.rv_draw.specs.Drawing.{wire_on}
 use Rattle.rv_draw.specs.Layout.{IsAligned, IsLaidOut, rows_in}
 use Rattle.rv_draw.specs.Reading.{Row, before, each_of, row_of}
 use Rattle.rv_draw.proofs.inside.ReadBack.{blocks_read, lexemes_of}

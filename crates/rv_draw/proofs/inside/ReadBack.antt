@@ -1,5 +1,7 @@
 -- A drawing that was written shows its circuit.
-use Rattle.std.proofs.Common.{◌≡◌, ℕ, zero, suc, ◌+◌, ◌-◌, ◌*◌, ◌/◌, ◌<◌, ◌≤◌, Bool, true, false, cond, nat_eq, List, [], ◌∷◌, ◌++◌, length, map, take, drop, Some, None, refl, sym, ap, ◌∙◌, arith, ne_eqb, All}
+use Rattle.std.proofs.Common.{◌≡◌, ℕ, zero, suc, ◌+◌, ◌-◌, ◌*◌, ◌/◌, ◌<◌, ◌≤◌, Bool, true, false, cond, nat_eq, List}
+use Rattle.std.proofs.Common.{[], ◌∷◌, ◌++◌, length, map, take, drop, Some, None, refl, sym, ap, ◌∙◌, arith, ne_eqb}
+use Rattle.std.proofs.Common.{All}
 use Rattle.std.specs.Prelude.{Option}
 use Rattle.std.specs.Fork.{slice_chunk}
 use Rattle.std.specs.List.{flat_map, range_with_len}
@@ -16,7 +18,8 @@ use Rattle.rv_text.proofs.inside.Spelled.{lines_of-spelled}
 use Rattle.rv_gate.specs.Circuit.{Cascade, IsCascade}
 use Rattle.rv_draw.specs.declared.symbol.Symbol.{Symbol}
 use Rattle.rv_draw.specs.Drawing.{block_count, block_rows, first_symbol, gap, last_symbol, sheet_rows, text_with}
-use Rattle.rv_draw.specs.Reading.{Picture, before, each_of, picture_on, with_row, blocks_of, joined, joined_if, same_lines, same_words, block_shown, shown_by}
+use Rattle.rv_draw.specs.Reading.{Picture, before, each_of, picture_on, with_row, blocks_of, joined, joined_if}
+use Rattle.rv_draw.specs.Reading.{same_lines, same_words, block_shown, shown_by}
 use Rattle.std.proofs.lemmas.Slice.Eq.{bytes_eq-Decides}
 use Rattle.std.specs.Str.{bytes_eq}
 use Rattle.rv_draw.specs.Symbols.{glyph}

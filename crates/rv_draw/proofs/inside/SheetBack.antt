@@ -1,5 +1,6 @@
 -- The rows of a block show the circuit of its gates.
-use Rattle.std.proofs.Common.{◌≡◌, ℕ, zero, suc, ◌+◌, ◌<◌, ◌≤◌, true, false, List, [], ◌∷◌, length, map, Some, refl, sym, ap, ◌∙◌, inl, inr, arith, Bool, cond, nat_eq, None, eq-eqb}
+use Rattle.std.proofs.Common.{◌≡◌, ℕ, zero, suc, ◌+◌, ◌<◌, ◌≤◌, true, false, List, [], ◌∷◌, length, map, Some, refl}
+use Rattle.std.proofs.Common.{sym, ap, ◌∙◌, inl, inr, arith, Bool, cond, nat_eq, None, eq-eqb}
 use Rattle.std.proofs.lemmas.Bool.{and_from}
 use Rattle.std.specs.List.{list_all}
 use Rattle.std.specs.Prelude.{Option, slice_index_or}
@@ -18,7 +19,8 @@ use Rattle.rv_real.proofs.inside.Written.{label_lexeme, label_writable}
 use Rattle.rv_draw.specs.declared.symbol.Symbol.{Symbol}
 use Rattle.rv_draw.specs.Symbols.{glyph}
 use Rattle.rv_draw.specs.Drawing.{label_at, pad_after, wire_on, row_words}
-use Rattle.rv_draw.specs.Reading.{Row, Strip, before, each_of, row_of, strip_of, strips_of, columns, column_count, picture_with, picture_of_strips, picture_of_rows, picture_on, block_shown}
+use Rattle.rv_draw.specs.Reading.{Row, Strip, before, each_of, row_of, strip_of, strips_of, columns, column_count}
+use Rattle.rv_draw.specs.Reading.{picture_with, picture_of_strips, picture_of_rows, picture_on, block_shown}
 use Rattle.rv_draw.proofs.inside.WiresBack.{symbols_back, glyphs_word, wire_back}
 use Rattle.rv_draw.proofs.ColumnsBack.{columns_back}
 use Rattle.std.specs.Option.{option_map}

@@ -1,4 +1,5 @@
 -- The lines whose parities aren't alone, and what a restart reaches through them.
+use Rattle.rv_gate.proofs.Bits.{same_bool}
 use Rattle.std.proofs.Common.{◌≡◌, ℕ, ◌+◌, ◌-◌, ◌*◌, ◌%◌, ◌^◌, ◌<◌, Bool, true, false, cond, ◌&&◌, ◌||◌, eqb, refl, sym, ap, ◌∙◌, arith, inl, inr, eq-eqb, ne_eqb, w64}
 use Rattle.std.specs.Prelude.{bit_and, bit_or}
 use Rattle.std.specs.Int.{bit_not}
@@ -10,7 +11,7 @@ use Rattle.rv_gate.proofs.LineSets.{has-none, has-and, has-or_one_shl, has-above
 use Rattle.rv_gate.proofs.LowestLine.{IsLowest}
 use Rattle.rv_fold.specs.Parities.{Parity, Parities, alone, are_apart, restart_set, restarted, with_parity, IsClosed}
 use Rattle.rv_fold.specs.inside.Mixed.{AreMixed}
-use Rattle.rv_fold.proofs.Restarts.{Within, apart-within, or-cases, or-left, or-right, restarts_least, same_both_ways, true-false}
+use Rattle.rv_fold.proofs.Restarts.{Within, apart-within, or-cases, or-left, or-right, restarts_least, true-false}
 
 -- ---- sets
 
@@ -19,11 +20,7 @@ abbrev pub less : ℕ → ℕ → ℕ
 less a b = bit_and a (bit_not w64 b)
 
 less_on : (a b line : ℕ) → has (less a b) line ≡ true → has a line ≡ true
-less_on a b line on = and_left (has a line) (has (bit_not w64 b) line) (sym (has-and a (bit_not w64 b) line) ∙ on)
-  where
-    and_left : (p q : Bool) → (p && q) ≡ true → p ≡ true
-    and_left true q e = refl
-    and_left false q e = e
+less_on a b line on = grind (arith, bit_not, has-and)
 
 has-complement : (b line : ℕ) (q : Bool) → b < 2 ^ 64 → line < 64 → has b line ≡ q → has (bit_not w64 b) line ≡ cond q false true
 has-complement b line true small lt on = ne_eqb _ 1 (λ e. let n = bit_at_not w64 b line small lt in let o = has_one b line on in omega arith)
@@ -166,7 +163,7 @@ module _ (n : ℕ) (parities : Parities) (mixed first : ℕ) where
   pub reaches_all : (set : ℕ) → Reaches set 0 → set ≡ restart_set n parities first
   reaches_all set all =
       let least = restarts_least n parities first in
-      same_lines set (restart_set n parities first) (λ line. same_both_ways _ _ (all.least (restart_set n parities first) least.itself line) (least.least set closed line))
+      same_lines set (restart_set n parities first) (λ line. same_bool _ _ (all.least (restart_set n parities first) least.itself line) (least.least set closed line))
     where
       closed : IsClosed n parities first set
       closed = record {

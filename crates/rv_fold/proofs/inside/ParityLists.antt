@@ -1,5 +1,6 @@
 -- Lists of the parities on lines.
-use Rattle.std.proofs.Common.{◌≡◌, ℕ, zero, suc, ◌^◌, ◌<◌, ◌≤◌, Bool, true, false, cond, List, [], ◌∷◌, ◌++◌, length, get_or, set, refl, sym, ap, ◌∙◌, arith, inl, inr, get_or-set_same, get_or-set_other, eq-eqb, ne_eqb, length-append}
+use Rattle.std.proofs.lemmas.Grind.{common_steps}
+use Rattle.std.proofs.Common.{◌≡◌, ℕ, zero, suc, ◌^◌, ◌<◌, ◌≤◌, false, cond, List, [], ◌∷◌, ◌++◌, length, get_or, set, refl, sym, ap, ◌∙◌, arith, inl, inr, get_or-set_same, get_or-set_other, eq-eqb, ne_eqb, length-append}
 use Rattle.std.proofs.Math.ListN.{get_or-append}
 use Rattle.std.proofs.lemmas.List.{get_or_push}
 use Rattle.std.proofs.lemmas.Bool.{cases_eq, cases_lt}
@@ -35,40 +36,11 @@ alone_more list k p e is h = λ i line. at line i
         ]
 
 pub with_parity_set : (list : List Parity) (q : ℕ) (f : Parity) → q < length list → parities_of (set list q f) ≡ with_parity (parities_of list) q f
-with_parity_set list q f h = λ i line. at line i
-  where
-    at : (line : ℕ) → parities_of (set list q f) line ≡ with_parity (parities_of list) q f line
-    at line =
-        elim (cases_eq line q) [
-          | inl e ↦
-              ((ap (λ l. get_or (set list q f) l (own line)) e ∙ get_or-set_same list q f (own line) h)
-              ∙ ap (λ b. cond b f (parities_of list line)) (sym (eq-eqb line q e)))
-          | inr d ↦
-              ((get_or-set_other list q line f (own line) d)
-              ∙ ap (λ b. cond b f (parities_of list line)) (sym (ne_eqb line q d)))
-        ]
+with_parity_set list q f h =
+    grind (arith, parities_of, with_parity, cases_eq, get_or-set_same, eq-eqb, get_or-set_other, ne_eqb)
 
 pub parity_read : (list : List Parity) (k : ℕ) (d : Parity) → k < length list → get_or list k d ≡ parities_of list k
-parity_read list k d h = same list k d (own k) h
-  where
-    same : (l : List Parity) (j : ℕ) (e f : Parity) → j < length l → get_or l j e ≡ get_or l j f
-    same [] j e f lt = absurd (omega arith)
-    same (g ∷ l) zero e f lt = refl
-    same (g ∷ l) (suc j) e f lt = same l j e f (omega arith)
+parity_read list k d h = grind (arith, common_steps)
 
 pub restarted_all : (list before : List Parity) (set : ℕ) → length list ≤ 64 → length before ≤ 64 → ((line : ℕ) → line < 64 → parities_of list line ≡ cond (has set line) (alone line) (parities_of before line)) → parities_of list ≡ restarted set (parities_of before)
-restarted_all list before set few small each = λ i line. at line i
-  where
-    either : {A : Type 0} (b : Bool) (f : A) → f ≡ cond b f f
-    either true f = refl
-    either false f = refl
-
-    at : (line : ℕ) → parities_of list line ≡ restarted set (parities_of before) line
-    at line =
-        elim (cases_lt line 64) [
-          | inl l ↦ each line l
-          | inr r ↦
-              (parities_of_past list line (omega arith)
-              ∙ either (has set line) (alone line)
-              ∙ ap (λ f. cond (has set line) (alone line) f) (sym (parities_of_past before line (omega arith))))
-        ]
+restarted_all list before set few small each = grind (arith, parities_of, cases_lt, parities_of_past)

@@ -1,13 +1,11 @@
 -- Slots and a map together: what is found once a place is noted.
-use Rattle.std.proofs.Common.{◌≡◌, ℕ, ◌+◌, ◌-◌, ◌*◌, ◌%◌, ◌<◌, ◌≤◌, Bool, true, false, cond, ◌&&◌, eqb, ne_eqb, Option, Some, None, List, length, get_or, set, sym, ap, ap₂, ◌∙◌, arith, inl, inr, ◌⊎◌, get_or-set_same, get_or-set_other, length-set}
-use mir.Val.{bool_byte}
-use Rattle.std.proofs.Math.Nat.{mod-eq_of_lt, mod-eq-sub-mod, mod-lt}
-use Rattle.std.proofs.lemmas.Bool.{cases_Bool, cases_eq, cases_lt, lt-ltb, le-ltb}
+use Rattle.std.proofs.Common.{◌≡◌, ℕ, ◌+◌, ◌-◌, ◌*◌, ◌%◌, ◌<◌, ◌≤◌, Bool, true, false, cond, ◌&&◌, eqb, Option, Some, None, List, length, get_or, set, sym, ap, ap₂, ◌∙◌, arith, inl, inr, ◌⊎◌, get_or-set_same, get_or-set_other, length-set}
+use Rattle.std.proofs.Math.Nat.{mod-eq_of_lt}
+use Rattle.std.proofs.lemmas.Bool.{cases_Bool, cases_eq}
 use Rattle.rv_fold.specs.Parities.{Parity, same_parity}
 use Rattle.rv_fold.specs.inside.Slots.{at_slot, key_cmp, slot_of}
 use Rattle.std.specs.Ordering.{is_eq, nat_cmp, bool_cmp, ordering_then}
 use Rattle.std.specs.declared.cmp.Ordering.{Ordering}
-use Rattle.std.specs.declared.cmp.Ordering.TheVariants.{Less, Equal, Greater}
 use Rattle.rv_gate.specs.Gate.{same}
 use Rattle.rv_fold.specs.declared.firsts.Begun.{Begun}
 use Rattle.rv_fold.proofs.Walking.{same_parity-eq, same_parity-refl}
@@ -18,38 +16,18 @@ same_flags : (a b : Bool) → is_eq (bool_cmp a b) ≡ same a b
 same_flags a b = grind arith
 
 same_numbers : (x y : ℕ) (o : Ordering) (s : Bool) → is_eq o ≡ s → is_eq (ordering_then (nat_cmp x y) o) ≡ (eqb x y && s)
-same_numbers x y o s e =
-    elim (cases_lt x y) [
-      | inl l ↦
-          (ap (λ b. is_eq (ordering_then (cond b Less (cond (eqb x y) Equal Greater)) o)) (lt-ltb x y l)
-          ∙ sym (ap (λ b. b && s) (ne_eqb x y (λ q. let m = l in absurd (omega arith)))))
-      | inr r ↦
-          (ap (λ b. is_eq (ordering_then (cond b Less (cond (eqb x y) Equal Greater)) o)) (le-ltb x y r)
-          ∙ elim (cases_Bool (eqb x y)) [
-            | inl q ↦ (ap (λ b. is_eq (ordering_then (cond b Equal Greater) o)) q ∙ e ∙ sym (ap (λ b. b && s) q))
-            | inr q ↦ (ap (λ b. is_eq (ordering_then (cond b Equal Greater) o)) q ∙ sym (ap (λ b. b && s) q))
-          ])
-    ]
+same_numbers x y o s e = grind arith
 
 pub same_keys : (p key : Parity) → is_eq (key_cmp (p.lines, p.flipped) (key.lines, key.flipped)) ≡ same_parity p key
 same_keys p key = same_numbers p.lines key.lines (bool_cmp p.flipped key.flipped) (same p.flipped key.flipped) (same_flags p.flipped key.flipped)
 
 -- ---- slots
 
-pub flag : (b : Bool) → bool_byte b ≡ cond b 1 0
-flag b = grind arith
-
-flag_small : (b : Bool) → cond b 1 0 ≤ 1
-flag_small b = grind arith
-
 pub slot_below : (count : ℕ) (p : Parity) (r f : ℕ) → r ≡ p.lines % count → f ≡ cond p.flipped 1 0 → r * 2 + f < count → r * 2 + f ≡ slot_of count p
 slot_below count p r f e g lt = sym (mod-eq_of_lt lt) ∙ ap₂ (λ (a b : ℕ). (a * 2 + b) % count) e g
 
 pub slot_above : (count : ℕ) (p : Parity) (r f : ℕ) → 0 < count → r ≡ p.lines % count → f ≡ cond p.flipped 1 0 → count ≤ r * 2 + f → r * 2 + f - count ≡ slot_of count p
-slot_above count p r f some e g le =
-    let small = mod-lt p.lines some in
-    let fits = flag_small p.flipped in
-    sym (mod-eq_of_lt (omega arith)) ∙ sym (mod-eq-sub-mod le) ∙ ap₂ (λ (a b : ℕ). (a * 2 + b) % count) e g
+slot_above count p r f some e g le = grind arith
 
 -- what is found, by the slots and what the map has
 abbrev pub looked : List (Option Begun) → (Parity → Option ℕ) → Parity → Option ℕ

@@ -2,7 +2,7 @@
 use Rattle.std.proofs.Common.{◌≡◌, ◌≢◌, ℕ, zero, suc, ◌+◌, ◌<◌, ◌≤◌, Bool, true, cond, List, [], ◌∷◌, ◌++◌, length, get_or, set, refl, sym, ap, ◌∙◌, arith, inl, inr, ◌⊎◌, subst, Some, None, Option}
 use Rattle.std.specs.Prelude.{slice_get, replicate}
 use Rattle.std.proofs.lemmas.Bool.{cases_eq, cases_lt}
-use Rattle.std.proofs.lemmas.List.{get_or-replicate, get_or-set_same, get_or-set_other, length-replicate, length-set}
+use Rattle.std.proofs.lemmas.List.{get_or-replicate, get_or-set_same, get_or-set_other, length-replicate}
 use Rattle.std.proofs.lemmas.Option.{none-some, same_Some, slice_get_within}
 use Rattle.rv_gate.specs.Word.{has}
 use Rattle.rv_gate.proofs.LowestLine.{IsLowest}
@@ -45,9 +45,7 @@ pub record IsLink (cells : Cells) (nodes : List Node) (belongs : Op → Bool) (l
 
 pub view : (cells : Cells) (nodes : List Node) (belongs : Op → Bool) (link to : ℕ) → Chain cells nodes belongs link to
     → ((link ≡ 0) × NoneFrom cells belongs 0 to) ⊎ IsLink cells nodes belongs link to
-view cells nodes belongs _ _ (ends to none) = inl (refl, none)
-view cells nodes belongs _ _ (links at to node there early none own rest) =
-    inr (record { at = at; node = node; is = refl; there = there; early = early; none = none; own = own; rest = rest })
+view cells nodes belongs link to h = grind arith
 
 -- ---- a node more, an operation more, an operation less, and a place further on
 
@@ -112,31 +110,6 @@ pub latest_here : (cells : Cells) (nodes : List Node) (belongs : Op → Bool) (l
 latest_here cells nodes belongs link is o there = record {
   none = λ k p le lt h. is.none k p (omega arith) lt h;
   some = inr (is.node.place, (o, (refl, there, is.own o there)));
-}
-
-pub latest_none : (cells : Cells) (nodes : List Node) (belongs : Op → Bool) → Chain cells nodes belongs 0 (length cells) → IsLatest cells belongs 0
-latest_none cells nodes belongs chain =
-    elim (view cells nodes belongs 0 (length cells) chain) [
-      | inl none ↦ record { none = none.1; some = inl refl }
-      | inr is ↦ absurd (omega (arith, is.is))
-    ]
-
--- a slot has another head, and no other slot has
-pub headed : (belongs : ℕ → Op → Bool) (cells : Cells) (to : ℕ) (chains next : Chains) (slot head : ℕ) → AreChains belongs cells to chains → slot < length chains.heads.items
-    → next.heads.items ≡ set chains.heads.items slot head → next.nodes.items ≡ chains.nodes.items → Chain cells chains.nodes.items (belongs slot) head to → AreChains belongs cells to next
-headed belongs cells to chains next slot head are lt heads nodes chain = record {
-  each = λ other below.
-      subst (λ n. Chain cells n (belongs other) (get_or next.heads.items other 0) to) (sym nodes)
-      (elim (cases_eq other slot) [
-        | inl same ↦
-            (let read : get_or next.heads.items slot 0 ≡ head = ap (λ (l : List ℕ). get_or l slot 0) heads ∙ get_or-set_same chains.heads.items slot head 0 lt in
-            rw same (subst (λ n. Chain cells chains.nodes.items (belongs slot) n to) (sym read) chain))
-        | inr differs ↦
-            (let read : get_or next.heads.items other 0 ≡ get_or chains.heads.items other 0 =
-            ap (λ (l : List ℕ). get_or l other 0) heads ∙ get_or-set_other chains.heads.items slot other head 0 differs in
-            subst (λ n. Chain cells chains.nodes.items (belongs other) n to) (sym read)
-            (are.each other (omega (arith, below, ap length heads, length-set chains.heads.items slot head))))
-      ]);
 }
 
 -- ---- a node is pushed

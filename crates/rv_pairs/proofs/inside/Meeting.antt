@@ -46,11 +46,7 @@ free_of belongs cells shown s set place result chains same is told are =
     (subst (λ m. MatchBool result (IsFree belongs shown m place) (IsBlocked belongs shown m place)) is (told belongs (subst (λ (l : Cells). AreChains belongs l (length l) chains) (sym same) are)))
 
 pub place_within : (cells : Cells) (belongs : Op → Bool) (latest : ℕ) (shown : Cells) → IsLatest cells belongs latest → (latest ≡ 0 → ⊥) → shown ≡ cells → latest - 1 < length shown
-place_within cells belongs latest shown is some same =
-    elim is.some [
-      | inl none ↦ absurd (some none)
-      | inr found ↦ (let lt = slice_get_within cells found.0 _ found.1.1.1 in omega (arith, found.1.1.0, ap length same))
-    ]
+place_within cells belongs latest shown is some same = grind (arith, slice_get_within)
 
 module _ (cells : Cells) (o : Op) (n : ℕ) (few : n ≤ 64) (fits : OpFitsIn o n) (fitting : (place : ℕ) (p : Op) → StandsAt cells place p → OpFitsIn p n) where
   -- a partner stands before the latest operation of its number, or is it

@@ -1,7 +1,6 @@
 -- Operations have one number only where one is the other, or two of its lines are exchanged that may be.
 use Rattle.std.proofs.Common.{◌≡◌, ℕ, ◌+◌, ◌*◌, ◌^◌, ◌<◌, ◌≤◌, cond, eqb, min, max, refl, sym, ap, ap₂, ◌∙◌, arith, inl, inr, ◌⊎◌}
 use Rattle.std.proofs.lemmas.Bool.{cases_lt}
-use Rattle.std.proofs.Math.Nat.{min_comm, max_comm}
 use Rattle.rv_net.specs.declared.op.Op.{Op}
 use Rattle.rv_net.specs.declared.op.Op.TheVariants.{X, Y, Z, H, S, Sdg, T, Tdg, Cx, Cz, Ccx, Swap, Cswap}
 use Rattle.rv_net.specs.Op.{OpFitsIn}
@@ -50,27 +49,10 @@ small (Ccx a b c) n few h = on_three 12 (min a b) (max a b) c n few (omega arith
 small (Cswap c a b) n few h = on_three 13 (min a b) (max a b) c n few (omega arith) (omega arith) (omega arith) (omega arith) (omega arith)
 
 pub code_fits : (o : Op) (n : ℕ) → n ≤ 64 → OpFitsIn o n → code o < (12 + 2 * n) * 2 ^ 12
-code_fits o n few h =
-    let s = small o n few h in
-    elim s.third [
-      | inl none ↦ omega (arith, code_parts o, none.0, none.1, s.a, s.b, s.c)
-      | inr third ↦ omega (arith, code_parts o, s.kind, s.a, s.b, s.c)
-    ]
-
-same_kind : (p q : Parts) → p.kind < 14 → q.kind < 14 → HasThird p → HasThird q → p.kind + 2 * p.c ≡ q.kind + 2 * q.c → p.kind ≡ q.kind
-same_kind p q low less (inl none) (inl nor) e = omega (arith, e, none.1, nor.1)
-same_kind p q low less (inl none) (inr third) e = omega (arith, e, none.0, none.1, third)
-same_kind p q low less (inr third) (inl none) e = omega (arith, e, none.0, none.1, third)
-same_kind p q low less (inr third) (inr other) e = omega (arith, e, low, less, third, other)
+code_fits o n few h = grind (arith, small, code_parts)
 
 same_parts : (p q : Parts) (n : ℕ) → n ≤ 64 → Small n p → Small n q → number p ≡ number q → p ≡ q
-same_parts p q n few s t e =
-    let second : p.b ≡ q.b = omega (arith, e, s.a, s.b, t.a, t.b) in
-    let first : p.a ≡ q.a = omega (arith, e, second, s.a, t.a) in
-    let block : p.kind + 2 * p.c ≡ q.kind + 2 * q.c = omega (arith, e, second, first) in
-    let kind : p.kind ≡ q.kind = same_kind p q s.kind t.kind s.third t.third block in
-    let third : p.c ≡ q.c = omega (arith, block, kind) in
-    λ i. record { kind = kind i; a = first i; b = second i; c = third i }
+same_parts p q n few s t e = grind arith
 
 -- ---- the operation again
 
@@ -107,19 +89,7 @@ again p =
 
 again_sorted : (o : Op) → again (parts o) ≡ sorted o
 unfolding again
-again_sorted (X q) = refl
-again_sorted (Y q) = refl
-again_sorted (Z q) = refl
-again_sorted (H q) = refl
-again_sorted (S q) = refl
-again_sorted (Sdg q) = refl
-again_sorted (T q) = refl
-again_sorted (Tdg q) = refl
-again_sorted (Cx a b) = refl
-again_sorted (Cz a b) = refl
-again_sorted (Ccx a b c) = refl
-again_sorted (Swap a b) = refl
-again_sorted (Cswap c a b) = refl
+again_sorted o = grind arith
 
 abbrev Pair : (ℕ → ℕ → Op) → ℕ → ℕ → Type 0
 Pair f a b = (f (min a b) (max a b) ≡ f a b) ⊎ (f (min a b) (max a b) ≡ f b a)
@@ -127,50 +97,8 @@ Pair f a b = (f (min a b) (max a b) ≡ f a b) ⊎ (f (min a b) (max a b) ≡ f 
 pair : (f : ℕ → ℕ → Op) (a b : ℕ) → Pair f a b
 pair f a b = elim (cases_lt a b) [ inl below ↦ inl (ap₂ f (omega arith) (omega arith)) | inr above ↦ inr (ap₂ f (omega arith) (omega arith)) ]
 
-sorted_cases : (o : Op) → (sorted o ≡ o) ⊎ (sorted o ≡ mirrored o)
-sorted_cases (X q) = inl refl
-sorted_cases (Y q) = inl refl
-sorted_cases (Z q) = inl refl
-sorted_cases (H q) = inl refl
-sorted_cases (S q) = inl refl
-sorted_cases (Sdg q) = inl refl
-sorted_cases (T q) = inl refl
-sorted_cases (Tdg q) = inl refl
-sorted_cases (Cx a b) = inl refl
-sorted_cases (Cz a b) = pair (λ s t. Cz s t) a b
-sorted_cases (Ccx a b c) = pair (λ s t. Ccx s t c) a b
-sorted_cases (Swap a b) = pair (λ s t. Swap s t) a b
-sorted_cases (Cswap c a b) = pair (λ s t. Cswap c s t) a b
-
-twice_mirrored : (o : Op) → mirrored (mirrored o) ≡ o
-twice_mirrored (X q) = refl
-twice_mirrored (Y q) = refl
-twice_mirrored (Z q) = refl
-twice_mirrored (H q) = refl
-twice_mirrored (S q) = refl
-twice_mirrored (Sdg q) = refl
-twice_mirrored (T q) = refl
-twice_mirrored (Tdg q) = refl
-twice_mirrored (Cx a b) = refl
-twice_mirrored (Cz a b) = refl
-twice_mirrored (Ccx a b c) = refl
-twice_mirrored (Swap a b) = refl
-twice_mirrored (Cswap c a b) = refl
-
 same_sorted : (p w : Op) → sorted p ≡ sorted w → (p ≡ w) ⊎ (p ≡ mirrored w)
-same_sorted p w e =
-    elim (sorted_cases p) [
-      | inl sp ↦
-          (elim (sorted_cases w) [
-            | inl sw ↦ inl (sym sp ∙ e ∙ sw)
-            | inr sw ↦ inr (sym sp ∙ e ∙ sw)
-          ])
-      | inr sp ↦
-          (elim (sorted_cases w) [
-            | inl sw ↦ inr (sym (twice_mirrored p) ∙ ap mirrored (sym sp ∙ e ∙ sw))
-            | inr sw ↦ inl (sym (twice_mirrored p) ∙ ap mirrored (sym sp ∙ e ∙ sw) ∙ twice_mirrored w)
-          ])
-    ]
+same_sorted p w e = grind arith
 
 -- ---- the law
 
@@ -184,21 +112,7 @@ same_code p o n few fp fo e =
     ∙ again_sorted (inverse o))
 
 mirrored_parts : (o : Op) → parts (mirrored o) ≡ parts o
-mirrored_parts (X q) = refl
-mirrored_parts (Y q) = refl
-mirrored_parts (Z q) = refl
-mirrored_parts (H q) = refl
-mirrored_parts (S q) = refl
-mirrored_parts (Sdg q) = refl
-mirrored_parts (T q) = refl
-mirrored_parts (Tdg q) = refl
-mirrored_parts (Cx a b) = refl
-mirrored_parts (Cz a b) = λ i. record { kind = 9; a = min_comm b a i; b = max_comm b a i; c = 0 }
-mirrored_parts (Ccx a b c) = λ i. record { kind = 12; a = min_comm b a i; b = max_comm b a i; c = c }
-mirrored_parts (Swap a b) = λ i. record { kind = 10; a = min_comm b a i; b = max_comm b a i; c = 0 }
-mirrored_parts (Cswap c a b) = λ i. record { kind = 13; a = min_comm b a i; b = max_comm b a i; c = c }
+mirrored_parts o = grind arith
 
 pub undoes_code : (p o : Op) → Undoes p o → code p ≡ code (inverse o)
-undoes_code p o (inl e) = ap code e
-undoes_code p o (inr e) =
-    ap code e ∙ code_parts (mirrored (inverse o)) ∙ ap number (mirrored_parts (inverse o)) ∙ sym (code_parts (inverse o))
+undoes_code p o h = grind (arith, code_parts, mirrored_parts)

@@ -1,4 +1,5 @@
 -- The walk, operation by operation: what is kept of a network whose pairs go.
+use Rattle.std.proofs.lemmas.Grind.{common_steps}
 use Rattle.std.proofs.Common.{◌≡◌, ◌≢◌, ℕ, zero, suc, ◌+◌, ◌-◌, ◌*◌, ◌<◌, ◌≤◌, true, Some, None, Option, List, [], ◌∷◌, ◌++◌, length, take, drop, set, get_or, append-nil, refl, sym, ap, ap₂, ◌∙◌, arith, inl, inr, subst, length-append, length-set}
 use Rattle.std.specs.Prelude.{All, bit_or, count_by, slice_get, ◌^◌, IsTrue}
 use Rattle.std.proofs.lemmas.Bool.{cases_eq, cases_order}
@@ -49,10 +50,6 @@ abbrev EachFits : ℕ → List Op → Type 0
 EachFits n [] = Unit {0}
 EachFits n (o ∷ ops) = OpFitsIn o n × EachFits n ops
 
-each_fits : (n : ℕ) (ops : List Op) → All (λ o. OpFitsIn o n) ops → EachFits n ops
-each_fits n [] h = tt
-each_fits n (o ∷ ops) h = (All-head (λ p. OpFitsIn p n) o ops h, each_fits n ops (All-tail (λ p. OpFitsIn p n) o ops h))
-
 moved : (n : ℕ) (o : Op) (between : List Op) (k : Word → Cyclotomic) (x : Word) → length x ≡ n → EachPasses o between → EachFits n between → OpFitsIn o n
     → through between (λ v. step o k v) x ≡ step o (λ v. through between k v) x
 unfolding through
@@ -84,19 +81,7 @@ pair_gone n before p between o k x e undoes pass fits fit =
 
 count_one : (o : Op) (ops : List Op) → count_h (o ∷ ops) ≡ twos o + count_h ops
 unfolding count_h
-count_one (H q) ops = omega arith
-count_one (X q) ops = omega arith
-count_one (Y q) ops = omega arith
-count_one (Z q) ops = omega arith
-count_one (S q) ops = omega arith
-count_one (Sdg q) ops = omega arith
-count_one (T q) ops = omega arith
-count_one (Tdg q) ops = omega arith
-count_one (Cx a b) ops = omega arith
-count_one (Cz a b) ops = omega arith
-count_one (Ccx a b c) ops = omega arith
-count_one (Swap a b) ops = omega arith
-count_one (Cswap c a b) ops = omega arith
+count_one o ops = grind arith
 
 count_none : count_h [] ≡ 0
 unfolding count_h
@@ -178,14 +163,11 @@ unfolding present
 present_none = refl
 
 pub present_more : (cells : Cells) (k : ℕ) (d : Option Op) (o : Op) → k < length cells → get_or cells k d ≡ Some o → present (take (k + 1) cells) ≡ present (take k cells) ++ o ∷ []
-present_more cells k d o lt e =
-    ap present (take_more cells k d lt) ∙ present-append (take k cells) (get_or cells k d ∷ [])
-    ∙ ap (λ l. present (take k cells) ++ l) (ap (λ (c : Option Op). present (c ∷ [])) e ∙ present_one o)
+present_more cells k d o lt e = grind (arith, common_steps, take_more, present-append, present_one)
 
 pub present_same : (cells : Cells) (k : ℕ) (d : Option Op) → k < length cells → get_or cells k d ≡ None → present (take (k + 1) cells) ≡ present (take k cells)
 present_same cells k d lt e =
-    ap present (take_more cells k d lt) ∙ present-append (take k cells) (get_or cells k d ∷ [])
-    ∙ ap (λ l. present (take k cells) ++ l) (ap (λ (c : Option Op). present (c ∷ [])) e ∙ present_gap [] ∙ present_none) ∙ append-nil _
+    grind (arith, common_steps, take_more, present-append, present_gap, present_none, append-nil)
 
 slice_get-drop : {A : Type 0} (m i j : ℕ) (l : List A) → j ≡ m + i → slice_get (drop m l) i ≡ slice_get l j
 slice_get-drop zero i j l e = ap (slice_get l) (let g : i ≡ j = omega arith in g)

@@ -1,4 +1,5 @@
 -- Numbers that are sent one after another, sixteen to a line.
+use Rattle.std.proofs.lemmas.Grind.{common_steps}
 use Rattle.std.proofs.Common.{◌≡◌, ℕ, ◌+◌, ◌<◌, ◌≤◌, ◌*◌, ◌^◌, ◌%◌, List, [], ◌∷◌, ◌++◌, length, map, drop, get_or, refl, sym, ap, ◌∙◌, append_assoc, arith, nat_eq, inl, inr, decimal, cond, drop-cons, add-one}
 use Rattle.std.proofs.Math.Dec.{eqb-suc-zero}
 use Rattle.std.proofs.lemmas.Bool.Decides.{eqb_tells}
@@ -6,7 +7,7 @@ use Rattle.std.proofs.lemmas.List.{append-nil, length-append, map-append, drop_a
 use Rattle.std.proofs.Math.Nat.{pow-le-pow_right}
 use Rattle.rv_io.specs.Sink.{SinkView}
 use Rattle.rv_io.specs.Writer.{Writer, Adds}
-use Rattle.rv_io.proofs.Adding.{adds_none, adds_then, adds_as}
+use Rattle.rv_io.proofs.Adding.{adds_then, adds_as}
 use Rattle.rv_text.specs.Spelled.{more_words, words_line, spelled}
 use Rattle.rv_text.proofs.Pieces.{more_words-append}
 use Rattle.rv_perm.specs.Perm.{IsPerm}
@@ -20,9 +21,6 @@ pub record IsSending (first : Writer) (before : SinkView) (numbers : List ℕ) (
   pub done : List ℕ
   pub rest : done ++ cells column (drop x numbers) ≡ cells 0 numbers
   pub adds : Adds first before done draft now
-
-pub sending_none : (draft : Writer) (now : SinkView) (numbers : List ℕ) → IsSending draft now numbers 0 0 draft now
-sending_none draft now numbers = record { bound = omega arith; done = []; rest = refl; adds = adds_none draft now }
 
 pub sending_more : {first draft new : Writer} {before now then : SinkView} (numbers : List ℕ) (x column next n : ℕ) → n ≡ get_or numbers x 0 → x < length numbers → next ≡ next_column column → next < 16
     → IsSending first before numbers x column draft now → Adds draft now (cell column n) new then → IsSending first before numbers (x + 1) next new then
@@ -40,9 +38,7 @@ sending_more numbers x column next n is within turns bound so_far adds =
 
 -- how many numbers there are, as the code counts them
 pub word_count : (lines k : ℕ) (images : List ℕ) → k ≡ lines → IsPerm lines images → (1 * 2 ^ k) % 4294967296 ≡ length images
-word_count lines k images same is =
-    let bound : 2 ^ lines ≤ 2 ^ 16 = pow-le-pow_right {n = 2} (omega arith) is.1 in
-    rw same (omega (arith, bound, is.2))
+word_count lines k images same is = grind (arith, pow-le-pow_right)
 
 -- ---- the rows as they are sent
 
@@ -50,10 +46,8 @@ more_words-push : (ws : List (List ℕ)) (w : List ℕ) → more_words (ws ++ w 
 more_words-push ws w = more_words-append ws (w ∷ []) ∙ ap (λ (xs : List ℕ). more_words ws ++ (32 ∷ xs)) (append-nil w)
 
 words_line-push : (row : List ℕ) (n : ℕ) → words_line (map decimal (row ++ n ∷ [])) ≡ words_line (map decimal row) ++ (cond (nat_eq (length row) 0) [] (32 ∷ []) ++ decimal n)
-words_line-push [] n = append-nil (decimal n)
-words_line-push (m ∷ row) n =
-    rw (map-append decimal row (n ∷ []), eqb-suc-zero (length row))
-    (ap (λ (xs : List ℕ). decimal m ++ xs) (more_words-push (map decimal row) (decimal n)) ∙ sym (append_assoc (decimal m) (more_words (map decimal row)) (32 ∷ decimal n)))
+words_line-push row n =
+    grind (arith, common_steps, append-nil, map-append, eqb-suc-zero, more_words-push, append_assoc, more_words)
 
 rows_spelled : (row numbers : List ℕ) → length row < 16 → spelled (map (λ r. map decimal r) (rows_from row numbers)) ≡ words_line (map decimal row) ++ cells (length row) numbers
 rows_spelled [] [] h = refl

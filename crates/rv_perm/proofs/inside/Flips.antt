@@ -7,7 +7,7 @@ use Rattle.std.proofs.lemmas.Nat.Bits.{bit_at-lt, bit_at_and, bit_at_xor, bit_at
 use Rattle.std.specs.Int.{bit_at}
 use Rattle.rv_gate.specs.Word.{has, bit_of, number_of, word_of}
 use Rattle.rv_gate.specs.inside.WordLaws.{bit_of-word_of, number_of-word_of_small}
-use Rattle.rv_gate.specs.Gate.{holds, flip, act_on_number}
+use Rattle.rv_gate.specs.Gate.{flip, act_on_number}
 use Rattle.rv_gate.specs.declared.gate.Shape.TheVariants.{Flip}
 use Rattle.rv_gate.proofs.inside.Mirrors.{IsMirror, holds-mirrored}
 use Rattle.rv_gate.proofs.inside.WordLemmas.{word_of-set}
@@ -63,14 +63,17 @@ tests v c w =
 pub moved_flip : (n v care want target c w : ℕ) → IsMirror n care c → IsMirror n want w → target < n → v < 2 ^ n
     → act_on_number (Flip care want target) n v ≡ counterpart c (bit_xor c w) (2 ^ (n - 1 - target)) v
 moved_flip n v care want target c w mc mw target_in lt =
-    let same : holds care want (word_of n v) ≡ eqb (bit_and (bit_xor v (bit_xor c w)) c) c = sym (tests v c w ∙ holds-mirrored n v care want c w mc mw) in
-    elim (cases_Bool (holds care want (word_of n v))) [
-      | inl on ↦
-          ap number_of (cond-true (holds care want (word_of n v)) _ _ on)
-          ∙ flipped n v target (n - 1 - target) (omega arith) lt
-          ∙ sym (cond-true (eqb (bit_and (bit_xor v (bit_xor c w)) c) c) _ _ (sym same ∙ on))
-      | inr off ↦
-          ap number_of (cond-false (holds care want (word_of n v)) _ _ off)
-          ∙ number_of-word_of_small n v lt
-          ∙ sym (cond-false (eqb (bit_and (bit_xor v (bit_xor c w)) c) c) _ _ (sym same ∙ off))
-    ]
+    grind (
+      arith,
+      word_of,
+      bit_and,
+      bit_xor,
+      tests,
+      holds-mirrored,
+      cases_Bool,
+      number_of,
+      cond-true,
+      flipped,
+      cond-false,
+      number_of-word_of_small,
+    )

@@ -1,10 +1,10 @@
 -- A permutation and its inverse, and what gates make of both.
-use Rattle.std.proofs.Common.{◌≡◌, ◌≢◌, ℕ, zero, suc, ◌^◌, ◌<◌, ◌≤◌, true, false, eqb, List, [], ◌∷◌, ◌++◌, length, map, get_or, set, take, drop, sym, ◌∙◌, ap, inl, inr, arith, ne_eqb, eq-eqb, ext_get_or, length-set, get_or-set_same, get_or-set_other}
+use Rattle.std.proofs.Common.{◌≡◌, ◌≢◌, ℕ, zero, suc, ◌^◌, ◌<◌, false, eqb, List, ◌∷◌, ◌++◌, length, map, get_or, set, take, drop, sym, ◌∙◌, ap, inl, inr, arith, ne_eqb, eq-eqb, ext_get_or, length-set, get_or-set_same, get_or-set_other}
 use Rattle.std.specs.Prelude.{◌⊎◌}
-use Rattle.std.specs.List.{list_any, IsDistinct}
-use Rattle.std.proofs.lemmas.Bool.{cases_eq, cases_lt, cases_order, or_cases, eqb-true, false≢true}
+use Rattle.std.specs.List.{IsDistinct}
+use Rattle.std.proofs.lemmas.Bool.{cases_eq}
 use Rattle.std.proofs.lemmas.List.{get_or-map, get_or_default, length-map, take_at}
-use Rattle.std.proofs.lemmas.List.Sums.{position_or_len_is, fails_before_first}
+use Rattle.std.proofs.lemmas.List.Sums.{position_or_len_is}
 use Rattle.std.proofs.lemmas.List.FromFn.{length-map-range_with_len, get_or-map-range_with_len}
 use Rattle.std.proofs.lemmas.Map.Keys.{IsDistinct-from_apart}
 use Rattle.std.proofs.lemmas.Map.Steps.{length-le_from_distinct_below}
@@ -60,11 +60,7 @@ stands_once images y p lt =
 
 -- two places with one number are one
 pub place_once : (images : List ℕ) (x y : ℕ) → IsEachOnce images → x < length images → y < length images → get_or images x 0 ≡ get_or images y 0 → x ≡ y
-place_once images x y once hx hy e =
-    elim (cases_order x y) [
-      | inl same ↦ same
-      | inr other ↦ elim other [ inl before ↦ absurd (once.1 x y before hy e) | inr after ↦ absurd (once.1 y x after hx (sym e)) ]
-    ]
+place_once images x y once hx hy e = grind arith
 
 pub onto : (n : ℕ) (images : List ℕ) (y : ℕ) → IsPerm n images → y < 2 ^ n → (x : ℕ) × (x < 2 ^ n) × (get_or images x 0 ≡ y)
 onto n images y p lt = let s = stands_once images y p.3 (omega (arith, p.2)) in (s.0, omega (arith, s.1, p.2), s.2)
@@ -75,15 +71,6 @@ onto n images y p lt = let s = stands_once images y p.3 (omega (arith, p.2)) in 
 pub preimage_of-first : (xs : List ℕ) (x y : ℕ) → ((j : ℕ) → j < x → get_or xs j 0 ≢ y) → x < length xs → get_or xs x 0 ≡ y → preimage_of xs y ≡ x
 unfolding preimage_of
 preimage_of-first xs x y none h e = position_or_len_is (λ v. eqb v y) xs x 0 (omega arith) (λ j l. ne_eqb _ _ (none j l)) (λ within. eq-eqb _ _ e)
-
--- a number stands at no place before its first one
-pub preimage_of-le : (xs : List ℕ) (x y : ℕ) → x < length xs → get_or xs x 0 ≡ y → preimage_of xs y ≤ x
-unfolding preimage_of
-preimage_of-le xs x y h e =
-    elim (cases_lt x (preimage_of xs y)) [
-      | inl before ↦ absurd (false≢true (sym (fails_before_first (λ v. eqb v y) xs x 0 before) ∙ eq-eqb _ _ e))
-      | inr from ↦ from
-    ]
 
 pub preimage_of-is : (xs : List ℕ) (x y : ℕ) → ((i j : ℕ) → i < j → j < length xs → get_or xs i 0 ≢ get_or xs j 0) → x < length xs → get_or xs x 0 ≡ y → preimage_of xs y ≡ x
 preimage_of-is xs x y apart h e = preimage_of-first xs x y (λ j l s. apart j x l h (s ∙ sym e)) h e

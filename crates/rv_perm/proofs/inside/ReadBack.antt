@@ -1,5 +1,5 @@
 -- A text that was written is read back.
-use Rattle.std.proofs.Common.{◌≡◌, ℕ, ◌+◌, ◌<◌, ◌≤◌, ◌^◌, Bool, false, List, [], ◌∷◌, ◌++◌, length, map, Some, Ok, refl, sym, ap, ◌∙◌, arith, zero-add, eq-eqb, codes}
+use Rattle.std.proofs.Common.{◌≡◌, ℕ, ◌+◌, ◌<◌, ◌≤◌, Bool, false, List, [], ◌∷◌, ◌++◌, length, map, Some, Ok, refl, sym, ap, ◌∙◌, arith, zero-add, eq-eqb, codes}
 use Rattle.std.proofs.Math.Nat.{pow-le-pow_right}
 use Rattle.std.proofs.lemmas.List.{append-nil}
 use Rattle.std.proofs.lemmas.List.Elements.{All-from_get_or}
@@ -63,9 +63,7 @@ marks_back m rest is = rw (constants_back m is, garbage_back m is) refl
 -- ---- the table
 
 few_words : (table : Table) → IsPerm table.lines table.images → length table.images ≤ 65536
-few_words table is =
-    let bound : 2 ^ table.lines ≤ 2 ^ 16 = pow-le-pow_right {n = 2} (omega arith) is.1 in
-    omega (arith, bound, is.2)
+few_words table is = grind (arith, pow-le-pow_right)
 
 small_images : (table : Table) → IsPerm table.lines table.images → Small table.images
 small_images table is =
@@ -96,9 +94,7 @@ lines_back m is =
     ∙ marks_back m (number_lines images) is ∙ numbers_read 2 (marks_given m) images few (small_images m.table is.permutes) ∙ rw zero-add refl
 
 end_back : (m : Marked) → IsMarked m → end_on (lines_for (length m.table.images)) (all_given m) ≡ Ok m
-end_back m is =
-    let lines = found_lines (length m.table.images) m.table.lines is.permutes.0 is.permutes.1 (sym is.permutes.2) in
-    rw (← lines, eq-eqb _ _ is.constants, eq-eqb _ _ is.garbage, table_back m.table is.permutes) refl
+end_back m is = grind (arith, found_lines, eq-eqb, table_back)
 
 object_back : (m : Marked) → IsMarked m → object_of line_rules as_fault end_given (text_of m) ≡ Ok m
 unfolding object_of whole_of

@@ -103,5 +103,15 @@ number_lines_are ns h = rw (rows_are_from ns) (rows_lines (rows_from [] ns) (row
 pub numbers_read : (before : ℕ) (given : Given) (ns : List ℕ) → given.count + length ns ≤ 65536 → Small ns
     → lines_read line_rules before given (map words_line (number_lines ns)) ≡ Ok (record given { numbers = given.numbers ++ ns; count = given.count + length ns })
 numbers_read before given ns few h =
-    ap (λ (rows : List (List ℕ)). lines_read line_rules before given (map words_line (map (λ row. map decimal row) rows))) (rows_are_from ns)
-    ∙ rows_back before given (rows_from [] ns) (rows_are [] ns tt h) ∙ ap (λ (all : List ℕ). Ok (with_numbers given all)) (rows_joined [] ns) ∙ ap Ok (numbers_kept given ns few h)
+    grind (
+      arith,
+      lines_read,
+      line_rules,
+      words_line,
+      rows_are_from,
+      rows_back,
+      rows_from,
+      rows_are,
+      rows_joined,
+      numbers_kept,
+    )

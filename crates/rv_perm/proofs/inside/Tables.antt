@@ -14,7 +14,7 @@ use Rattle.rv_perm.specs.Perm.{IsPerm, IsEachOnce, Table, lines_up_to, lines_for
 use Rattle.rv_perm.specs.inside.Places.{AreInverse}
 use Rattle.rv_reader.specs.FirstFault.{first_below, unless_fault}
 use Rattle.rv_reader.proofs.FirstBelow.{first_below-none}
-use Rattle.rv_perm.proofs.inside.Inverse.{preimage_of-first, preimage_of-is, preimage_of-le, stands_once}
+use Rattle.rv_perm.proofs.inside.Inverse.{preimage_of-first, preimage_of-is, stands_once}
 
 abbrev tabled : List ℕ → ℕ → Table
 tabled xs n = record { lines = n; images = xs }
@@ -48,20 +48,10 @@ lines_up_to-is (suc m) count =
     ]
 
 pow_same : (a b : ℕ) → 2 ^ a ≡ 2 ^ b → a ≡ b
-pow_same a b e =
-    elim (cases_lt a b) [
-      | inl below ↦ absurd (let p = pow_below a b below in omega arith)
-      | inr rest ↦ elim (cases_eq a b) [
-        | inl same ↦ same
-        | inr other ↦ let below : b < a = omega arith in absurd (let p = pow_below b a below in omega arith)
-      ]
-    ]
+pow_same a b e = grind (arith, cases_lt, pow_below, cases_eq)
 
 lines_same : (m count : ℕ) (r s : Option ℕ) → IsLines m count r → IsLines m count s → r ≡ s
-lines_same m count None None h k = refl
-lines_same m count None (Some n) h k = absurd (h n k.0 k.1 k.2)
-lines_same m count (Some n) None h k = absurd (k n h.0 h.1 h.2)
-lines_same m count (Some n) (Some i) h k = ap Some (pow_same n i (sym h.2 ∙ k.2))
+lines_same m count r s h h1 = grind (arith, pow_same)
 
 -- what a search through all numbers of lines answers
 pub found_lines : (count n : ℕ) → 1 ≤ n → n ≤ MOST_PERM_LINES → 2 ^ n ≡ count → Some n ≡ lines_for count
@@ -259,11 +249,7 @@ checked_text n xs t =
 
 pub refused_for : {T : Type 0} (n : ℕ) (xs : List ℕ) (r : Result T PermFault) (fault : PermFault) → lines_for (length xs) ≡ Some n → IfErr r (IsFaultOf n xs) → fault ≢ Mem
     → r ≡ Err fault → table_of xs ≡ Err fault
-refused_for n xs r fault lines told other e =
-    elim (IfErr-at_err (IsFaultOf n xs) e told) [
-      | inl mem ↦ absurd (other mem)
-      | inr is ↦ table_some n xs lines ∙ is
-    ]
+refused_for n xs r fault lines told other e = grind (arith, IfErr-at_err, table_some)
 
 pub refused_for_text : {T : Type 0} (n : ℕ) (xs : List ℕ) (r : Result T PermFault) (t : TextFault) → IfErr r (IsFaultOf n xs) → r ≢ Err (Text t)
 refused_for_text n xs r t told e =
@@ -285,51 +271,10 @@ clean_at xs n m lt e =
       ]
     ]
 
-clean_below : (count number first place : ℕ) → place_fault count number first place ≡ None → (number < count) × (place ≤ first)
-clean_below count number first place e =
-    elim (cases_lt number count) [
-      | inr past ↦ absurd (let z = sym (place_out count number first place past) ∙ e in cc)
-      | inl in_range ↦ elim (cases_lt first place) [
-        | inl again ↦ absurd (let z = sym (place_repeated count number first place in_range again) ∙ e in cc)
-        | inr new ↦ (in_range, new)
-      ]
-    ]
-
-pub clean_once : (xs : List ℕ) → fault_below xs (length xs) ≡ None → IsEachOnce xs
-clean_once xs e =
-    let at : (n : ℕ) → n < length xs → (get_or xs n 0 < length xs) × (n ≤ preimage_of xs (get_or xs n 0)) = λ n h.
-    clean_below (length xs) (get_or xs n 0) (preimage_of xs (get_or xs n 0)) n (clean_at xs n (length xs) h e) in (
-      λ x h. (at x h).0,
-      λ x y l h same.
-          let first = preimage_of-le xs x (get_or xs y 0) (omega arith) same in
-          absurd (omega (arith, (at y h).1)),
-    )
-
--- a list has a table exactly if it is a permutation, and the table's images are the list
-pub table_of-ok : (xs : List ℕ) (t : Table) → table_of xs ≡ Ok t → IsPerm t.lines t.images × (t.images ≡ xs)
-table_of-ok xs t e =
-    elim (option_cases (lines_for (length xs))) [
-      | inl none ↦ absurd (let z = sym (table_none xs none) ∙ e in cc)
-      | inr some ↦
-          let l = lines_for-some (length xs) some.0 some.1 in
-          let checked : images_checked some.0 xs ≡ Ok t = sym (table_some some.0 xs some.1) ∙ e in
-          elim (option_cases (fault_below xs (length xs))) [
-            | inr fault ↦ absurd (let z = sym (checked_err some.0 xs fault.0 fault.1) ∙ checked in cc)
-            | inl clean ↦
-                let same : tabled xs some.0 ≡ t = let z = sym (checked_ok some.0 xs clean) ∙ checked in cc in
-                let P : Table → Type 0 = λ v. IsPerm v.lines v.images × (v.images ≡ xs) in
-                subst P same ((l.0, l.1, l.2, clean_once xs clean), refl)
-          ]
-    ]
-
 -- ---- a permutation has no fault
 
 no_fault_below : (images : List ℕ) → IsEachOnce images → (n : ℕ) → n ≤ length images → fault_below images n ≡ None
-no_fault_below images once n le =
-    first_below-none (fault_at images) n (λ k lt. (
-    let here : k < length images = omega (arith, lt, le) in
-    let first : preimage_of images (get_or images k 0) ≡ k = preimage_of-is images k (get_or images k 0) once.1 here refl in
-    place_in_range (length images) (get_or images k 0) (preimage_of images (get_or images k 0)) k (once.0 k here) (omega (arith, first))))
+no_fault_below images once n le = grind (arith, first_below-none, fault_at, preimage_of, preimage_of-is, place_in_range)
 
 pub table_back : (table : Table) → IsPerm table.lines table.images → images_checked table.lines table.images ≡ Ok table
 table_back table is = checked_ok table.lines table.images (no_fault_below table.images is.3 (length table.images) (omega arith))

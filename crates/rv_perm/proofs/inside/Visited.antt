@@ -1,5 +1,5 @@
 -- The loop over the numbers that have all bits of a mask, and what it exchanges.
-use Rattle.std.proofs.Common.{◌≡◌, ◌≢◌, ℕ, ◌+◌, ◌%◌, ◌^◌, ◌<◌, ◌≤◌, eqb, min, List, length, get_or, set, refl, sym, ◌∙◌, ap, inl, inr, arith, length-set, get_or-set_same, get_or-set_other, eq-eqb, ne_eqb}
+use Rattle.std.proofs.Common.{◌≡◌, ◌≢◌, ℕ, ◌+◌, ◌%◌, ◌^◌, ◌<◌, ◌≤◌, eqb, List, length, get_or, set, refl, sym, ◌∙◌, ap, inl, inr, arith, length-set, get_or-set_same, get_or-set_other, eq-eqb, ne_eqb}
 use Rattle.std.specs.Prelude.{bit_and, bit_or, bit_xor, ◌⊎◌}
 use Rattle.std.proofs.lemmas.Bool.{cases_eq, cases_lt, cond-true, cond-false}
 use lib.Bits.{xor_self, xor_assoc, xor_zero_r}
@@ -16,9 +16,7 @@ abbrev pub HasAll : ℕ → ℕ → Type 0
 HasAll mask v = bit_and v mask ≡ mask
 
 pub bits_of : (mask v i : ℕ) → HasAll mask v → bit_at mask i ≤ bit_at v i
-bits_of mask v i h =
-    let m : min (bit_at v i) (bit_at mask i) ≡ bit_at mask i = sym (bit_at_and v mask i) ∙ ap (λ x. bit_at x i) h in
-    omega arith
+bits_of mask v i h = grind (arith, bit_at, bit_at_and)
 
 pub has_all : (mask v : ℕ) → ((i : ℕ) → bit_at mask i ≤ bit_at v i) → HasAll mask v
 has_all mask v h = same_from_bits _ _ (λ i. let b = h i in bit_at_and v mask i ∙ (omega arith))

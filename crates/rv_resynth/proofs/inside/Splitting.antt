@@ -97,3 +97,14 @@ replaced_by n gates from count window passed new are s r few =
           (same_equal n (before ++ ((new ++ passed) ++ after)) result (ap (λ rest. before ++ rest) (append_assoc new passed after))));
       few = few;
     }
+
+-- ---- all gates at once
+
+pub replaces_itself : (n : ℕ) (gates : List Shape) → AreGates n gates → length gates ≤ MOST_GATES → Replaces n gates gates
+replaces_itself n gates are few = record { gates = are; same = same_refl n gates; few = few }
+
+pub replaces_whole : (n : ℕ) (gates new : List Shape) → AreGates n gates → CanReplace n gates new → length new ≤ MOST_GATES → Replaces n gates new
+replaces_whole n gates new are r few = record { gates = r.gates; same = r.same n are.fitting r.gates.fitting; few = few }
+
+pub replaces_more : (n : ℕ) (a b d : List Shape) → Replaces n a b → Replaces n b d → Replaces n a d
+replaces_more n a b d h k = record { gates = k.gates; same = same_trans n a b d h.same k.same; few = k.few }

@@ -1,6 +1,6 @@
 -- A routed circuit does what the circuit does, and each of its gates is near.
 use Rattle.std.proofs.Common.{◌≡◌, ℕ, zero, suc, ◌+◌, ◌-◌, ◌<◌, ◌≤◌, Bool, true, false, ◌||◌, eqb, List, [], ◌∷◌, ◌++◌, length, get_or, map, All, refl, sym, ◌∙◌, ap, inl, inr, arith, eq-eqb, subst, ext_get_or}
-use Rattle.std.proofs.lemmas.Bool.{cases_eq, cases_lt, false≢true, eqb-true, or_cases, or_left, or_right}
+use Rattle.std.proofs.lemmas.Bool.{cases_eq, cases_lt, false≢true, or_left, or_right}
 use Rattle.std.proofs.lemmas.List.FromFn.{length-range_with_len, get_or-range_with_len}
 use Rattle.std.proofs.lemmas.List.{get_or-map, length-map}
 use Rattle.std.proofs.lemmas.List.Elements.{All-nil, All-cons, All-append, All-head, All-tail, All-weaker}
@@ -191,15 +191,7 @@ run_routed (g ∷ rest) s word i fit len =
 -- ---- what each gate of a routed circuit keeps
 
 neighbours_touch : (p k : ℕ) → touches (neighbours p) k ≡ true → (p ≤ k) × (k ≤ p + 1)
-neighbours_touch p k on =
-    elim (or_cases (has 0 k || eqb k p) (eqb k (p + 1)) on) [
-      | inl l ↦
-          (elim (or_cases (has 0 k) (eqb k p) l) [
-            | inl control ↦ absurd (false≢true (sym (has-none k) ∙ control))
-            | inr low ↦ (let at : k ≡ p = eqb-true _ _ low in (omega arith, omega arith))
-          ])
-      | inr high ↦ (let at : k ≡ p + 1 = eqb-true _ _ high in (omega arith, omega arith))
-    ]
+neighbours_touch p k on = grind arith
 
 near_neighbours : (p : ℕ) → IsNear (neighbours p)
 near_neighbours p first line last a b lo hi =
@@ -265,8 +257,4 @@ near c kept = All-weaker (IsPlaced (length c.names)) IsNear (λ g p. p.near) (ro
 
 pub same_run : (c : Cascade) → IsCascade c → (word : List Bool) → length word ≡ length c.names → run (routed c).gates word ≡ run c.gates word
 same_run c kept word len =
-    let n : ℕ = length c.names in
-    let start : length (home n) ≡ n = length-range_with_len 0 n in
-    let P : ℕ → Type 0 = λ k. All (λ g. FitsIn g k) c.gates in
-    ap (run (routed_from (home n) c.gates)) (sym (word_on-home word) ∙ ap (λ k. word_on (home k) word) len)
-    ∙ run_routed c.gates (home n) word (IsPlacement-home n) (subst P (sym start) kept.fitting) (len ∙ sym start)
+    grind (arith, length-range_with_len, routed_from, word_on-home, word_on, run_routed, IsPlacement-home)

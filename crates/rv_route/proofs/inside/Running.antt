@@ -1,5 +1,5 @@
 -- The word on the positions is the word of the lines under the placement: before a gate and after it.
-use Rattle.std.proofs.Common.{◌≡◌, ℕ, ◌+◌, ◌<◌, ◌≤◌, Bool, true, false, cond, ◌||◌, eqb, List, [], ◌∷◌, length, get_or, map, set, refl, sym, ◌∙◌, ap, inl, inr, arith, ne_eqb, eq-eqb, subst, ext_get_or}
+use Rattle.std.proofs.Common.{◌≡◌, ℕ, ◌+◌, ◌<◌, ◌≤◌, Bool, true, false, ◌||◌, eqb, List, [], ◌∷◌, length, get_or, map, set, refl, sym, ◌∙◌, ap, inl, inr, arith, ne_eqb, eq-eqb, subst, ext_get_or}
 use Rattle.std.proofs.lemmas.Bool.{cases_eq, cases_lt, false≢true, eqb-true, or_cases, or_left}
 use Rattle.std.proofs.lemmas.List.{length-map, get_or-map, map-set, get_or_past}
 use Rattle.std.proofs.lemmas.List.Edits.{length-swap, swap_is}
@@ -9,7 +9,6 @@ use Rattle.rv_gate.specs.Word.{has, bit_of}
 use Rattle.rv_gate.specs.Gate.{holds, act, run, touches, FitsIn, IsGate, WantsControls}
 use Rattle.rv_gate.specs.declared.gate.Shape.{Shape}
 use Rattle.rv_gate.specs.declared.gate.Shape.TheVariants.{Flip, Swap, Peres}
-use Rattle.rv_gate.proofs.LineSets.{has-none}
 use Rattle.rv_gate.proofs.inside.Ones.{has-ones_of}
 use Rattle.rv_gate.proofs.inside.GateLemmas.{holds_Decides, length-act, holds_none}
 use Rattle.rv_gate.proofs.Acting.{acts, bit_after, bit_of-act, TargetsBelow, TargetsBelow-fits}
@@ -22,23 +21,10 @@ use Rattle.rv_gate.proofs.Bits.{same_bool}
 -- ---- swaps of neighbours
 
 pub map-swap : {Y : Type 0} (f : ℕ → Y) (s : List ℕ) (i j : ℕ) (d : Y) → i < length s → j < length s → map f (swap s i j) ≡ swap (map f s) i j
-map-swap f s i j d hi hj =
-    let li : i < length (map f s) = omega (arith, length-map s f) in
-    let lj : j < length (map f s) = omega (arith, length-map s f) in
-    ap (map f) (sym (swap_is s i j 0 hi hj))
-    ∙ map-set f (set s i (get_or s j 0)) j (get_or s i 0)
-    ∙ ap (λ l. set l j (f (get_or s i 0))) (map-set f s i (get_or s j 0))
-    ∙ ap (λ y. set (set (map f s) i y) j (f (get_or s i 0))) (sym (get_or-map f s j 0 d hj))
-    ∙ ap (λ y. set (set (map f s) i (get_or (map f s) j d)) j y) (sym (get_or-map f s i 0 d hi))
-    ∙ swap_is (map f s) i j d li lj
+map-swap f s i j d hi hj = grind (arith, length-map, swap_is, map-set, get_or-map)
 
 run_swap : (p : ℕ) (s : List ℕ) (word : List Bool) → p + 1 < length s → act (neighbours p) (word_on s word) ≡ word_on (swap s p (p + 1)) word
-run_swap p s word h =
-    let v : List Bool = word_on s word in
-    let len : length v ≡ length s = length-map s (bit_of word) in
-    ap (λ b. cond b (set (set v p (get_or v (p + 1) false)) (p + 1) (get_or v p false)) v) (holds_none v)
-    ∙ swap_is v p (p + 1) false (omega arith) (omega arith)
-    ∙ sym (map-swap (bit_of word) s p (p + 1) false (omega arith) h)
+run_swap p s word h = grind (arith, word_on, length-map, bit_of, holds_none, swap_is, map-swap)
 
 pub run_swaps : (n : ℕ) (ps s : List ℕ) (word : List Bool) → length s ≡ n → AreWithin n ps → run (map neighbours ps) (word_on s word) ≡ word_on (swapped ps s) word
 run_swaps n [] s word e w = ap (λ t. word_on t word) (sym (swapped_none s))
@@ -70,13 +56,7 @@ stands s line i lt =
 
 -- a position is that of a line exactly where the line stands there
 pub eqb-position : (s : List ℕ) (p line : ℕ) → IsPlacement s → p < length s → line < length s → eqb p (position_of s line) ≡ eqb (get_or s p 0) line
-eqb-position s p line i lp ll =
-    let w = stands s line i ll in
-    elim (cases_eq p (position_of s line)) [
-      | inl same ↦ eq-eqb p _ same ∙ sym (eq-eqb (get_or s p 0) line (ap (λ k. get_or s k 0) same ∙ w.at))
-      | inr ne ↦
-          ne_eqb p _ ne ∙ sym (ne_eqb (get_or s p 0) line (λ e. ne (sym (position_at s p i lp) ∙ ap (position_of s) e)))
-    ]
+eqb-position s p line i lp ll = grind (arith, stands, cases_eq, position_of, eq-eqb, ne_eqb, position_at)
 
 pub bit_of-word_on : (s : List ℕ) (word : List Bool) (p : ℕ) → p < length s → bit_of (word_on s word) p ≡ bit_of word (get_or s p 0)
 bit_of-word_on s word p h = get_or-map (bit_of word) s p 0 false h
@@ -88,9 +68,7 @@ pub has-positions_past : (s : List ℕ) (set p : ℕ) → length s ≤ p → has
 has-positions_past s set p h = has-ones_of (map (has set) s) p ∙ get_or_past (map (has set) s) p false (omega (arith, length-map s (has set)))
 
 bit_at_position : (s : List ℕ) (word : List Bool) (line : ℕ) → IsPlacement s → line < length s → bit_of (word_on s word) (position_of s line) ≡ bit_of word line
-bit_at_position s word line i lt =
-    let w = stands s line i lt in
-    bit_of-word_on s word (position_of s line) w.within ∙ ap (bit_of word) w.at
+bit_at_position s word line i lt = grind (arith, stands, bit_of-word_on, position_of, bit_of)
 
 -- ---- gates
 
@@ -119,10 +97,7 @@ touches-gate_on (Peres a b d) s p i fits h =
     cc
 
 at_position : (s : List ℕ) (p line : ℕ) → IsPlacement s → line < length s → eqb p (position_of s line) ≡ true → p < length s
-at_position s p line i lt e =
-    let same : p ≡ position_of s line = eqb-true _ _ e in
-    let w = (stands s line i lt).within in
-    omega arith
+at_position s p line i lt e = grind (arith, position_of, eqb-true, stands)
 
 in_positions : (s : List ℕ) (set p : ℕ) → has (positions_of s set) p ≡ true → p < length s
 in_positions s set p on = elim (cases_lt p (length s)) [ inl lt ↦ lt | inr past ↦ absurd (false≢true (sym (has-positions_past s set p past) ∙ on)) ]
@@ -178,9 +153,7 @@ holds-on care want s word i len =
 
 acts-on : (g : Shape) (s : List ℕ) (word : List Bool) → IsPlacement s → length word ≡ length s → acts (gate_on s g) (word_on s word) ≡ acts g word
 unfolding acts
-acts-on (Flip care want t) s word i len = holds-on care want s word i len
-acts-on (Swap care want a b) s word i len = holds-on care want s word i len
-acts-on (Peres a b d) s word i len = refl
+acts-on g s word h h1 = grind (arith, holds-on)
 
 bit_after-on : (g : Shape) (s : List ℕ) (word : List Bool) (h : Bool) (p : ℕ) → IsPlacement s → FitsIn g (length s) → p < length s → bit_after (gate_on s g) (bit_of (word_on s word)) h p ≡ bit_after g (bit_of word) h (get_or s p 0)
 unfolding bit_after

@@ -1,4 +1,5 @@
 -- What swaps of neighbours do to a placement.
+use Rattle.std.proofs.lemmas.Grind.{common_steps}
 use Rattle.std.proofs.Common.{◌≡◌, ◌≢◌, ℕ, zero, suc, ◌+◌, ◌-◌, ◌<◌, ◌≤◌, cond, eqb, List, [], ◌∷◌, ◌++◌, length, get_or, reverse, All, refl, sym, ◌∙◌, ap, inl, inr, arith, ne_eqb, eq-eqb, subst}
 use Rattle.std.proofs.lemmas.Bool.{cases_eq}
 use Rattle.std.proofs.lemmas.List.{reverse-append}
@@ -25,38 +26,13 @@ twin_other : (p q : ℕ) → q ≢ p → q ≢ p + 1 → twin p q ≡ q
 twin_other p q n m = rw (ne_eqb q p n, ne_eqb q (p + 1) m) refl
 
 pub twin-twin : (p q : ℕ) → twin p (twin p q) ≡ q
-twin-twin p q =
-    elim (cases_eq q p) [
-      | inl low ↦ ap (twin p) (twin_low p q low) ∙ twin_high p (p + 1) refl ∙ sym low
-      | inr n ↦
-          (elim (cases_eq q (p + 1)) [
-            | inl high ↦ ap (twin p) (twin_high p q high) ∙ twin_low p p refl ∙ sym high
-            | inr m ↦ ap (twin p) (twin_other p q n m) ∙ twin_other p q n m
-          ])
-    ]
+twin-twin p q = grind arith
 
 pub twin-lt : (n p q : ℕ) → p + 1 < n → q < n → twin p q < n
-twin-lt n p q h lt =
-    elim (cases_eq q p) [
-      | inl low ↦ omega (arith, twin_low p q low)
-      | inr other ↦
-          (elim (cases_eq q (p + 1)) [
-            | inl high ↦ omega (arith, twin_high p q high)
-            | inr m ↦ omega (arith, twin_other p q other m)
-          ])
-    ]
+twin-lt n p q h lt = grind arith
 
 pub get_or-swap : (s : List ℕ) (p q : ℕ) → p + 1 < length s → get_or (swap s p (p + 1)) q 0 ≡ get_or s (twin p q) 0
-get_or-swap s p q h =
-    let w = swapped_from_swap s (swap s p (p + 1)) p (p + 1) 0 (omega arith) h refl in
-    elim (cases_eq q p) [
-      | inl low ↦ ap (λ i. get_or (swap s p (p + 1)) i 0) low ∙ w.0 ∙ ap (λ i. get_or s i 0) (sym (twin_low p q low))
-      | inr n ↦
-          (elim (cases_eq q (p + 1)) [
-            | inl high ↦ ap (λ i. get_or (swap s p (p + 1)) i 0) high ∙ w.1 ∙ ap (λ i. get_or s i 0) (sym (twin_high p q high))
-            | inr m ↦ w.2 q n m ∙ ap (λ i. get_or s i 0) (sym (twin_other p q n m))
-          ])
-    ]
+get_or-swap s p q h = grind (arith, common_steps, swapped_from_swap, cases_eq, twin_low, twin_high, twin_other)
 
 low_of : (s : List ℕ) (p : ℕ) → p + 1 < length s → get_or (swap s p (p + 1)) p 0 ≡ get_or s (p + 1) 0
 low_of s p h = get_or-swap s p p h ∙ ap (λ i. get_or s i 0) (twin_low p p refl)

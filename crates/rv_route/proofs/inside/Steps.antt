@@ -1,4 +1,5 @@
 -- One more swap, one more move, one more position, one more gate.
+use Rattle.std.proofs.lemmas.Grind.{common_steps}
 use Rattle.std.proofs.Common.{◌≡◌, ℕ, suc, ◌+◌, ◌-◌, ◌*◌, ◌<◌, ◌≤◌, Bool, true, false, cond, List, [], ◌∷◌, ◌++◌, length, get_or, map, take, drop, reverse, refl, sym, ◌∙◌, ap, subst, arith, append_assoc, add-one, length-append, length-drop, ext_get_or}
 use Rattle.std.proofs.Math.Nat.{mul-le-mul_right}
 use Rattle.std.proofs.lemmas.List.{append-nil, take_more, drop_more, at_drop_all, map-append, length-map, reverse-append, length-take-le, get_or-take}
@@ -22,16 +23,10 @@ swapped_last : (ps : List ℕ) (p : ℕ) (s : List ℕ) → swapped (ps ++ p ∷
 swapped_last ps p s = swapped-append ps (p ∷ []) s ∙ swapped_first p [] (swapped ps s) ∙ swapped_none (swap (swapped ps s) p (p + 1))
 
 rising-more : (a p : ℕ) → a ≤ p → swaps_up a (p + 1) ≡ swaps_up a p ++ p ∷ []
-rising-more a p le =
-    let e : p + 1 - a ≡ suc (p - a) = omega arith in
-    let at : a + (p - a) ≡ p = omega arith in
-    ap (range_with_len a) e ∙ range-suc a (p - a) ∙ ap (λ k. range_with_len a (p - a) ++ k ∷ []) at
+rising-more a p le = grind (arith, range_with_len, range-suc)
 
 falling-more : (a p : ℕ) → 0 < p → p ≤ a → swaps_down a (p - 1) ≡ swaps_down a p ++ (p - 1) ∷ []
-falling-more a p some le =
-    let e : a - (p - 1) ≡ suc (a - p) = omega arith in
-    let at : p - 1 + 1 ≡ p = omega arith in
-    ap (λ k. reverse (range_with_len (p - 1) k)) e ∙ ap (λ k. reverse ((p - 1) ∷ range_with_len k (a - p))) at ∙ reverse-append ((p - 1) ∷ []) (range_with_len p (a - p))
+falling-more a p some le = grind (arith, common_steps, range_with_len, reverse-append)
 
 none : (a b : ℕ) → b ≤ a → range_with_len a (b - a) ≡ []
 none a b le = let z : b - a ≡ 0 = omega arith in ap (range_with_len a) z
@@ -71,9 +66,7 @@ down_more a p old now next s t u some le w added made = one_swap (swaps_down a p
 
 pub gates_next : (ps : List ℕ) (k d : ℕ) (old now next : List Shape) (g : Shape) → k < length ps → now ≡ old ++ map neighbours (take k ps) → g ≡ neighbours (get_or ps k d) → next ≡ now ++ g ∷ []
     → next ≡ old ++ map neighbours (take (k + 1) ps)
-gates_next ps k d old now next g lt so_far is made =
-    made ∙ ap (λ l. l ++ g ∷ []) so_far ∙ append_assoc old _ (g ∷ []) ∙ ap (λ h. old ++ (map neighbours (take k ps) ++ h ∷ [])) is
-    ∙ ap (λ l. old ++ l) (sym (ap (map neighbours) (take_more ps k d lt) ∙ map-append neighbours (take k ps) (get_or ps k d ∷ [])))
+gates_next ps k d old now next g lt so_far is made = grind (arith, common_steps, append_assoc, take_more, map-append)
 
 -- ---- positions
 
@@ -193,13 +186,7 @@ pub record Middle (n : ℕ) (ps : List ℕ) : Type 0 where
 
 -- no more than 31 positions from below, no more than 32 from above
 few_in_all : (below above centre one : ℕ) → below ≤ 31 → above ≤ 32 → centre ≤ 63 → one ≤ below * centre → one + above * (63 - centre) ≤ 2016
-few_in_all below above centre one lb la lc h =
-    let m : ℕ = 63 - centre in
-    let x = mul-le-mul_right centre lb in
-    let y : above * m ≤ 32 * m = mul-le-mul_right m la in
-    let sum : centre + m ≡ 63 = omega arith in
-    let all : one + above * m ≤ 2016 = omega arith in
-    all
+few_in_all below above centre one lb la lc h = grind arith
 
 pub middle_of : (s ps : List ℕ) (g : Shape) → IsPlacement s → length s ≤ 64 → FitsIn g (length s) → ps ≡ touched_positions s g → Middle (length s) ps
 middle_of s ps g i few fits e =
@@ -259,30 +246,19 @@ home_next n l now next all s t lt so_far added made =
 
 pub home_end : (n l : ℕ) (s now all : List ℕ) → n ≤ l → now ++ way_home (range_with_len l (n - l)) s ≡ all → now ≡ all
 unfolding way_home
-home_end n l s now all le so_far =
-    let z : n - l ≡ 0 = omega arith in
-    sym (append-nil now) ∙ ap (λ k. now ++ way_home (range_with_len l k) s) (sym z) ∙ so_far
+home_end n l s now all le so_far = grind (arith, append-nil, way_home, range_with_len)
 
 -- ---- gates
 
 pub routed_next : (gates : List Shape) (k : ℕ) (g : Shape) (s t ps : List ℕ) → k < length gates → g ≡ get_or gates k g → ps ≡ gathering (touched_positions s g) → t ≡ swapped ps s
     → routed_from s (drop k gates) ≡ map neighbours ps ++ (gate_on t g ∷ routed_from t (drop (k + 1) gates))
-routed_next gates k g s t ps lt at is there =
-    ap (routed_from s) (drop_more gates k g lt ∙ ap (λ x. x ∷ drop (k + 1) gates) (sym at))
-    ∙ routed_first s g (drop (k + 1) gates)
-    ∙ ap (λ l. map neighbours l ++ (gate_on (swapped l s) g ∷ routed_from (swapped l s) (drop (k + 1) gates))) (sym is)
-    ∙ ap (λ u. map neighbours ps ++ (gate_on u g ∷ routed_from u (drop (k + 1) gates))) (sym there)
+routed_next gates k g s t ps lt at is there = grind (arith, routed_from, drop_more, routed_first, gate_on)
 
 pub routed_end : (gates : List Shape) (k : ℕ) (s : List ℕ) → length gates ≤ k → routed_from s (drop k gates) ≡ map neighbours (way_home (home (length s)) s)
 routed_end gates k s le = at_drop_all (routed_from s) gates k le ∙ routed_none s
 
 pub length_routed : (ps : List ℕ) (g : Shape) (whole rest : List Shape) → whole ≡ map neighbours ps ++ (g ∷ rest) → length whole ≡ length ps + 1 + length rest
-length_routed ps g whole rest e =
-    let a = ap length e in
-    let b = length-append (map neighbours ps) (g ∷ rest) in
-    let m = length-map ps neighbours in
-    omega arith
+length_routed ps g whole rest e = grind (arith, length-append, length-map)
 
 pub pushed_gates : (now mid next more whole rest all : List Shape) (g : Shape) → mid ≡ now ++ more → next ≡ mid ++ g ∷ [] → whole ≡ more ++ (g ∷ rest) → now ++ whole ≡ all → next ++ rest ≡ all
-pushed_gates now mid next more whole rest all g first second is so_far =
-    ap (λ l. l ++ rest) (second ∙ ap (λ l. l ++ g ∷ []) first) ∙ append_assoc (now ++ more) (g ∷ []) rest ∙ append_assoc now more (g ∷ rest) ∙ ap (λ l. now ++ l) (sym is) ∙ so_far
+pushed_gates now mid next more whole rest all g first second is so_far = grind (arith, append_assoc)

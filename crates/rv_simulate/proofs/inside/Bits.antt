@@ -1,9 +1,9 @@
 -- The bits of a line of words, as its bytes come, and the answer that they make.
 use mir.Val.{bool_byte}
-use Rattle.std.proofs.Common.{◌≡◌, ◌∙◌, ℕ, ◌+◌, ◌-◌, ◌<◌, ◌≤◌, ◌⊎◌, Bool, true, false, cond, ◌||◌, ◌&&◌, List, [], ◌∷◌, ◌++◌, length, Option, Some, None, IfSome, refl, ap, sym, subst, arith, append_assoc, map, nat_lt, nat_eq, ne_eqb, inl, inr}
+use Rattle.std.proofs.Common.{◌≡◌, ◌∙◌, ℕ, ◌+◌, ◌-◌, ◌<◌, ◌≤◌, Bool, true, false, cond, ◌||◌, List, [], ◌∷◌, ◌++◌, length, Option, Some, None, IfSome, refl, ap, sym, subst, arith, append_assoc, map, nat_lt, nat_eq, ne_eqb, inl, inr}
 use Rattle.std.specs.Option.{option_map}
 use Rattle.std.specs.List.{list_all}
-use Rattle.std.proofs.lemmas.Bool.{cases_Bool, cond-false, eq-eqb, eqb-true, lt-ltb, ltb-false, and_parts}
+use Rattle.std.proofs.lemmas.Bool.{cases_Bool, cond-false, ltb-false, and_parts}
 use Rattle.std.proofs.lemmas.List.{append-nil, length-append, nil_from_length}
 use Rattle.std.proofs.lemmas.List.Folds.{list_any-append}
 use Rattle.rv_gate.specs.Circuit.{Cascade}
@@ -28,28 +28,11 @@ joined-none : (known : Option (List Bool)) → joined known (Some []) ≡ known
 joined-none None = refl
 joined-none (Some bits) = ap Some (append-nil bits)
 
-joined-cons : (bit : Bool) (known more : Option (List Bool)) → option_map (λ bits. bit ∷ bits) (joined known more) ≡ joined (option_map (λ bits. bit ∷ bits) known) more
-joined-cons bit None more = refl
-joined-cons bit (Some bits) None = refl
-joined-cons bit (Some bits) (Some more) = refl
-
-cons_either : (c bit : Bool) (known more : Option (List Bool)) → option_map (λ bits. bit ∷ bits) (cond c known (joined known more))
-    ≡ cond c (option_map (λ bits. bit ∷ bits) known) (joined (option_map (λ bits. bit ∷ bits) known) more)
-cons_either true bit known more = refl
-cons_either false bit known more = joined-cons bit known more
-
-none_either : (c : Bool) (more : Option (List Bool)) → None ≡ cond c None (joined None more)
-none_either true more = refl
-none_either false more = refl
-
 push_step : (is_hash is_gap is_digit c bit : Bool) (pushed known more : Option (List Bool)) → pushed ≡ cond c known (joined known more)
     → cond is_hash (Some []) (cond is_gap pushed (cond is_digit (option_map (λ bits. bit ∷ bits) pushed) None))
     ≡ cond (is_hash || c) (cond is_hash (Some []) (cond is_gap known (cond is_digit (option_map (λ bits. bit ∷ bits) known) None)))
     (joined (cond is_hash (Some []) (cond is_gap known (cond is_digit (option_map (λ bits. bit ∷ bits) known) None))) more)
-push_step true is_gap is_digit c bit pushed known more h = refl
-push_step false true is_digit c bit pushed known more h = h
-push_step false false true c bit pushed known more h = ap (option_map (λ bits. bit ∷ bits)) h ∙ cons_either c bit known more
-push_step false false false c bit pushed known more h = none_either c more
+push_step is_hash is_gap is_digit c bit pushed known more h = grind arith
 
 -- one byte more counts, unless a comment was begun
 pub bits_of-push : (bytes : List ℕ) (byte : ℕ) → line_bits (bytes ++ byte ∷ []) ≡ cond (has_comment bytes) (line_bits bytes) (joined (line_bits bytes) (line_bits (byte ∷ [])))
@@ -82,15 +65,6 @@ bit_added s known bit a =
       | inr many ↦ subst P (sym many) (bit_over s.is_wrong bit s.bits known (ltb-false (length s.bits) MOST_LINES many) a)
     ]
 
--- a bit changes nothing else
-bit_alone : (s : WordLine) (bit : Bool) → ((with_bit s bit).in_comment ≡ s.in_comment) × ((with_bit s bit).number ≡ s.number)
-bit_alone s bit =
-    elim (nat_lt (length s.bits) MOST_LINES) as (λ few. ((cond few (record s { bits = s.bits ++ bit ∷ [] }) (record s { is_wrong = true })).in_comment ≡ s.in_comment)
-    × ((cond few (record s { bits = s.bits ++ bit ∷ [] }) (record s { is_wrong = true })).number ≡ s.number)) [
-      | true ↦ (refl, refl)
-      | false ↦ (refl, refl)
-    ]
-
 none_left : (known : Option (List Bool)) → IfSome (joined known None) (λ all. MOST_LINES < length all)
 none_left None = tt
 none_left (Some bits) = tt
@@ -107,26 +81,13 @@ bits_stepped false false true bit s known a = bit_added s known bit a
 bits_stepped false false false bit s known a = record { fine = λ f. absurd cc; wrong = λ w. none_left known }
 
 comment_stepped : (is_hash is_gap is_digit bit : Bool) (s : WordLine) → s.in_comment ≡ false → (stepped is_hash is_gap is_digit s bit).in_comment ≡ is_hash
-comment_stepped true is_gap is_digit bit s h = refl
-comment_stepped false true is_digit bit s h = h
-comment_stepped false false true bit s h = (bit_alone s bit).0 ∙ h
-comment_stepped false false false bit s h = h
-
-number_stepped : (is_hash is_gap is_digit bit : Bool) (s : WordLine) → (stepped is_hash is_gap is_digit s bit).number ≡ s.number
-number_stepped true is_gap is_digit bit s = refl
-number_stepped false true is_digit bit s = refl
-number_stepped false false true bit s = (bit_alone s bit).1
-number_stepped false false false bit s = refl
+comment_stepped is_hash is_gap is_digit bit s h = grind arith
 
 abbrev step_of : WordLine → ℕ → WordLine
 step_of s byte = stepped (nat_eq byte hash) (is_gap byte) (is_bit byte) s (nat_eq byte 49)
 
 pub number-after_byte : (s : WordLine) (byte : ℕ) → (after_byte s byte).number ≡ s.number
-number-after_byte s byte =
-    elim (s.in_comment) as (λ t. (cond t s (step_of s byte)).number ≡ s.number) [
-      | true ↦ refl
-      | false ↦ number_stepped (nat_eq byte hash) (is_gap byte) (is_bit byte) (nat_eq byte 49) s
-    ]
+number-after_byte s byte = grind arith
 
 pub number-after_bytes : (s : WordLine) (bytes : List ℕ) → (after_bytes s bytes).number ≡ s.number
 number-after_bytes s [] = refl
@@ -173,41 +134,18 @@ too_many c all (bit ∷ bits) many = cond-false (nat_eq (length (bit ∷ bits)) 
 
 answer-known : (c : Cascade) (all is_wrong : Bool) (bits : List Bool) (known : Option (List Bool)) → input_count (marks_asked c all) ≤ MOST_LINES → AreBits is_wrong bits known
     → answer_to_bits c all (cond is_wrong None (Some bits)) ≡ answer_to_bits c all known
-answer-known c all false bits known few a = ap (answer_to_bits c all) (sym (a.fine refl))
-answer-known c all true bits None few a = refl
-answer-known c all true bits (Some more) few a = sym (too_many c all more (omega (arith, few, a.wrong refl)))
+answer-known c all is_wrong bits known h h1 = grind arith
 
 -- the state of a line has the answer of the line
 pub answer_stands : (c : Cascade) (all : Bool) (s : WordLine) (bytes : List ℕ) → input_count (marks_asked c all) ≤ MOST_LINES → StandsForLine s bytes
     → answer_to_bits c all (bits_in s) ≡ answer_to c all bytes
 answer_stands c all s bytes few h = answer-known c all s.is_wrong s.bits (line_bits bytes) few h.bits
 
--- a byte that is a bit
-digit_cases : (byte : ℕ) → is_bit byte ≡ true → (byte ≡ 48) ⊎ (byte ≡ 49)
-digit_cases byte is =
-    elim (cases_Bool (nat_eq byte 48)) [
-      | inl zero ↦ inl (eqb-true byte 48 zero)
-      | inr other ↦ inr (eqb-true byte 49 (sym (ap (λ b. b || nat_eq byte 49) other) ∙ is))
-    ]
-
 pub digit_value : (byte : ℕ) → is_bit byte ≡ true → (48 ≤ byte) × (byte - 48 ≡ bool_byte (is_one byte))
-digit_value byte is =
-    let P : ℕ → Type 0 = λ b. (48 ≤ b) × (b - 48 ≡ bool_byte (is_one b)) in
-    elim (digit_cases byte is) [
-      | inl zero ↦ subst P (sym zero) (omega arith, refl)
-      | inr one ↦ subst P (sym one) (omega arith, refl)
-    ]
+digit_value byte is = grind arith
 
 bit_taken : (s : WordLine) (byte : ℕ) → s.in_comment ≡ false → length s.bits < MOST_LINES → is_bit byte ≡ true → after_byte s byte ≡ record s { bits = s.bits ++ is_one byte ∷ [] }
-bit_taken s byte off room is =
-    let few : nat_lt (length s.bits) MOST_LINES ≡ true = lt-ltb (length s.bits) MOST_LINES room in
-    let fits : (bit : Bool) → cond s.in_comment s (with_bit s bit) ≡ record s { bits = s.bits ++ bit ∷ [] } =
-    λ bit. ap (λ c. cond c s (with_bit s bit)) off ∙ ap (λ c. cond c (record s { bits = s.bits ++ bit ∷ [] }) (record s { is_wrong = true })) few in
-    let P : ℕ → Type 0 = λ b. after_byte s b ≡ record s { bits = s.bits ++ is_one b ∷ [] } in
-    elim (digit_cases byte is) [
-      | inl zero ↦ subst P (sym zero) (fits false)
-      | inr one ↦ subst P (sym one) (fits true)
-    ]
+bit_taken s byte off room is = grind arith
 
 -- bits are taken one after another
 pub bits_taken : (s : WordLine) (bytes : List ℕ) → s.in_comment ≡ false → length s.bits + length bytes ≤ MOST_LINES → list_all is_bit bytes ≡ true
@@ -236,9 +174,7 @@ known_bits s right = ap (λ w. cond w None (Some s.bits)) right
 
 answered_bits : (c : Cascade) (all : Bool) (bits : List Bool) → 0 < length bits → length bits ≡ input_count (marks_asked c all)
     → answer_to_bits c all (Some bits) ≡ Some (answer_text c all (run c.gates (with_constants (marks_asked c all) bits)))
-answered_bits c all [] some same = absurd (omega (arith, some))
-answered_bits c all (bit ∷ bits) some same =
-    ap (λ b. cond b (Some (answer_text c all (run c.gates (with_constants (marks_asked c all) (bit ∷ bits))))) None) (eq-eqb (length (bit ∷ bits)) (input_count (marks_asked c all)) same)
+answered_bits c all bits h h1 = grind arith
 
 other_count : (c : Cascade) (all : Bool) (bits : List Bool) → 0 < length bits → ¬ (length bits ≡ input_count (marks_asked c all)) → answer_to_bits c all (Some bits) ≡ None
 other_count c all [] some other = absurd (omega (arith, some))

@@ -70,11 +70,18 @@ digits_none ones = refl
 pub digits_more : (ones line end : ℕ) (text digits : List ℕ) → end ≡ line + 8 → line ≤ length text → digits ≡ map bit_byte (word_with 8 (bit_and (ones / 2 ^ line) 255))
     → take line text ≡ map bit_byte (word_with line ones) → take end (put_mid line (end - line) text digits) ≡ map bit_byte (word_with end ones)
 digits_more ones line end text digits sum room is before =
-    let size : length digits ≡ 8 = ap length is ∙ length-map (word_with 8 (bit_and (ones / 2 ^ line) 255)) bit_byte ∙ length-word_with 8 (bit_and (ones / 2 ^ line) 255) in
-    take-put_mid line (end - line) text digits end (omega (arith, sum, size)) room
-    ∙ ap (λ front. front ++ digits) before
-    ∙ ap (λ more. map bit_byte (word_with line ones) ++ more) (is ∙ ap (map bit_byte) (lowest_eight (ones / 2 ^ line)))
-    ∙ sym (ap (λ n. map bit_byte (word_with n ones)) sum ∙ ap (map bit_byte) (word_with-append line 8 ones) ∙ map-append bit_byte (word_with line ones) (word_with 8 (ones / 2 ^ line)))
+    grind (
+      arith,
+      length-map,
+      word_with,
+      bit_and,
+      bit_byte,
+      length-word_with,
+      take-put_mid,
+      lowest_eight,
+      word_with-append,
+      map-append,
+    )
 
 -- all lines of a word have their digits
 pub digits_all : (word : List Bool) (ones line : ℕ) (text : List ℕ) → ones ≡ ones_of word → length word ≤ line → take line text ≡ map bit_byte (word_with line ones)
@@ -94,9 +101,7 @@ digits_all word ones line text is short before =
 -- a part behind others is set
 pub length-behind : (len size : ℕ) (text behind : List ℕ) → length text ≡ size → len ≤ size → length behind ≡ length (take (size - len) (drop len text)) → length (put_mid len (size - len) text behind) ≡ size
 length-behind len size text behind whole within same =
-    let parts : length (put_mid len (size - len) text behind) ≡ length (take len text) + length (behind ++ post_of len (size - len) text) = length-append (take len text) (behind ++ post_of len (size - len) text) in
-    let after : length (post_of len (size - len) text) ≡ length (drop len text) - (size - len) = length-drop (size - len) (drop len text) in
-    omega (arith, whole, within, same, parts, after, length-append behind (post_of len (size - len) text), length-take len text, length-take (size - len) (drop len text), length-drop len text)
+    grind (arith, put_mid, post_of, length-append, length-drop, length-take)
 
 pub flat_map-more : {X : Type 0} (spell : X → List ℕ) (items : List X) (i : ℕ) (item : X) → slice_get items i ≡ Some item → flat_map spell (take i items) ++ spell item ≡ flat_map spell (take (i + 1) items)
 flat_map-more spell items i item at =
@@ -107,9 +112,4 @@ flat_map-more spell items i item at =
 pub take-behind : (len more size : ℕ) (text behind answer : List ℕ) → length text ≡ size → len + more ≤ size → length behind ≡ length (take (size - len) (drop len text)) → take more behind ≡ answer
     → take (len + more) (put_mid len (size - len) text behind) ≡ take len text ++ answer
 take-behind len more size text behind answer whole within same is =
-    let rest : List ℕ = post_of len (size - len) text in
-    let front : length (take len text) ≡ len = length-take-le len text (omega (arith, whole, within)) in
-    let fits : more ≤ length behind = omega (arith, whole, within, same, length-take (size - len) (drop len text), length-drop len text) in
-    ap (λ n. take (n + more) (take len text ++ (behind ++ rest))) (sym front)
-    ∙ take-append-add (take len text) (behind ++ rest) more
-    ∙ ap (λ answer. take len text ++ answer) (take-append-le more behind rest fits ∙ is)
+    grind (arith, post_of, length-take-le, length-take, length-drop, take-append-add, take-append-le)

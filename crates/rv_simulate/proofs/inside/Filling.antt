@@ -1,6 +1,7 @@
 -- The bits that fill the lines of a circuit, and the digits of a word that comes out, line by line.
+use Rattle.std.proofs.lemmas.Grind.{common_steps}
 use mir.Val.{bool_byte}
-use Rattle.std.proofs.Common.{◌≡◌, ◌∙◌, ℕ, zero, suc, ◌+◌, ◌-◌, ◌<◌, ◌≤◌, Bool, true, false, List, [], ◌∷◌, ◌++◌, length, map, take, drop, get_or, replicate, slice_get, Option, None, Some, ◌*◌, ◌^◌, refl, ap, sym, subst, arith}
+use Rattle.std.proofs.Common.{◌≡◌, ◌∙◌, ℕ, zero, suc, ◌+◌, ◌-◌, ◌<◌, ◌≤◌, Bool, true, false, List, [], ◌∷◌, ◌++◌, length, map, take, get_or, replicate, slice_get, Option, None, Some, ◌*◌, ◌^◌, refl, ap, sym, subst, arith}
 use Rattle.std.proofs.lemmas.List.{append-nil, length-append, length-replicate, length-take, take-append-drop, take_all, take_more}
 use Rattle.std.specs.Option.{SomeIff}
 use Rattle.std.proofs.Math.Nat.{pow-le-pow_right}
@@ -13,16 +14,12 @@ use Rattle.rv_gate.proofs.Marks.{input_count-append, input_count-inputs, input_c
 use Rattle.rv_gate.specs.Word.{has, number_of, word_of}
 use Rattle.rv_gate.specs.inside.WordLaws.{bit_of-word_of, length-word_of, number_of-lt, word_of-number_of}
 use Rattle.rv_many.proofs.inside.Numbers.{number_of-next}
-use Rattle.rv_simulate.specs.Simulation.{answer_text, garbage_asked, marks_asked}
+use Rattle.rv_simulate.specs.Simulation.{answer_text, marks_asked}
 use Rattle.rv_text.specs.Bytes.{bit_byte, line_feed}
 
 pub length-marks_of : (c : Cascade) (all : Bool) → IsCascade c → length (marks_asked c all) ≡ length c.names
 length-marks_of c true is = length-replicate (length c.names) Input
 length-marks_of c false is = is.constants
-
-pub length-garbage_of : (c : Cascade) (all : Bool) → IsCascade c → length (garbage_asked c all) ≡ length c.names
-length-garbage_of c true is = length-replicate (length c.names) false
-length-garbage_of c false is = is.garbage
 
 pub input_count-le : (marks : List Mark) → input_count marks ≤ length marks
 input_count-le [] = omega arith
@@ -57,9 +54,7 @@ pub input_count-next : (marks : List Mark) (line : ℕ) (mark : Mark) → slice_
 input_count-next marks line mark h = ap input_count (take_next marks line mark h) ∙ input_count-append (take line marks) (mark ∷ [])
 
 pub input_count-prefix : (marks : List Mark) (n : ℕ) → input_count (take n marks) ≤ input_count marks
-input_count-prefix marks n =
-    let whole = ap input_count (take-append-drop n marks) in
-    omega (arith, input_count-append (take n marks) (drop n marks))
+input_count-prefix marks n = grind (arith, common_steps, input_count, take-append-drop, input_count-append)
 
 -- the bits of one more line that are no garbage
 pub without_garbage-next : (garbage word : List Bool) (line : ℕ) (left_out : Bool) → slice_get garbage line ≡ Some left_out → line < length word
@@ -104,20 +99,13 @@ outputs_same garbage word line number count left_out lt o =
     record { number = ap number_of next ∙ o.number; count = ap length next ∙ o.count; few = omega (arith, o.few) }
 
 pub outputs_small : (garbage word : List Bool) (line number count : ℕ) → line < 64 → HasOutputs garbage word line number count → number < 9223372036854775808
-outputs_small garbage word line number count lt o =
-    let short : length (kept_before garbage word line) ≤ 63 = omega (arith, o.count, o.few, lt) in
-    let below : 2 ^ length (kept_before garbage word line) ≤ 2 ^ 63 = pow-le-pow_right {n = 2} (omega arith) short in
-    omega (arith, o.number, number_of-lt (kept_before garbage word line), below)
+outputs_small garbage word line number count lt o = grind (arith, pow-le-pow_right, number_of-lt)
 
 -- all lines
 pub outputs_all : (garbage word : List Bool) (line number count : ℕ) → length garbage ≤ line → length word ≤ line → HasOutputs garbage word line number count
     → (number < 2 ^ count) × (word_of count number ≡ without_garbage garbage word)
 outputs_all garbage word line number count few short o =
-    let kept : List Bool = kept_before garbage word line in
-    let all : kept_before garbage word line ≡ without_garbage garbage word = ap (λ g. without_garbage g (take line word)) (take_all line garbage few) ∙ ap (without_garbage garbage) (take_all line word short) in
-    let P : ℕ → ℕ → Type 0 = λ n x. (x < 2 ^ n) × (word_of n x ≡ kept) in
-    let made = subst (λ x. P count x) o.number (subst (λ n. P n (number_of kept)) o.count (number_of-lt kept, word_of-number_of kept)) in
-    (made.0, made.1 ∙ all)
+    grind (arith, without_garbage, take_all, word_of, number_of, number_of-lt, word_of-number_of)
 
 -- the bits that are asked for, and a line feed
 pub answer_whole : (c : Cascade) (all : Bool) (word asked : List Bool) → length word ≡ length c.names → all ≡ true → asked ≡ word → map bit_byte asked ++ line_feed ∷ [] ≡ answer_text c all word
@@ -148,21 +136,13 @@ fills_more marks bits line used number byte mark bit h count is byte_is so_far =
 -- fewer lines make a smaller number
 pub number_small : (marks : List Mark) (bits : List Bool) (line number : ℕ) → HasNumber marks bits line number → line < 64 → number < 9223372036854775808
 number_small marks bits line number h few =
-    let word : List Bool = take line (with_constants marks bits) in
-    let short : length (take line (with_constants marks bits)) ≤ 63 = omega (arith, length-take line (with_constants marks bits)) in
-    let below : 2 ^ length (take line (with_constants marks bits)) ≤ 2 ^ 63 = pow-le-pow_right {n = 2} (omega arith) short in
-    omega (arith, h, number_of-lt (take line (with_constants marks bits)), below)
+    grind (arith, common_steps, with_constants, length-take, pow-le-pow_right, number_of-lt)
 
 -- all lines make the word
 pub number_all : (marks : List Mark) (bits : List Bool) (line lines number : ℕ) → length marks ≡ lines → lines ≤ line → HasNumber marks bits line number
     → (number < 2 ^ lines) × (word_of lines number ≡ with_constants marks bits)
 number_all marks bits line lines number count end h =
-    let all : take line (with_constants marks bits) ≡ with_constants marks bits = take_all line (with_constants marks bits) (omega (arith, count, length-with_constants marks bits)) in
-    let is : number_of (with_constants marks bits) ≡ number = ap number_of (sym all) ∙ h in
-    let size : length (with_constants marks bits) ≡ lines = length-with_constants marks bits ∙ count in
-    let below : number < 2 ^ length (with_constants marks bits) = omega (arith, is, number_of-lt (with_constants marks bits)) in
-    let P : ℕ → Type 0 = λ n. number < 2 ^ n in
-    (subst P size below, ap (word_of lines) (sym is) ∙ ap (λ n. word_of n (number_of (with_constants marks bits))) (sym size) ∙ word_of-number_of (with_constants marks bits))
+    grind (arith, with_constants, take_all, length-with_constants, number_of, number_of-lt, word_of, word_of-number_of)
 
 -- an answer for one reason, and for another one
 pub answered_for : {A : Type 0} (answer : Option A) (P Q : Type 0) (made asked : A) → SomeIff answer P made → P → Q → made ≡ asked → SomeIff answer Q asked
@@ -179,6 +159,4 @@ whole_word lines count bits same = (
 
 -- the next bit of those that a number holds
 pub next_bit : (count bits used : ℕ) → used < count → has bits (count - (used + 1)) ≡ get_or (word_of count bits) used false
-next_bit count bits used lt =
-    let place : count - (used + 1) ≡ count - 1 - used = omega arith in
-    ap (has bits) place ∙ sym (bit_of-word_of count bits used lt)
+next_bit count bits used lt = grind (arith, bit_of-word_of)

@@ -48,16 +48,11 @@ digits_by_mask (byte ∷ bytes) high mask rest small is =
     let this = digit_by_mask high mask rest byte (small 0 (omega arith)) later.0 in
     (this.0, both_true this.1 later.1)
 
-top_byte : (number over byte low : ℕ) → number ≡ over * 18446744073709551616 + byte * 72057594037927936 + low → byte < 256 → low < 72057594037927936 → number % 18446744073709551616 / 72057594037927936 ≡ byte
-top_byte number over byte low is small fits = omega (arith, is, small, fits)
-
 -- eight digits come together in the highest byte
 gathered : (a b c d e f g h spread : ℕ) → a ≤ 1 → b ≤ 1 → c ≤ 1 → d ≤ 1 → e ≤ 1 → f ≤ 1 → g ≤ 1 → h ≤ 1
     → spread ≡ a * 72057594037927936 + b * 281474976710656 + c * 1099511627776 + d * 4294967296 + e * 16777216 + f * 65536 + g * 256 + h
     → spread * 72624976668147840 % 18446744073709551616 / 72057594037927936 ≡ a * 128 + b * 64 + c * 32 + d * 16 + e * 8 + f * 4 + g * 2 + h
-gathered a b c d e f g h spread la lb lc ld le lf lg lh is =
-    top_byte (spread * 72624976668147840) (a * 283691315109952 + b * 1108169199648 + c * 4328785936 + d * 16909320 + e * 66052 + f * 258 + g) (a * 128 + b * 64 + c * 32 + d * 16 + e * 8 + f * 4 + g * 2 + h) (b * 36028797018963968 + c * 18155135997837312 + d * 9078117754732544 + e * 4539061024849920 + f * 2269530520813568 + g * 1134765260439552 + h * 567382630219904)
-    (omega (arith, is)) (omega (arith, la, lb, lc, ld, le, lf, lg, lh)) (omega (arith, la, lb, lc, ld, le, lf, lg, lh))
+gathered a b c d e f g h spread la lb lc ld le lf lg lh is = grind arith
 
 number_of-cons : (bit : Bool) (word : List Bool) (size : ℕ) → 2 ^ length word ≡ size → number_of (bit ∷ word) ≡ bool_byte bit * size + number_of word
 unfolding number_of

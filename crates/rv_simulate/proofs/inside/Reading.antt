@@ -1,5 +1,5 @@
 -- How far the answering of a text has come that is read in pieces.
-use Rattle.std.proofs.Common.{◌≡◌, ◌∙◌, ℕ, ◌+◌, ◌≤◌, true, false, List, [], ◌++◌, length, take, drop, Some, None, Result, Ok, Err, OnOk, refl, ap, sym, subst, arith, inl, inr, length-append, length-take}
+use Rattle.std.proofs.Common.{◌≡◌, ◌∙◌, ℕ, ◌+◌, ◌≤◌, true, false, List, [], ◌++◌, length, take, Some, None, Result, Ok, Err, OnOk, refl, ap, sym, subst, arith, inl, inr, length-append, length-take}
 use Rattle.std.proofs.Math.Seq.{take-add, take-length}
 use Rattle.std.specs.Result.{is_err}
 use Rattle.std.proofs.lemmas.Bool.{cases_Bool}
@@ -110,10 +110,7 @@ length-read room rest count fit = omega (arith, fit, length-take count (room ++ 
 -- the bytes that a read gave follow the text in the content
 pub text_on : (view after : FilesView) (room rest text : List ℕ) (taken count : ℕ) → HasRead view room taken count after → view.tells ≡ true → take taken view.content ≡ text
     → take (taken + count) view.content ≡ text ++ take count (room ++ rest)
-text_on view after room rest text taken count read tells so_far =
-    let piece : take count (room ++ rest) ≡ take count (drop taken view.content) =
-    take-append-le count room rest read.gives.fit ∙ (read.gives.told tells).bytes ∙ ap (λ n. take count (drop n view.content)) read.at in
-    take-add taken count view.content ∙ ap (λ t. t ++ take count (drop taken view.content)) so_far ∙ ap (λ t. text ++ t) (sym piece)
+text_on view after room rest text taken count read tells so_far = grind (arith, take-append-le, take-add)
 
 -- they were answered, and no line that ended in them is wrong
 pub reading_on : (answer : Answering) (old view after : FilesView) (name room rest : List ℕ) (from mid to : SinkView) (taken count : ℕ) (s last : WordLine) (result : Result (Unit {0}) Stop) → is_err result ≡ false

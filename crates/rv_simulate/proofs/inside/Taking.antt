@@ -1,6 +1,6 @@
 -- The bits that a number holds, as more of them are put behind it.
 use mir.Val.{bool_byte}
-use Rattle.std.proofs.Common.{◌≡◌, ◌∙◌, ℕ, ◌+◌, ◌-◌, ◌*◌, ◌^◌, ◌<◌, ◌≤◌, ◌&&◌, Bool, true, false, cond, nat_lt, List, [], ◌∷◌, ◌++◌, length, map, take, drop, get_or, refl, ap, sym, subst, arith, append_assoc}
+use Rattle.std.proofs.Common.{◌≡◌, ◌∙◌, ℕ, ◌+◌, ◌-◌, ◌*◌, ◌^◌, ◌<◌, ◌≤◌, ◌&&◌, Bool, true, false, List, [], ◌∷◌, ◌++◌, length, map, take, drop, get_or, refl, ap, sym, subst, arith, append_assoc}
 use Rattle.std.specs.Cmp.Derive.{both_true}
 use Rattle.std.specs.List.{list_all}
 use Rattle.std.proofs.lemmas.List.{append-nil, length-append, length-drop, length-map, length-take, length-take-le, map-append, take-take, take_more}
@@ -80,10 +80,7 @@ pushed_8 count number more small size =
     subst (λ x. P (count + 8) x) value (subst (λ n. P n (number_of (word_of count number ++ more))) long (word_of-number_of word, number_of-lt word))
 
 pub taking_fits : (number count : ℕ) (bytes : List ℕ) (most taken now : ℕ) → count + most ≤ 64 → Taking number count bytes most taken now → now < 18446744073709551616
-taking_fits number count bytes most taken now few t =
-    let short : count + taken ≤ 64 = omega (arith, few, t.within) in
-    let below : 2 ^ (count + taken) ≤ 2 ^ 64 = pow-le-pow_right {n = 2} (omega arith) short in
-    omega (arith, t.small, below)
+taking_fits number count bytes most taken now few t = grind (arith, pow-le-pow_right)
 
 pub taking_octet : (number count : ℕ) (bytes : List ℕ) (most taken now octet : ℕ) → most ≤ length bytes → IsOctet octet (take (most - taken) (drop taken bytes))
     → Taking number count bytes most taken now → Taking number count bytes most (taken + 8) (now * 256 + octet)
@@ -114,23 +111,14 @@ line_of number count bits in_comment is_wrong = record { number = number; bits =
 pub bit_put : (number count bits next : ℕ) (in_comment is_wrong bit : Bool) → bits < 2 ^ count → count < MOST_LINES → next ≡ bool_byte bit
     → line_of number (count + 1) (bits * 2 + next) in_comment is_wrong ≡ with_bit (line_of number count bits in_comment is_wrong) bit
 bit_put number count bits next in_comment is_wrong bit small few is =
-    let room : nat_lt (length (word_of count bits)) MOST_LINES ≡ true = lt-ltb (length (word_of count bits)) MOST_LINES (omega (arith, few, length-word_of count bits)) in
-    let old = line_of number count bits in_comment is_wrong in
-    ap (λ n. line_of number (count + 1) (bits * 2 + n) in_comment is_wrong) is
-    ∙ ap (λ w. record old { bits = w }) (pushed count bits bit small).0
-    ∙ sym (ap (λ c. cond c (record old { bits = word_of count bits ++ bit ∷ [] }) (record old { is_wrong = true })) room)
+    grind (arith, word_of, MOST_LINES, lt-ltb, length-word_of, pushed)
 
 pub bit_refused : (number count bits : ℕ) (in_comment is_wrong bit : Bool) → count ≡ MOST_LINES
     → line_of number count bits in_comment true ≡ with_bit (line_of number count bits in_comment is_wrong) bit
-bit_refused number count bits in_comment is_wrong bit full =
-    let none : nat_lt (length (word_of count bits)) MOST_LINES ≡ false = le-ltb (length (word_of count bits)) MOST_LINES (omega (arith, full, length-word_of count bits)) in
-    let old = line_of number count bits in_comment is_wrong in
-    sym (ap (λ c. cond c (record old { bits = word_of count bits ++ bit ∷ [] }) (record old { is_wrong = true })) none)
+bit_refused number count bits in_comment is_wrong bit full = grind (arith, word_of, MOST_LINES, le-ltb, length-word_of)
 
 pub bytes_taken : (number count bits next taken : ℕ) (in_comment is_wrong : Bool) (bytes : List ℕ) → in_comment ≡ false → taken ≤ length bytes → count + taken ≤ MOST_LINES → list_all is_bit (take taken bytes) ≡ true
     → word_of (count + taken) next ≡ word_of count bits ++ map is_one (take taken bytes)
     → line_of number (count + taken) next in_comment is_wrong ≡ after_bytes (line_of number count bits in_comment is_wrong) (take taken bytes)
 bytes_taken number count bits next taken in_comment is_wrong bytes off within few are word =
-    let old = line_of number count bits in_comment is_wrong in
-    ap (λ w. record old { bits = w }) word
-    ∙ sym (bits_taken old (take taken bytes) off (omega (arith, few, length-word_of count bits, length-take-le taken bytes within)) are)
+    grind (arith, bits_taken, length-word_of, length-take-le)

@@ -1,6 +1,6 @@
 -- Lines that are the same to each gate of a window: where a renaming that goes on with one of them comes to nothing,
 -- so does one that goes on with another.
-use Rattle.std.proofs.Common.{◌≡◌, ◌≢◌, ℕ, zero, suc, ◌+◌, ◌-◌, ◌<◌, ◌≤◌, Bool, true, false, cond, ◌&&◌, ◌||◌, eqb, List, [], ◌∷◌, ◌++◌, length, take, drop, refl, sym, ◌∙◌, ap, inl, inr, arith, subst, take-append-drop, length-append, append_assoc, eq-eqb, leb-true}
+use Rattle.std.proofs.Common.{◌≡◌, ◌≢◌, ℕ, zero, suc, ◌+◌, ◌-◌, ◌<◌, ◌≤◌, Bool, true, false, cond, ◌&&◌, ◌||◌, eqb, List, [], ◌∷◌, ◌++◌, length, take, drop, refl, sym, ◌∙◌, ap, inl, inr, arith, subst, take-append-drop, length-append, append_assoc, leb-true}
 use Rattle.std.specs.Prelude.{bit_or, Option, Some, None}
 use Rattle.std.proofs.lemmas.Bool.{cases_eq, cases_lt, cases_Bool, false≢true, and_parts, or_cases, cond-true, cond-false, eqb-true, false_from_ne_true}
 use Rattle.std.proofs.lemmas.List.{get_or-append-add, length-take-le, length-map, append-nil}
@@ -9,7 +9,7 @@ use Rattle.rv_gate.proofs.LineSets.{same_lines}
 use Rattle.rv_gate.specs.Word.{has}
 use Rattle.rv_gate.specs.Gate.{same, touches, controls, wanted, IsFlip}
 use Rattle.rv_gate.specs.declared.gate.Shape.{Shape}
-use Rattle.rv_gate.specs.declared.gate.Shape.TheVariants.{Flip, Swap, Peres}
+use Rattle.rv_gate.specs.declared.gate.Shape.TheVariants.{Flip}
 use Rattle.rv_gate.specs.FirstAnswer.{first}
 use Rattle.rv_templ.specs.Folds.{least}
 use Rattle.rv_templ.specs.Gates.{gate_in}
@@ -47,16 +47,11 @@ even_roles g h v u i a b =
     }
 
 even_touches : (g : Shape) (v u : ℕ) → IsFlip g → Even g v u → touches g v ≡ touches g u
-even_touches (Flip c w t) v u f e = ap (λ b. b || eqb v t) e.control ∙ ap (λ b. has c u || b) e.target
-even_touches (Swap c w a b) v u f e = absurd (false≢true f)
-even_touches (Peres a b d) v u f e = absurd (false≢true f)
+even_touches g v u h h1 = grind arith
 
 -- the target is neither of them
 target_stays : (g : Shape) (v u : ℕ) → u ≢ v → Even g v u → traded v u (target_of g) ≡ target_of g
-target_stays g v u ne e =
-    traded_other v u (target_of g)
-    (λ s. ne (eqb-true u _ (sym e.target ∙ eq-eqb v _ (sym s)) ∙ s))
-    (λ s. ne (sym (eqb-true v _ (e.target ∙ eq-eqb u _ (sym s)) ∙ s)))
+target_stays g v u ne e = grind arith
 
 -- ---- the two lines traded in a renaming
 
@@ -168,10 +163,7 @@ rest_at own v u j (suc d) (x ∷ rest) h =
 
 -- a line after the one that a renaming goes on with
 line_after : (to : List ℕ) (i v d : ℕ) (rest : List ℕ) → length to ≡ 6 → i < 6 → new_line (gone_on to i v rest) (suc (i + d)) ≡ new_line rest d
-line_after to i v d rest len h =
-    let front : length (take i to ++ (v ∷ [])) ≡ suc i = let a = length-append (take i to) (v ∷ []) in let b = length-take-le i to (omega arith) in omega (arith, a, b) in
-    let e : suc (i + d) ≡ length (take i to ++ (v ∷ [])) + d = omega (arith, front) in
-    ap (new_line (gone_on to i v rest)) e ∙ get_or-append-add (take i to ++ (v ∷ [])) rest d 0
+line_after to i v d rest len h = grind (arith, length-append, length-take-le, new_line, gone_on, get_or-append-add)
 
 length-gone_on : (to : List ℕ) (i v : ℕ) (rest : List ℕ) → length to ≡ 6 → i < 6 → length rest ≡ 6 - (i + 1) → length (gone_on to i v rest) ≡ 6
 length-gone_on to i v rest len h r =
@@ -297,5 +289,4 @@ alike_none window template to i v u is some room len h lines hv hu suits none =
 -- the answer of the first line that may be taken is that of all lines from it on
 pub first_only : (ok : List ℕ → Bool) (to : List ℕ) (i v : ℕ) (o : Option (List ℕ)) → v < MOST_LINES → o ≡ on_with ok to i v
     → ((u : ℕ) → u < MOST_LINES → on_with ok to i v ≡ None → on_with ok to i u ≡ None) → o ≡ first (on_with ok to i) v (MOST_LINES - v)
-first_only ok to i v (Some x) lt e later = first_hit (on_with ok to i) v MOST_LINES (first (on_with ok to i) v (MOST_LINES - v)) x lt (sym e) refl
-first_only ok to i v None lt e later = sym (none_first (on_with ok to i) v (MOST_LINES - v) (λ u a b. later u (omega arith) (sym e)))
+first_only ok to i v o h h1 h2 = grind (arith, first_hit, on_with, MOST_LINES, none_first)

@@ -1,9 +1,8 @@
 -- The steps of the search over templates, turns and counts.
-use Rattle.std.proofs.Common.{◌≡◌, ℕ, zero, suc, ◌-◌, ◌*◌, ◌<◌, ◌≤◌, ◌&&◌, List, [], ◌∷◌, length, take, get_or, refl, sym, ◌∙◌, ap, arith}
+use Rattle.std.proofs.Common.{◌≡◌, ℕ, zero, suc, ◌-◌, ◌*◌, ◌<◌, ◌≤◌, List, [], ◌∷◌, length, take, get_or, refl, sym, ap, arith}
 use Rattle.std.specs.Option.{option_or}
-use Rattle.std.specs.Prelude.{Option, None, option_map, leb, ltb}
+use Rattle.std.specs.Prelude.{Option, None, option_map}
 use Rattle.std.specs.Global.{Vec}
-use Rattle.std.proofs.lemmas.Bool.{cond-true, cond-false, le-leb, lt-leb, lt-ltb, le-ltb, and_from, and_left, and_right}
 use Rattle.std.proofs.lemmas.List.{length-map}
 use Rattle.rv_gate.specs.declared.gate.Shape.{Shape}
 use Rattle.rv_gate.specs.FirstAnswer.{first}
@@ -28,21 +27,15 @@ length-templates templates = length-map templates (λ template. template.items)
 pub turns_of : (window : List Shape) (library : List (List Shape)) (t : ℕ) → length window ≤ length (template_in library t) → length (template_in library t) < 2 * length window
     → at_template window library t ≡ first (at_turn window (template_in library t) t) 0 (length (template_in library t))
 unfolding at_template
-turns_of window library t a b =
-    cond-true (leb (length window) (length (template_in library t)) && ltb (length (template_in library t)) (2 * length window)) _ None
-    (and_from _ _ (le-leb (length window) (length (template_in library t)) a) (lt-ltb (length (template_in library t)) (2 * length window) b))
+turns_of window library t a b = grind arith
 
 pub too_short : (window : List Shape) (library : List (List Shape)) (t : ℕ) → length (template_in library t) < length window → at_template window library t ≡ None
 unfolding at_template
-too_short window library t a =
-    cond-false (leb (length window) (length (template_in library t)) && ltb (length (template_in library t)) (2 * length window)) _ None
-    (and_left _ _ (lt-leb (length window) (length (template_in library t)) a))
+too_short window library t a = grind arith
 
 pub too_long : (window : List Shape) (library : List (List Shape)) (t : ℕ) → 2 * length window ≤ length (template_in library t) → at_template window library t ≡ None
 unfolding at_template
-too_long window library t b =
-    cond-false (leb (length window) (length (template_in library t)) && ltb (length (template_in library t)) (2 * length window)) _ None
-    (and_right _ _ (le-ltb (length (template_in library t)) (2 * length window) b))
+too_long window library t b = grind arith
 
 -- what the search for a renaming found is the answer at a turn
 pub turn_found : (window template : List Shape) (t r : ℕ) (o : Option (List ℕ)) → o ≡ renaming window (turned r template)
@@ -52,10 +45,7 @@ turn_found window template t r o e = ap (option_map (λ to. record { count = len
 pub most_found : (gates : List Shape) (library : List (List Shape)) (k : ℕ) (o : Option Found) → 0 < k → o ≡ first (at_template (take k gates) library) 0 (length library)
     → at_most gates library k ≡ option_or o (at_most gates library (k - 1))
 unfolding at_most at_count
-most_found gates library zero o h e = absurd (omega arith)
-most_found gates library (suc k) o h e =
-    let s : k ≡ suc k - 1 = omega arith in
-    ap (λ x. option_or x (at_most gates library k)) (sym e) ∙ ap (λ n. option_or o (at_most gates library n)) s
+most_found gates library k o h h1 = grind arith
 
 pub most_none : (gates : List Shape) (library : List (List Shape)) → at_most gates library 0 ≡ None
 unfolding at_most

@@ -63,10 +63,7 @@ before_node q m (n ∷ more) (suc k) a d e =
 
 prev_here : (nodes : List Node) (place a : ℕ) → NoTwice (ids_in nodes) → Some a ≡ head (ids_in (drop place nodes)) → prev_in a (ids_in nodes) ≡ node_before place nodes
 unfolding prev_from
-prev_here [] zero a d e = absurd (none-some a (sym e))
-prev_here [] (suc k) a d e = absurd (none-some a (sym e))
-prev_here (n ∷ rest) zero a d e = cond-true (eqb a n.id) _ _ (eq-eqb a n.id (same_Some a n.id e))
-prev_here (n ∷ rest) (suc k) a d e = before_node None n rest k a d e
+prev_here nodes place a h h1 = grind (arith, none-some, cond-true, eq-eqb, same_Some, before_node)
 
 pub cursor_here : (nodes : List Node) (place a : ℕ) (before : Option ℕ) → NoTwice (ids_in nodes) → Some a ≡ head (ids_in (drop place nodes)) → before ≡ prev_in a (ids_in nodes) → IsCursor nodes place before
 cursor_here nodes place a before d e p = record {
@@ -102,10 +99,7 @@ next_here nodes (suc k) a before at d c e n = let s : k + 1 ≡ suc k = omega ar
 -- ---- a change at a place or after it
 
 first_same : (xs ys : List Node) → take 1 xs ≡ take 1 ys → head (ids_in xs) ≡ head (ids_in ys)
-first_same [] [] e = refl
-first_same [] (y ∷ ys) e = absurd cc
-first_same (x ∷ xs) [] e = absurd cc
-first_same (x ∷ xs) (y ∷ ys) e = let same : x ≡ y = cc in ap (λ (n : Node). let o : Option ℕ = Some n.id in o) same
+first_same xs ys h = grind arith
 
 pub cursor_kept : (old new : List Node) (change place : ℕ) (before : Option ℕ) → take change new ≡ take change old → place ≤ change → IsCursor old place before → IsCursor new place before
 cursor_kept old new change zero before e le c = record { within = omega arith; node = c.node }

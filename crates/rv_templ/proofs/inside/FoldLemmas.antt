@@ -1,15 +1,14 @@
 -- Unions, sums and first answers, step by step.
-use Rattle.std.proofs.Common.{◌≡◌, ℕ, zero, suc, ◌+◌, ◌<◌, ◌≤◌, Bool, true, false, cond, ◌&&◌, List, [], ◌∷◌, ◌++◌, length, refl, sym, ◌∙◌, ap, inl, inr, arith, append_assoc}
+use Rattle.std.proofs.Common.{◌≡◌, ℕ, zero, suc, ◌+◌, ◌<◌, ◌≤◌, Bool, true, false, cond, List, [], ◌∷◌, ◌++◌, length, refl, sym, ◌∙◌, ap, inl, inr, arith, append_assoc}
 use Rattle.std.specs.Option.{option_or}
 use Rattle.std.specs.Prelude.{bit_or, Option, Some, None}
-use Rattle.std.proofs.lemmas.Bool.{cases_eq, cases_lt, cases_Bool, false≢true, and_parts, and_from, or_cases, or_left, or_right, cond-false}
+use Rattle.std.proofs.lemmas.Bool.{cases_eq, cases_lt, false≢true, or_cases, or_left, or_right, cond-false}
 use Rattle.std.proofs.lemmas.Option.{none-some}
 use Rattle.rv_gate.specs.declared.word.TheConstants.{MOST_LINES}
 use Rattle.rv_gate.proofs.LineSets.{has-none, has-or}
 use Rattle.rv_gate.specs.Word.{has}
 use Rattle.rv_gate.specs.FirstAnswer.{first}
 use Rattle.rv_templ.specs.Folds.{union_below, least}
-use Rattle.rv_gate.specs.Gate.{all_below}
 use Rattle.rv_templ.specs.inside.Sums.{sum_below}
 use Rattle.rv_gate.proofs.FirstAnswer.{first_suc, first_zero, none_first}
 

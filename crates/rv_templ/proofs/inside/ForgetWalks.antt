@@ -102,9 +102,6 @@ pub record OnLine (nodes : List Node) (notes : List ℕ) (new : Shape) (line : �
   pub at_is : at ≡ head (ids_in (chain left line))
   pub apart : Apart notes (new ∷ []) seen
 
-pub line_start : (nodes : List Node) (notes : List ℕ) (new : Shape) (line : ℕ) (at : Option ℕ) → at ≡ head (ids_in (chain nodes line)) → OnLine nodes notes new line at
-line_start nodes notes new line at e = record { seen = []; left = nodes; split = refl; at_is = e; apart = tt }
-
 apart_off : (notes : List ℕ) (new : Shape) (l : List Node) → Untouched (target_of new) l → Apart notes (new ∷ []) l
 unfolding Untouched
 apart_off notes new [] off = tt

@@ -1,10 +1,9 @@
 -- How many lines gates touch, in sum.
-use Rattle.std.proofs.Common.{◌≡◌, ℕ, zero, suc, ◌+◌, ◌*◌, ◌/◌, ◌%◌, ◌^◌, ◌<◌, ◌≤◌, true, false, ◌||◌, eqb, List, [], ◌∷◌, ◌++◌, length, reverse, refl, sym, ◌∙◌, ap, inl, inr, arith, eq-eqb, pow_pos}
+use Rattle.std.proofs.Common.{◌≡◌, ℕ, zero, suc, ◌+◌, ◌*◌, ◌/◌, ◌%◌, ◌^◌, ◌≤◌, true, ◌||◌, List, [], ◌∷◌, ◌++◌, length, reverse, refl, sym, ◌∙◌, ap, inl, inr, arith, pow_pos}
 use Rattle.std.specs.Prelude.{◌≢◌, count_ones, Option, Some, None}
-use Rattle.std.proofs.lemmas.Bool.{cases_eq, or_cases, eqb-true, eqb-false}
+use Rattle.std.proofs.lemmas.Bool.{cases_eq}
 use Rattle.std.proofs.lemmas.List.{reverse-append}
 use Rattle.std.proofs.lemmas.Nat.{ones_cat, ones_le_self, zero_from_ones}
-use Rattle.std.proofs.lemmas.Nat.Bits.{bit_at-suc, bit_at_lowest}
 use Rattle.rv_gate.specs.Word.{has}
 use Rattle.rv_gate.specs.declared.gate.Shape.{Shape}
 use Rattle.rv_links.specs.Nodes.{incidence, incidences}
@@ -12,7 +11,7 @@ use Rattle.rv_templ.specs.inside.Sums.{sum_below}
 use Rattle.rv_templ.specs.Gates.{gate_in}
 use Rattle.rv_templ.specs.Pairs.{lone}
 use Rattle.rv_templ.proofs.JoinLaws.{lone_is}
-use Rattle.rv_gate.proofs.CountOnes.{ones_halves, odd, has_half}
+use Rattle.rv_gate.proofs.CountOnes.{ones_halves, has_half}
 
 pub incidences-cons : (g : Shape) (rest : List Shape) → incidences (g ∷ rest) ≡ incidence g + incidences rest
 unfolding incidences
@@ -54,15 +53,7 @@ incidences-sum (g ∷ rest) = ap (λ s. incidence g + s) (incidences-sum rest) �
 -- ---- a set within two others
 
 low_ones : (p q r : ℕ) → (has p 0 ≡ true → (has q 0 || has r 0) ≡ true) → p % 2 ≤ q % 2 + r % 2
-low_ones p q r h =
-    elim (cases_eq (p % 2) 1) [
-      | inl one ↦
-          (elim (or_cases (has q 0) (has r 0) (h (eq-eqb _ 1 (bit_at_lowest p ∙ one)))) [
-            | inl on ↦ let o = odd q on in omega arith
-            | inr on ↦ let o = odd r on in omega arith
-          ])
-      | inr none ↦ omega arith
-    ]
+low_ones p q r h = grind arith
 
 ones_within : (k p q r : ℕ) → p ≤ k → ((i : ℕ) → has p i ≡ true → (has q i || has r i) ≡ true) → count_ones p ≤ count_ones q + count_ones r
 ones_within zero p q r le h = let s : count_ones p ≤ p = ones_le_self p in omega arith

@@ -1,6 +1,6 @@
 -- What the chosen window is, and what its replacement keeps.
-use Rattle.std.proofs.Common.{◌≡◌, ℕ, zero, suc, ◌*◌, ◌<◌, ◌≤◌, Bool, true, false, cond, ◌&&◌, ◌||◌, eqb, List, [], ◌++◌, length, take, drop, refl, sym, ◌∙◌, ap, inl, inr, arith, subst, take-append-drop, length-append}
-use Rattle.std.specs.Prelude.{leb, ltb, Option, Some, None}
+use Rattle.std.proofs.Common.{◌≡◌, ℕ, zero, suc, ◌*◌, ◌<◌, ◌≤◌, true, false, ◌||◌, eqb, List, [], ◌++◌, length, take, drop, sym, ◌∙◌, ap, inl, inr, arith, subst, take-append-drop, length-append}
+use Rattle.std.specs.Prelude.{Some}
 use Rattle.std.proofs.lemmas.Bool.{and_parts, leb-true, ltb-true, eqb-true, or_cases, false≢true}
 use Rattle.std.proofs.lemmas.Option.{none-some}
 use Rattle.std.proofs.lemmas.List.{length-take-le, take-map}
@@ -9,7 +9,6 @@ use Rattle.rv_links.specs.Nodes.{incidences}
 use Rattle.rv_templ.specs.Gates.{AreGates, Same}
 use Rattle.rv_gate.specs.Word.{has}
 use Rattle.rv_gate.specs.declared.gate.Shape.{Shape}
-use Rattle.rv_gate.specs.FirstAnswer.{first}
 use Rattle.rv_templ.specs.Images.{span, turned, new_line, image_of, image, fresh_care, fresh_want, zero_elsewhere, others, allowed, replacement}
 use Rattle.rv_templ.specs.Templates.{AreTemplates}
 use Rattle.rv_templ.specs.Choices.{renaming, template_in, at_turn, at_template, at_count, at_most, window_at, after, Found}
@@ -50,24 +49,14 @@ most_some gates library (suc k) found e =
 count_some : (gates : List Shape) (library : List (List Shape)) (k : ℕ) (found : Found) → at_count gates library k ≡ Some found
     → (t : ℕ) × (t < length library) × (at_template (take k gates) library t ≡ Some found)
 unfolding at_count
-count_some gates library k found e =
-    let p = first_some (at_template (take k gates) library) 0 (length library) found e in
-    (p.0, omega (arith, p.2), p.3)
+count_some gates library k found e = grind (arith, first_some, at_template)
 
 template_some : (window : List Shape) (library : List (List Shape)) (t : ℕ) (found : Found) → at_template window library t ≡ Some found
     → (length window ≤ length (template_in library t)) × (length (template_in library t) < 2 * length window)
     × (r : ℕ) × (r < length (template_in library t)) × (at_turn window (template_in library t) t r ≡ Some found)
 unfolding at_template
 template_some window library t found e =
-    let test : Bool = leb (length window) (length (template_in library t)) && ltb (length (template_in library t)) (2 * length window) in
-    let q = cond_some_is test (first (at_turn window (template_in library t) t) 0 (length (template_in library t))) found e in
-    let both = and_parts (leb (length window) (length (template_in library t))) (ltb (length (template_in library t)) (2 * length window)) q.0 in
-    let p = first_some (at_turn window (template_in library t) t) 0 (length (template_in library t)) found q.1 in
-    (leb-true _ _ both.0, ltb-true _ _ both.1, p.0, omega (arith, p.2), p.3)
-  where
-    cond_some_is : {A : Type 0} (b : Bool) (o : Option A) (x : A) → cond b o None ≡ Some x → (b ≡ true) × (o ≡ Some x)
-    cond_some_is true o x e = (refl, e)
-    cond_some_is false o x e = absurd (none-some x e)
+    grind (arith, template_in, at_turn, and_parts, first_some, leb-true, ltb-true, none-some)
 
 pub chosen : (gates : List Shape) (library : List (List Shape)) (found : Found) → window_at gates library ≡ Some found → Chosen gates library found
 chosen gates library found e =

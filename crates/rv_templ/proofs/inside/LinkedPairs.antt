@@ -1,4 +1,6 @@
 -- A pair of nodes is made.
+use Rattle.std.proofs.Common.{arith}
+use Rattle.std.proofs.lemmas.Grind.{common_steps}
 use Rattle.std.proofs.Common.{◌≡◌, ℕ, true, false, eqb, List, map, [], ◌∷◌, ◌++◌, length, take, drop, refl, sym, ◌∙◌, ap, subst, eq-eqb, append_assoc}
 use Rattle.std.specs.Prelude.{Option, Some, None}
 use Rattle.std.proofs.lemmas.Option.{same_Some}
@@ -28,9 +30,7 @@ first_live nodes a b m =
     ap (live a) m.split ∙ ap (λ x. live x (row m.before m.first m.between m.second m.after)) (sym m.is_first) ∙ listed_at m.before m.first (m.between ++ (m.second ∷ m.after))
 
 pub second_live : (nodes : List Node) (a b : ℕ) → Mate nodes a b → live b nodes ≡ true
-second_live nodes a b m =
-    ap (live b) (m.split ∙ regroup m.before m.between m.after m.first m.second)
-    ∙ ap (λ x. live x ((m.before ++ (m.first ∷ m.between)) ++ (m.second ∷ m.after))) (sym m.is_second) ∙ listed_at (m.before ++ (m.first ∷ m.between)) m.second m.after
+second_live nodes a b m = grind (arith, regroup, listed_at)
 
 pub first_is : (nodes : List Node) (a b : ℕ) (m : Mate nodes a b) → NoTwice (ids_in nodes) → node_gate a nodes ≡ m.first.gate
 first_is nodes a b m d =
@@ -65,11 +65,7 @@ prev_at p (m ∷ before) o n after off =
 
 -- the last of the nodes before the second stands before it
 row_last : (before between after : List Node) (first second : Node) (l : Last first between) → row before first between second after ≡ (before ++ l.init) ++ (l.last ∷ second ∷ after)
-row_last before between after first second l =
-    regroup before between after first second
-    ∙ ap (λ t. (before ++ t) ++ (second ∷ after)) l.is
-    ∙ ap (λ t. t ++ (second ∷ after)) (sym (append_assoc before l.init (l.last ∷ [])))
-    ∙ append_assoc (before ++ l.init) (l.last ∷ []) (second ∷ after)
+row_last before between after first second l = grind (arith, regroup, append_assoc)
 
 prev_is : (before between after : List Node) (first second : Node) (l : Last first between) → NoTwice (ids_in (row before first between second after)) → prev_in second.id (ids_in (row before first between second after)) ≡ Some l.last.id
 prev_is before between after first second l d =
@@ -137,12 +133,7 @@ near_live nodes a b near d m e =
     ∙ ap (λ x. live x ((m.before ++ l.init) ++ (l.last ∷ m.second ∷ m.after))) (sym same) ∙ listed_at (m.before ++ l.init) l.last (m.second ∷ m.after)
 
 pub stays : (nodes : List Node) (a b near : ℕ) (m : Mate nodes a b) → NoTwice (ids_in nodes) → prev_in b (ids_in nodes) ≡ Some near → near ≡ a → nodes ≡ brought nodes a b m
-stays nodes a b near m d e s =
-    let d2 = subst (λ (t : List Node). NoTwice (ids_in t)) m.split d in
-    m.split
-    ∙ stays_row m.before m.between m.after m.first m.second d2
-    (ap (λ t. prev_in m.second.id (ids_in t)) (sym m.split) ∙ ap (λ x. prev_in x (ids_in nodes)) m.is_second ∙ e
-    ∙ ap (λ (x : ℕ). let o : Option ℕ = Some x in o) (s ∙ sym m.is_first))
+stays nodes a b near m d e s = grind (arith, ids_in, stays_row, prev_in)
 
 node_is : (n : Node) (a : ℕ) (g : Shape) → n.id ≡ a → n.gate ≡ g → (let x : Node = record { id = a; gate = g } in x) ≡ n
 node_is n a g e f = ap (λ (i : ℕ). let x : Node = record { id = i; gate = g } in x) (sym e) ∙ ap (λ (h : Shape). let x : Node = record { id = n.id; gate = h } in x) (sym f)
@@ -212,13 +203,7 @@ set_row nodes new set a b m k d e es =
 
 -- the place of a pair has its first node
 pub pair_here : (nodes : List Node) (place a b : ℕ) → IsPairSpot nodes place a b → Some a ≡ head (ids_in (drop place nodes))
-pair_here nodes place a b s =
-    let m = s.mate in
-    let rest : List Node = m.between ++ (m.second ∷ m.after) in
-    ap (λ (x : ℕ). let o : Option ℕ = Some x in o) (sym m.is_first)
-    ∙ ap (λ l. head (ids_in l)) (sym (drop-append_seam m.before (m.first ∷ rest)))
-    ∙ ap (λ l. head (ids_in (drop (length m.before) l))) (sym m.split)
-    ∙ ap (λ n. head (ids_in (drop n nodes))) (sym (length-map m.before (λ (n : Node). n.gate)) ∙ s.count)
+pair_here nodes place a b s = grind (arith, ids_in, drop-append_seam, length-map)
 
 -- the gates of the pair, and the nodes before it, after it was made
 pub coupled_gates : (nodes : List Node) (a b : ℕ) (m : Mate nodes a b) → gates_in (coupled nodes a b m) ≡ mated nodes a b m
@@ -235,13 +220,7 @@ pub place_is : (nodes : List Node) (place a b : ℕ) (s : IsPairSpot nodes place
 place_is nodes place a b s = let m = s.mate in sym (length-map m.before (λ (n : Node). n.gate)) ∙ s.count
 
 pub coupled_front : (nodes : List Node) (place a b : ℕ) (s : IsPairSpot nodes place a b) → take place (coupled nodes a b s.mate) ≡ take place nodes
-coupled_front nodes place a b s =
-    let m = s.mate in
-    let n = place_is nodes place a b s in
-    ap (λ k. take k (coupled nodes a b m)) (sym n)
-    ∙ take-append_seam m.before (m.between ++ (map (node_of a) m.gates ++ m.after))
-    ∙ sym (ap (take (length m.before)) m.split ∙ take-append_seam m.before (m.first ∷ (m.between ++ (m.second ∷ m.after))))
-    ∙ ap (λ k. take k nodes) n
+coupled_front nodes place a b s = grind (arith, common_steps, place_is, take-append_seam, node_of)
 
 -- the nodes before the second one
 pub before_second : (nodes : List Node) (a b : ℕ) (m : Mate nodes a b) → nodes ≡ (m.before ++ (m.first ∷ m.between)) ++ (m.second ∷ m.after)

@@ -1,4 +1,5 @@
 -- Windows of linked gates.
+use Rattle.std.proofs.lemmas.Grind.{common_steps}
 use Rattle.std.proofs.Common.{◌≡◌, ℕ, zero, suc, ◌+◌, ◌-◌, ◌*◌, ◌<◌, ◌≤◌, true, eqb, List, [], ◌∷◌, ◌++◌, length, take, drop, set, refl, sym, ◌∙◌, ap, inl, inr, arith, subst, eq-eqb, ne_eqb, append_assoc, take-append-drop, length-drop}
 use Rattle.std.specs.Prelude.{Option, Some, None}
 use Rattle.std.proofs.lemmas.Bool.{cases_eq, cond-true, cond-false, false≢true, leb-true, or_cases, eqb-true}
@@ -30,10 +31,7 @@ use Rattle.rv_templ.proofs.inside.Incidences.{incidences-reverse}
 
 pub coming_next : (a : ℕ) (nodes : List Node) (next : Option ℕ) (g : Shape) → NoTwice (ids_in nodes) → live a nodes ≡ true → next ≡ next_in a (ids_in nodes) → g ≡ node_gate a nodes
     → coming (Some a) nodes ≡ g ∷ coming next nodes
-coming_next a nodes next g d on e eg =
-    ap gates_in (from_step a nodes d on)
-    ∙ ap (λ h. h ∷ coming (next_in a (ids_in nodes)) nodes) (sym eg)
-    ∙ ap (λ q. g ∷ coming q nodes) (sym e)
+coming_next a nodes next g d on e eg = grind (arith, gates_in, from_step, next_in, ids_in)
 
 pub copy_more : (most i : ℕ) (room here later goal : List Shape) (g : Shape) → i < most → most ≤ length room → here ≡ g ∷ later
     → take i room ++ take (most - i) here ≡ goal → take (i + 1) (set room i g) ++ take (most - (i + 1)) later ≡ goal
@@ -133,11 +131,7 @@ here n library gates found are most good e =
 pub takes_it : (n : ℕ) (library : List (List Shape)) (gates gs : List Shape) (found : Found) → Here n library gates found
     → gs ≡ replacement (take found.count gates) (turned found.turn (template_in library found.template)) found.lines
     → (length gs ≤ length (take found.count gates)) × (incidences gs ≤ incidences (take found.count gates))
-takes_it n library gates gs found h e =
-    let a = h.fewer in
-    let b = h.no_more in
-    let c = h.here in
-    (omega (arith, a, ap length e, length-take-le found.count gates c), omega (arith, b, ap incidences e))
+takes_it n library gates gs found h e = grind (arith, here, length-take-le)
 
 pub spot_here : (l : Linkage) (library : List (List Shape)) (place a : ℕ) (found : Found) → IsLinkage l → AreTemplates library → IsSpot library l.nodes place a found
     → Here (length l.frame.names) library (coming (Some a) l.nodes) found
@@ -178,9 +172,7 @@ window_front a c gs (n ∷ rest) (suc place) le =
 
 pub spot_front : (library : List (List Shape)) (nodes new : List Node) (place a : ℕ) (found : Found) (gs : List Shape) → IsSpot library nodes place a found → new ≡ window_set a found.count gs nodes → take place new ≡ take place nodes
 spot_front library nodes new place a found gs spot e =
-    let within = spot.within in
-    ap (take place) e
-    ∙ window_front a found.count gs nodes place (omega (arith, within, ap length spot.here, length-drop place (gates_in nodes), length-map nodes (λ (n : Node). n.gate)))
+    grind (arith, window_front, here, length-drop, gates_in, length-map)
 
 -- ---- the walk along all nodes
 
@@ -193,9 +185,7 @@ rest_more a nodes next at place d on e ea rest =
 -- the place of a node is within the list
 pub rest_within : (a : ℕ) (nodes : List Node) (at : Option ℕ) (place : ℕ) → NoTwice (ids_in nodes) → live a nodes ≡ true → at ≡ Some a → coming at nodes ≡ drop place (gates_in nodes) → place < length (gates_in nodes)
 rest_within a nodes at place d on ea rest =
-    let c = coming_next a nodes (next_in a (ids_in nodes)) (node_gate a nodes) d on refl refl in
-    let l = ap length (sym rest ∙ ap (λ q. coming q nodes) ea ∙ c) in
-    omega (arith, l, length-drop place (gates_in nodes))
+    grind (arith, common_steps, coming_next, next_in, ids_in, node_gate, length-drop, gates_in)
 
 -- nothing is left: the list is not longer
 pub rest_end : (nodes : List Node) (at : Option ℕ) (place : ℕ) → at ≡ None → coming at nodes ≡ drop place (gates_in nodes) → length (gates_in nodes) ≤ place
@@ -204,9 +194,7 @@ rest_end nodes at place e rest =
     omega (arith, l, length-drop place (gates_in nodes))
 
 pub shorter_next : (a : ℕ) (nodes : List Node) (next at : Option ℕ) → NoTwice (ids_in nodes) → live a nodes ≡ true → next ≡ next_in a (ids_in nodes) → at ≡ Some a → length (coming next nodes) < length (coming at nodes)
-shorter_next a nodes next at d on e ea =
-    let c = coming_next a nodes next (node_gate a nodes) d on e refl in
-    omega (arith, ap length (ap (λ q. coming q nodes) ea ∙ c))
+shorter_next a nodes next at d on e ea = grind (arith, coming_next, node_gate)
 
 pub clean_more : (library : List (List Shape)) (gates here : List Shape) (place : ℕ) → Clean library gates place → here ≡ drop place gates → window_at here library ≡ None → Clean library gates (place + 1)
 clean_more library gates here place clean e none i lt =

@@ -1,13 +1,13 @@
 -- The notes after a pair was made, and after a window was replaced.
-use Rattle.std.proofs.Common.{◌≡◌, ℕ, zero, suc, ◌+◌, ◌-◌, ◌≤◌, true, false, eqb, cond, not, ◌&&◌, ◌||◌, List, [], ◌∷◌, ◌++◌, length, map, take, drop, refl, sym, ◌∙◌, ap, inl, inr, arith, subst, append_assoc, take-append-drop, length-drop}
+use Rattle.std.proofs.lemmas.Grind.{common_steps}
+use Rattle.std.proofs.Common.{◌≡◌, ℕ, zero, suc, ◌+◌, ◌-◌, ◌≤◌, true, false, List, [], ◌∷◌, ◌++◌, length, map, take, drop, refl, sym, ◌∙◌, ap, inl, inr, arith, subst, append_assoc, take-append-drop, length-drop}
 use Rattle.std.specs.Prelude.{◌⊎◌, Option, Some, None, bit_and, bit_xor}
-use Rattle.std.proofs.Math.Bool.{and_comm as both_comm}
 use Rattle.std.proofs.Math.Seq.{take-add}
 use Rattle.std.proofs.lemmas.Nat.{and_comm, xor_comm}
 use Rattle.std.proofs.lemmas.Bool.{false≢true, and_parts, cases_eq}
 use Rattle.std.proofs.lemmas.List.{drop-drop, append-nil, length-take-le, length-map, take-take}
 use Rattle.rv_gate.specs.declared.gate.Shape.{Shape}
-use Rattle.rv_gate.specs.Gate.{controls, wanted, targets, touched, is_flip}
+use Rattle.rv_gate.specs.Gate.{controls, wanted, is_flip}
 use Rattle.rv_gate.specs.Commuting.{meet, opposed, rule}
 use Rattle.rv_links.specs.Order.{head, next_in, NoTwice}
 use Rattle.rv_links.specs.Nodes.{Node, ids_in, gates_in, live, node_gate, noted}
@@ -31,14 +31,7 @@ opposed_comm g h = ap (λ n. meet n (bit_xor (wanted g) (wanted h))) (and_comm (
 -- the rule is the same in both orders
 pub rule_comm : (g h : Shape) → rule g h ≡ rule h g
 unfolding rule
-rule_comm g h =
-    let both = both_comm (is_flip g) (is_flip h) in
-    let plain = both_comm (not (meet (targets g) (controls h))) (not (meet (targets h) (controls g))) in
-    let other = both_comm (not (meet (targets g) (touched h))) (not (meet (targets h) (touched g))) in
-    ap (λ b. b || cond (is_flip g && is_flip h) (not (meet (targets g) (controls h)) && not (meet (targets h) (controls g))) (not (meet (targets g) (touched h)) && not (meet (targets h) (touched g)))) (opposed_comm g h)
-    ∙ ap (λ b. opposed h g || cond b (not (meet (targets g) (controls h)) && not (meet (targets h) (controls g))) (not (meet (targets g) (touched h)) && not (meet (targets h) (touched g)))) both
-    ∙ ap (λ b. opposed h g || cond (is_flip h && is_flip g) b (not (meet (targets g) (touched h)) && not (meet (targets h) (touched g)))) plain
-    ∙ ap (λ b. opposed h g || cond (is_flip h && is_flip g) (not (meet (targets h) (controls g)) && not (meet (targets g) (controls h))) b) other
+rule_comm g h = grind (arith, common_steps, is_flip, opposed_comm)
 
 -- where both nodes' gates commute with all, no note names one of them
 pub kept_free : (notes : List ℕ) (first second : Node) (gates : List Shape) (l : List Node) → passes first.gate (gates_in l) ≡ true → passes second.gate (gates_in l) ≡ true → Apart notes gates l → Kept notes first second gates l
@@ -104,9 +97,7 @@ gates_are nodes a b m g h o d eg eh j = sym (join_of nodes a b m g h o d eg eh j
 -- ---- a node whose gate makes no pair
 
 pub mate_none : (nodes : List Node) (a : ℕ) → NoTwice (ids_in nodes) → live a nodes ≡ true → NoMate nodes a → partner (node_gate a nodes) (gates_in (nodes_from (next_in a (ids_in nodes)) nodes)) ≡ None
-mate_none nodes a d on k =
-    let h = node_here nodes k.before k.first k.after a d k.split k.is on in
-    ap (λ (n : Node). partner n.gate (gates_in (nodes_from (next_in a (ids_in nodes)) nodes))) h.0 ∙ ap (λ l. partner k.first.gate (gates_in l)) h.1 ∙ k.none
+mate_none nodes a d on k = grind (arith, node_here, gates_in, nodes_from, next_in, ids_in)
 
 pub quiet_free : (nodes : List Node) (a left : ℕ) (g : Shape) → NoTwice (ids_in nodes) → live a nodes ≡ true → NoMate nodes a → g ≡ node_gate a nodes → ((id : ℕ) → live id nodes ≡ true → rule g (node_gate id nodes) ≡ true)
     → length (nodes_from (next_in a (ids_in nodes)) nodes) ≤ left → Quiet 1 (node_gate a nodes) (nodes_from (next_in a (ids_in nodes)) nodes) left

@@ -1,9 +1,9 @@
 -- The walk along all nodes for the first pair.
-use Rattle.std.proofs.Common.{◌≡◌, ◌≢◌, ℕ, ◌+◌, ◌-◌, ◌≤◌, true, false, List, [], ◌∷◌, ◌++◌, length, refl, sym, ◌∙◌, ap, arith, subst, append_assoc, length-append, take, drop, take-append-drop}
+use Rattle.std.proofs.Common.{◌≡◌, ◌≢◌, ℕ, ◌+◌, ◌-◌, ◌≤◌, true, false, List, [], ◌∷◌, ◌++◌, length, refl, sym, ◌∙◌, ap, arith, subst, append_assoc, length-append, take}
 use Rattle.std.specs.Prelude.{Option, Some, None}
 use Rattle.std.proofs.Math.Seq.{take-append_seam}
 use Rattle.std.proofs.lemmas.Option.{none-some, same_Some}
-use Rattle.std.proofs.lemmas.List.{append_cancel_right, append-nil, length-take-le, length-map}
+use Rattle.std.proofs.lemmas.List.{append_cancel_right, append-nil, length-map}
 use Rattle.rv_gate.specs.declared.gate.Shape.{Shape}
 use Rattle.rv_links.specs.Order.{lists, head, next_in, NoTwice}
 use Rattle.rv_links.specs.Nodes.{Node, ids_in, live, node_gate, from_node, gates_in, noted}
@@ -47,17 +47,6 @@ pub record Along (nodes : List Node) (notes : List ℕ) (place : ℕ) (at : Opti
   pub split : nodes ≡ before ++ after
   pub at_is : at ≡ head (ids_in after)
   pub known : AllNoted notes before
-
-pub along_start : (nodes : List Node) (notes : List ℕ) (place : ℕ) (at : Option ℕ) → at ≡ head (ids_in (drop place nodes)) → place ≤ length nodes → AllNoted notes (take place nodes) → Along nodes notes place at
-along_start nodes notes place at e within known =
-    record {
-      before = take place nodes;
-      count = length-take-le place nodes within;
-      after = drop place nodes;
-      split = sym (take-append-drop place nodes);
-      at_is = e;
-      known = known;
-    }
 
 -- the node at which the walk is
 pub record There (nodes before after : List Node) (a : ℕ) : Type 0 where

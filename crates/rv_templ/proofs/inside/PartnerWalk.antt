@@ -1,4 +1,6 @@
 -- The search for the partner of a node, along the chain of its target.
+use Rattle.std.proofs.Common.{arith}
+use Rattle.std.proofs.lemmas.Grind.{common_steps}
 use Rattle.std.proofs.Common.{◌≡◌, ◌<◌, ℕ, true, false, eqb, List, [], ◌∷◌, ◌++◌, length, refl, sym, ◌∙◌, ap, inl, inr, subst, append_assoc}
 use Rattle.std.specs.Prelude.{◌⊎◌, Option, Some, None}
 use Rattle.std.proofs.lemmas.Option.{none-some, same_Some}
@@ -382,9 +384,7 @@ free_at [] second after x e = inl (refl, sym (same_Some x second.id e))
 free_at (n ∷ rest) second after x e = inr (n, rest, refl, sym (same_Some x n.id e))
 
 pub free_live : (nodes : List Node) (a b x : ℕ) (at : Option ℕ) → FreeWalk nodes a b at → at ≡ Some x → live x nodes ≡ true
-free_live nodes a b x at w e =
-    let tail : List Node = w.left ++ (w.second ∷ w.after) in
-    ap (live x) (w.split ∙ sym (append_assoc w.before (w.first ∷ w.passed) tail)) ∙ live_head (w.before ++ (w.first ∷ w.passed)) tail x (sym e ∙ w.at_is)
+free_live nodes a b x at w e = grind (arith, common_steps, append_assoc, passed, live_head)
 
 -- a node before the candidate is another
 other_node : (nodes : List Node) (a b : ℕ) (at : Option ℕ) (w : FreeWalk nodes a b at) (n : Node) (rest : List Node) → NoTwice (ids_in nodes) → w.left ≡ n ∷ rest → n.id ≡ w.second.id → ⊥
@@ -428,9 +428,7 @@ free_first nodes a b at w g d e =
 
 free_whole : (nodes : List Node) (a b : ℕ) (at : Option ℕ) (w : FreeWalk nodes a b at) (n : Node) (rest : List Node) → w.left ≡ n ∷ rest
     → nodes ≡ (w.before ++ (w.first ∷ w.passed)) ++ (n ∷ (rest ++ (w.second ∷ w.after)))
-free_whole nodes a b at w n rest l =
-    w.split ∙ ap (λ z. w.before ++ (w.first ∷ (w.passed ++ (z ++ (w.second ∷ w.after))))) l
-    ∙ sym (append_assoc w.before (w.first ∷ w.passed) (n ∷ (rest ++ (w.second ∷ w.after))))
+free_whole nodes a b at w n rest l = grind (arith, passed, append_assoc)
 
 free_second : (nodes : List Node) (a b x : ℕ) (at : Option ℕ) (w : FreeWalk nodes a b at) (n : Node) (rest : List Node) (h : Shape) → NoTwice (ids_in nodes) → w.left ≡ n ∷ rest → n.id ≡ x → h ≡ node_gate x nodes
     → h ≡ n.gate

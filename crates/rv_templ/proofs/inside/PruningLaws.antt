@@ -1,8 +1,8 @@
 -- Renamings that were begun, and can't come to an allowed window.
-use Rattle.std.proofs.Common.{◌≡◌, ◌≢◌, ℕ, suc, ◌+◌, ◌-◌, ◌<◌, ◌≤◌, Bool, true, false, ◌||◌, eqb, List, [], ◌∷◌, ◌++◌, length, take, set, refl, sym, ◌∙◌, ap, inl, inr, arith, eq-eqb, ne_eqb, append_assoc}
+use Rattle.std.proofs.Common.{◌≡◌, ◌≢◌, ℕ, suc, ◌+◌, ◌-◌, ◌<◌, ◌≤◌, Bool, true, false, ◌||◌, eqb, List, [], ◌∷◌, ◌++◌, length, take, set, sym, ◌∙◌, ap, inl, inr, arith, append_assoc}
 use Rattle.std.specs.Prelude.{Option, Some, None}
 use Rattle.std.proofs.lemmas.List.{get_or-take, get_or_append_left, get_or_at, length-take-le, take_all, take_more_set}
-use Rattle.std.proofs.lemmas.Bool.{cases_eq, false≢true, and_from, or_cases, cond-true, cond-false, eqb-true, false_from_ne_true}
+use Rattle.std.proofs.lemmas.Bool.{false≢true, and_from, or_cases, cond-true, cond-false, eqb-true, false_from_ne_true}
 use Rattle.rv_gate.specs.declared.word.TheConstants.{MOST_LINES}
 use Rattle.rv_gate.proofs.LineSets.{has-or}
 use Rattle.rv_templ.specs.Gates.{gate_in}
@@ -30,9 +30,7 @@ next_line to i v rest len h =
 
 pub line_before : (to : List ℕ) (i v j : ℕ) (rest : List ℕ) → length to ≡ 6 → i < 6 → j < i → new_line (gone_on to i v rest) j ≡ new_line to j
 line_before to i v j rest len h lt =
-    ap (λ l. new_line l j) (append_assoc (take i to) (v ∷ []) rest)
-    ∙ get_or_append_left (take i to) (v ∷ rest) 0 j (omega (arith, lt, length-take-le i to (omega arith)))
-    ∙ get_or-take i to j 0 lt
+    grind (arith, new_line, append_assoc, get_or_append_left, length-take-le, get_or-take)
 
 pub drop_plain : (window template : List Shape) (to : List ℕ) (i v : ℕ) → length to ≡ 6 → i < 6 → has (span template) i ≡ false → v ≢ 0 → Dropped window template (take i to ++ (v ∷ []))
 unfolding zero_elsewhere
@@ -61,11 +59,7 @@ drop_used window template to i v j len h on lt on_j same rest =
     omega arith)
 
 pub eqb_same : (a b d e : ℕ) → (a ≡ b → d ≡ e) → (d ≡ e → a ≡ b) → eqb a b ≡ eqb d e
-eqb_same a b d e f g =
-    elim (cases_eq a b) [
-      | inl s ↦ eq-eqb a b s ∙ sym (eq-eqb d e (f s))
-      | inr ne ↦ ne_eqb a b ne ∙ sym (ne_eqb d e (λ t. ne (g t)))
-    ]
+eqb_same a b d e f g = grind arith
 
 -- a renamed line is to the image what the line is to the gate
 role_kept : (own : ℕ) (to : List ℕ) (care want i : ℕ) (g : Shape) → Apart own to → has care (new_line to i) ≡ false → has want (new_line to i) ≡ false → Serves own g → i < 6 → has own i ≡ true
@@ -104,16 +98,10 @@ none_dead window template n begun d = least_dead (allowed window template) n beg
 
 -- all six lines stand
 pub whole_on : (ok : List ℕ → Bool) (to : List ℕ) (depth : ℕ) → length to ≡ 6 → depth ≡ 6 → ok to ≡ true → Some to ≡ least ok (6 - depth) (take depth to)
-whole_on ok to depth len d on =
-    let z : 6 - depth ≡ 0 = omega arith in
-    let all : take depth to ≡ to = take_all depth to (omega arith) in
-    sym (ap (λ n. least ok n (take depth to)) z ∙ ap (least ok 0) all ∙ least_end ok to ∙ cond-true (ok to) (Some to) None on)
+whole_on ok to depth len d on = grind (arith, take_all, least_end, cond-true)
 
 pub whole_off : (ok : List ℕ → Bool) (to : List ℕ) (depth : ℕ) → length to ≡ 6 → depth ≡ 6 → ok to ≡ false → None ≡ least ok (6 - depth) (take depth to)
-whole_off ok to depth len d off =
-    let z : 6 - depth ≡ 0 = omega arith in
-    let all : take depth to ≡ to = take_all depth to (omega arith) in
-    sym (ap (λ n. least ok n (take depth to)) z ∙ ap (least ok 0) all ∙ least_end ok to ∙ cond-false (ok to) (Some to) None off)
+whole_off ok to depth len d off = grind (arith, take_all, least_end, cond-false)
 
 -- the lists that go on by v
 abbrev pub on_with : (List ℕ → Bool) → List ℕ → ℕ → ℕ → Option (List ℕ)

@@ -1,35 +1,34 @@
 -- The gates that stand in a window's place, one by one.
-use Rattle.std.proofs.Common.{◌≡◌, ℕ, ◌+◌, ◌-◌, ◌<◌, ◌≤◌, List, length, get_or, sym, ◌∙◌, ap, arith}
+use Rattle.std.proofs.Common.{◌≡◌, ℕ, ◌-◌, ◌<◌, ◌≤◌, List, length, get_or, arith}
 use Rattle.std.specs.Prelude.{bit_or}
 use Rattle.std.proofs.lemmas.List.{get_or-reverse, length-reverse}
 use Rattle.rv_templ.specs.Gates.{gate_in}
 use Rattle.rv_gate.specs.Gate.{IsGate, controls, wanted}
 use Rattle.rv_gate.specs.declared.gate.Shape.{Shape}
-use Rattle.rv_gate.specs.declared.gate.Shape.TheVariants.{Flip, Peres}
-use Rattle.rv_templ.specs.Images.{target_of, span, turned, new_line, renamed, difference, image_of, fresh_care, fresh_want, others, replacement}
+use Rattle.rv_gate.specs.declared.gate.Shape.TheVariants.{Flip}
+use Rattle.rv_templ.specs.Images.{target_of, span, turned, new_line, renamed, difference, image_of, fresh_care, fresh_want, replacement}
 use Rattle.rv_templ.specs.inside.Replaced.{Replaced}
 use Rattle.rv_templ.proofs.WindowLaws.{replaces, gates_at, turned_template, length-turned, span_turned}
 use Rattle.rv_templ.proofs.LoopSteps.{gate_read}
 use Rattle.rv_templ.proofs.inside.TestSteps.{length-turned_others, other_at}
 
 pub length-replacement : (window t : List Shape) (r : ℕ) (to : List ℕ) → length (replacement window (turned r t) to) ≡ length t - length window
-length-replacement window t r to =
-    let own : ℕ = span (turned r t) in
-    let o : List Shape = others (length window) (turned r t) to (fresh_care window own to) (fresh_want window own to) in
-    length-reverse o ∙ length-turned_others (length window) r t to (fresh_care window own to) (fresh_want window own to)
+length-replacement window t r to = grind (arith, fresh_care, fresh_want, length-reverse, length-turned_others)
 
 pub other_is : (window t : List Shape) (r i : ℕ) (to : List ℕ) → length window ≤ length t → i < length t - length window
     → gate_in (replacement window (turned r t) to) i ≡ image_of to (fresh_care window (span (turned r t)) to) (fresh_want window (span (turned r t)) to) (gate_in (turned r t) (length t - 1 - i))
 other_is window t r i to room h =
-    let own : ℕ = span (turned r t) in
-    let care : ℕ = fresh_care window own to in
-    let want : ℕ = fresh_want window own to in
-    let o : List Shape = others (length window) (turned r t) to care want in
-    let len : length o ≡ length t - length window = length-turned_others (length window) r t to care want in
-    let at : length window + (length o - 1 - i) ≡ length t - 1 - i = omega (arith, len) in
-    get_or-reverse o i (Peres 0 0 0) (omega (arith, len))
-    ∙ other_at (length window) (length o - 1 - i) (turned r t) to care want (omega (arith, at, length-turned r t))
-    ∙ ap (λ j. image_of to care want (gate_in (turned r t) j)) at
+    grind (
+      arith,
+      fresh_care,
+      fresh_want,
+      length-turned_others,
+      get_or-reverse,
+      other_at,
+      length-turned,
+      image_of,
+      gate_in,
+    )
 
 pub other_gate : (window t : List Shape) (r i : ℕ) (to : List ℕ) → Replaced window t r to → i < length t - length window → IsGate (gate_in (replacement window (turned r t) to) i)
 other_gate window t r i to k h =
@@ -40,15 +39,11 @@ other_gate window t r i to k h =
 -- the fresh controls, step by step
 pub care_step : (window t : List Shape) (r : ℕ) (to : List ℕ) (own taken c care : ℕ) (w : Shape) → 0 < length window → own ≡ span t → taken ≡ renamed to own → w ≡ get_or window 0 w → c ≡ controls w
     → care ≡ difference c taken → care ≡ fresh_care window (span (turned r t)) to
-care_step window t r to own taken c care w some eo et ew ec e =
-    e ∙ ap (λ x. difference x taken) (ec ∙ ap controls (gate_read window 0 w some ew))
-    ∙ ap (difference (controls (gate_in window 0))) (et ∙ ap (renamed to) (eo ∙ sym (span_turned r t)))
+care_step window t r to own taken c care w some eo et ew ec e = grind (arith, gate_read, gate_in, span_turned)
 
 pub want_step : (window t : List Shape) (r : ℕ) (to : List ℕ) (own taken c want : ℕ) (w : Shape) → 0 < length window → own ≡ span t → taken ≡ renamed to own → w ≡ get_or window 0 w → c ≡ wanted w
     → want ≡ difference c taken → want ≡ fresh_want window (span (turned r t)) to
-want_step window t r to own taken c want w some eo et ew ec e =
-    e ∙ ap (λ x. difference x taken) (ec ∙ ap wanted (gate_read window 0 w some ew))
-    ∙ ap (difference (wanted (gate_in window 0))) (et ∙ ap (renamed to) (eo ∙ sym (span_turned r t)))
+want_step window t r to own taken c want w some eo et ew ec e = grind (arith, gate_read, gate_in, span_turned)
 
 flip_is : (a b c d e f : ℕ) → a ≡ b → c ≡ d → e ≡ f → Flip a c e ≡ Flip b d f
 flip_is a b c d e f x y z = cc
@@ -58,8 +53,4 @@ pub built : (window t : List Shape) (r i : ℕ) (to : List ℕ) (care want rc cg
     → cg ≡ controls g → rc ≡ renamed to cg → wg ≡ wanted g → rw_ ≡ renamed to wg → tg ≡ target_of g
     → Flip (bit_or rc care) (bit_or rw_ want) (new_line to tg) ≡ gate_in (replacement window (turned r t) to) i
 built window t r i to care want rc cg rw_ wg tg g room h ec ew eg e1 e2 e3 e4 e5 =
-    flip_is _ _ _ _ _ _
-    (ap (λ x. bit_or x care) (e2 ∙ ap (renamed to) (e1 ∙ ap controls eg)) ∙ ap (bit_or (renamed to (controls (gate_in (turned r t) (length t - 1 - i))))) ec)
-    (ap (λ x. bit_or x want) (e4 ∙ ap (renamed to) (e3 ∙ ap wanted eg)) ∙ ap (bit_or (renamed to (wanted (gate_in (turned r t) (length t - 1 - i))))) ew)
-    (ap (new_line to) (e5 ∙ ap target_of eg))
-    ∙ sym (other_is window t r i to room h)
+    grind (arith, flip_is, bit_or, gate_in, new_line, target_of, other_is)

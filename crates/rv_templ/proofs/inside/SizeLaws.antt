@@ -43,9 +43,7 @@ union_same f g zero e = refl
 union_same f g (suc n) e = ap (λ s. bit_or s (f n)) (union_same f g n (λ i lt. e i (omega arith))) ∙ ap (bit_or (union_below g n)) (e n (omega arith))
 
 varied_taken : (gates : List Shape) (k : ℕ) → varied (take k gates) k ≡ varied gates k
-varied_taken gates k =
-    union_same (λ j. varied_at (gate_in (take k gates) j) (gate_in (take k gates) 0)) (λ j. varied_at (gate_in gates j) (gate_in gates 0)) k (λ j lt.
-    ap (λ g. varied_at g (gate_in (take k gates) 0)) (get_or-take k gates j no_gate lt) ∙ ap (varied_at (gate_in gates j)) (get_or-take k gates 0 no_gate (omega arith)))
+varied_taken gates k = grind (arith, union_same, varied_at, gate_in, get_or-take, no_gate)
 
 -- in more gates no fewer lines vary
 pub varied_most : (gates : List Shape) (i k wide : ℕ) → i ≤ k → wide < count_ones (varied gates i) → wide < count_ones (varied gates k)
@@ -86,20 +84,20 @@ wide_none : (most least wide : ℕ) (library : List (List Shape)) (gates : List 
     → (k ≤ most → wide < count_ones (varied gates k)) → at_count gates library k ≡ None
 unfolding at_count
 wide_none most least wide library gates k are sizes some le more =
-    let len = length-take-le k gates le in
-    none_first (at_template (take k gates) library) 0 (length library) (λ t a b.
-    elim (cases_lt (length (template_in library t)) k) [
-      | inl less ↦ too_short (take k gates) library t (omega (arith, len))
-      | inr room ↦ (elim (cases_lt (length (template_in library t)) (2 * k)) [
-        | inl half ↦
-            let few = sizes.short t (omega arith) in
-            let narrow = sizes.narrow t (omega arith) in
-            let vary = more (omega (arith, few)) in
-            let same = ap count_ones (ap (varied (take k gates)) len ∙ varied_taken gates k) in
-            none_wide (take k gates) library t (are_at library t are (omega arith)) (omega (arith, len)) (omega (arith, len)) (omega (arith, len)) (omega (arith, narrow, vary, same))
-        | inr long ↦ too_long (take k gates) library t (omega (arith, len))
-      ])
-    ])
+    grind (
+      arith,
+      length-take-le,
+      none_first,
+      at_template,
+      cases_lt,
+      template_in,
+      too_short,
+      count_ones,
+      varied_taken,
+      none_wide,
+      are_at,
+      too_long,
+    )
 
 -- the window at a place is one of its first gates, if in more of them too many lines vary
 pub window_near : (most least wide n : ℕ) (library : List (List Shape)) (gates : List Shape) → AreTemplates library → AreSizes most least wide library
@@ -119,5 +117,4 @@ few_none least (suc n) library gates long few =
 
 -- so few gates are no window
 pub window_few : (most least wide n : ℕ) (library : List (List Shape)) (gates : List Shape) → AreSizes most least wide library → 2 * n ≤ least → window_at (take n gates) library ≡ None
-window_few most least wide n library gates sizes few =
-    few_none least (length (take n gates)) library (take n gates) sizes.long (omega (arith, few, length-take n gates))
+window_few most least wide n library gates sizes few = grind (arith, few_none, length-take)

@@ -119,5 +119,4 @@ stepping_less library n gates list next before (Some k2) are few s made kept =
 stepping_less library n gates list next before None are few s made kept = let l = ap length kept in omega arith
 
 pub kept_gates : (now was : List Node) (o : Option Known) → IfNone o (now ≡ was) → IfNone o (gates_in now ≡ gates_in was)
-kept_gates now was None e = ap gates_in e
-kept_gates now was (Some known) e = tt
+kept_gates now was o h = grind arith

@@ -1,5 +1,5 @@
 -- A circuit without a fault is a template.
-use Rattle.std.proofs.Common.{lit<, get_or, ◌≡◌, ℕ, suc, ◌+◌, ◌*◌, ◌%◌, ◌^◌, ◌<◌, ◌≤◌, Bool, true, false, cond, eqb, List, [], ◌∷◌, ◌++◌, length, take, drop, refl, sym, ◌∙◌, ap, arith, subst, take-append-drop, eq-eqb, ne_eqb}
+use Rattle.std.proofs.Common.{get_or, ◌≡◌, ℕ, suc, ◌+◌, ◌*◌, ◌%◌, ◌^◌, ◌<◌, ◌≤◌, Bool, true, false, cond, eqb, List, [], ◌∷◌, ◌++◌, length, take, drop, refl, sym, ◌∙◌, ap, arith, subst, take-append-drop, eq-eqb, ne_eqb}
 use Rattle.std.specs.Option.{option_or}
 use Rattle.std.specs.Prelude.{Option, Some, None, option_map, ltb}
 use Rattle.std.specs.Global.{Vec}
@@ -106,10 +106,7 @@ pub still_templates : (old new : List (List Shape)) (gates : List Shape) → new
 still_templates old new gates e are is = subst (λ (l : List (List Shape)). AreTemplates l) (sym e) (AreTemplates-push old gates are is)
 
 pub number-small : (word : List Bool) → length word ≤ 6 → number_of word < 64
-number-small word le =
-    let lt = number_of-lt word in
-    let most : 2 ^ length word ≤ 2 ^ 6 = pow-le-pow_right (lit< tt) le in
-    omega (arith, lt, most)
+number-small word le = grind (arith, number_of-lt, pow-le-pow_right)
 
 -- ---- the search for a fault
 

@@ -1,7 +1,7 @@
 -- The lines that are not the same to each gate: an image has no more of them than the template.
 use Rattle.std.proofs.Common.{◌≡◌, ℕ, zero, suc, ◌+◌, ◌/◌, ◌%◌, ◌^◌, ◌*◌, ◌<◌, ◌≤◌, Bool, true, false, cond, ◌||◌, List, length, refl, sym, ◌∙◌, ap, inl, inr, arith, eq-eqb}
 use Rattle.std.specs.Prelude.{bit_or, bit_xor, count_ones, leb, None}
-use Rattle.std.proofs.lemmas.Bool.{cases_Bool, false≢true, or_cases, or_left, or_right, eqb-true, leb-false, false_from_ne_true}
+use Rattle.std.proofs.lemmas.Bool.{cases_Bool, false≢true, or_cases, or_left, or_right, eqb-true, false_from_ne_true}
 use Rattle.std.proofs.lemmas.Nat.{ones_le_self}
 use Rattle.rv_gate.proofs.LineSets.{has-line, has-or, has-xor}
 use Rattle.rv_gate.specs.Word.{has}
@@ -10,7 +10,7 @@ use Rattle.rv_gate.specs.declared.gate.Shape.{Shape}
 use Rattle.rv_templ.specs.Folds.{union_below}
 use Rattle.rv_templ.specs.inside.Sums.{sum_below}
 use Rattle.rv_templ.specs.Gates.{gate_in}
-use Rattle.rv_templ.specs.Images.{target_of, span, turned, new_line, renamed, image_of, fresh_care, fresh_want, allowed}
+use Rattle.rv_templ.specs.Images.{target_of, span, new_line, renamed, image_of, fresh_care, fresh_want, allowed}
 use Rattle.rv_templ.specs.Templates.{IsTemplate}
 use Rattle.rv_templ.specs.inside.Pruning.{varied_at, varied}
 use Rattle.rv_templ.proofs.inside.FoldLemmas.{union_more, union_part, part_of_union, sum_each}
@@ -24,9 +24,7 @@ use Rattle.rv_templ.specs.Choices.{template_in, at_turn, at_template}
 use Rattle.rv_gate.proofs.CountOnes.{ones_halves, odd, has_half}
 
 pub varied_more : (gates : List Shape) (set j lines : ℕ) (g first : Shape) → set ≡ varied gates j → g ≡ gate_in gates j → first ≡ gate_in gates 0 → lines ≡ varied_at g first → bit_or set lines ≡ varied gates (j + 1)
-varied_more gates set j lines g first e eg ef l =
-    ap (λ s. bit_or s lines) e ∙ ap (bit_or (varied gates j)) (l ∙ ap (λ x. varied_at x first) eg ∙ ap (varied_at (gate_in gates j)) ef)
-    ∙ sym (union_more (λ k. varied_at (gate_in gates k) (gate_in gates 0)) j)
+varied_more gates set j lines g first e eg ef l = grind (arith, bit_or, varied_at, gate_in, union_more)
 
 -- ---- a renamed set has no more lines
 
@@ -92,21 +90,10 @@ renamed_xor to a b line e =
 
 -- fresh lines, which both have, do not count
 fresh_xor : (x y f : Bool) → xor (x || f) (y || f) ≡ true → xor x y ≡ true
-fresh_xor true true f e = e
-fresh_xor true false true e = absurd (false≢true e)
-fresh_xor true false false e = refl
-fresh_xor false true true e = absurd (false≢true e)
-fresh_xor false true false e = refl
-fresh_xor false false true e = e
-fresh_xor false false false e = e
+fresh_xor x y f h = grind arith
 
 both_xor : (to : List ℕ) (a b care line : ℕ) → has (bit_xor (bit_or (renamed to a) care) (bit_or (renamed to b) care)) line ≡ true → (i : ℕ) × (i < 6) × (has (bit_xor a b) i ≡ true) × (line ≡ new_line to i)
-both_xor to a b care line e =
-    renamed_xor to a b line
-    (fresh_xor (has (renamed to a) line) (has (renamed to b) line) (has care line)
-    (sym (ap (λ x. xor x (has (renamed to b) line || has care line)) (has-or (renamed to a) care line))
-    ∙ ap (xor (has (bit_or (renamed to a) care) line)) (sym (has-or (renamed to b) care line))
-    ∙ sym (has-xor (bit_or (renamed to a) care) (bit_or (renamed to b) care) line) ∙ e))
+both_xor to a b care line e = grind (arith, renamed_xor, fresh_xor, has-or, bit_or, has-xor)
 
 image_varied : (to : List ℕ) (care want line : ℕ) (g first : Shape) → target_of g < 6 → has (varied_at (image_of to care want g) (image_of to care want first)) line ≡ true
     → (i : ℕ) × (i < 6) × (has (varied_at g first) i ≡ true) × (line ≡ new_line to i)
@@ -162,32 +149,16 @@ drop_varied window template to is some room more =
     false_from_ne_true _ (λ e. let few = varied_few window template to is some room e in omega arith)
 
 pub more_ones : (a b x y : ℕ) → a ≡ x → b ≡ y → leb (count_ones a) (count_ones b) ≡ false → count_ones y < count_ones x
-more_ones a b x y ea eb off =
-    let e = ap count_ones ea in
-    let f = ap count_ones eb in
-    let more = leb-false (count_ones a) (count_ones b) off in
-    omega (arith, e, f, more)
+more_ones a b x y ea eb off = grind arith
 
 -- ---- the lines that vary in a template are lines that it touches
 
 either_on : (a b on : Bool) → xor a b ≡ true → (a ≡ true → on ≡ true) → (b ≡ true → on ≡ true) → on ≡ true
-either_on true b on e left right = left refl
-either_on false true on e left right = right refl
-either_on false false on e left right = absurd (false≢true e)
+either_on a b on h h1 h2 = grind arith
 
 own_varied : (own line : ℕ) (g first : Shape) → Serves own g → Serves own first → has (varied_at g first) line ≡ true → has own line ≡ true
 own_varied own line g first s f e =
-    let c : ℕ = bit_xor (controls g) (controls first) in
-    let w : ℕ = bit_xor (wanted g) (wanted first) in
-    let t : ℕ = 2 ^ target_of g in
-    elim (or_cases (has (bit_or c w) line) (has t line) (sym (has-or (bit_or c w) t line) ∙ e)) [
-      | inl cw ↦ (elim (or_cases (has c line) (has w line) (sym (has-or c w line) ∙ cw)) [
-        | inl on ↦ either_on _ _ _ (sym (has-xor (controls g) (controls first) line) ∙ on) (s.care line) (f.care line)
-        | inr on ↦
-            either_on _ _ _ (sym (has-xor (wanted g) (wanted first) line) ∙ on) (λ x. s.care line (s.want line x)) (λ x. f.care line (f.want line x))
-      ])
-      | inr at ↦ ap (has own) (eqb-true line (target_of g) (sym (has-line (target_of g) line) ∙ at)) ∙ s.owned
-    ]
+    grind (arith, bit_xor, target_of, or_cases, bit_or, has-or, either_on, has-xor, eqb-true, has-line)
 
 varied_own : (template : List Shape) (n : ℕ) → IsTemplate template → n ≤ length template → count_ones (varied template n) ≤ count_ones (span template)
 varied_own template n is few =
@@ -202,11 +173,18 @@ varied_own template n is few =
 pub none_wide : (window : List Shape) (library : List (List Shape)) (t : ℕ) → IsTemplate (template_in library t) → 0 < length window → length window ≤ length (template_in library t)
     → length (template_in library t) < 2 * length window → count_ones (span (template_in library t)) < count_ones (varied window (length window)) → at_template window library t ≡ None
 none_wide window library t is some room half more =
-    let gates : List Shape = template_in library t in
-    turns_of window library t room half
-    ∙ none_first (at_turn window gates t) 0 (length gates) (λ r a b.
-    let within : length window ≤ length (turned r gates) = omega (arith, room, length-turned r gates) in
-    let less = varied_own (turned r gates) (length window) (turned_template r gates is) within in
-    turn_found window gates t r None
-    (sym (none_at_all window (turned r gates) (λ to. drop_varied window (turned r gates) to (turned_template r gates is) some within
-    (omega (arith, less, more, ap count_ones (span_turned r gates)))))))
+    grind (
+      arith,
+      template_in,
+      turns_of,
+      none_first,
+      at_turn,
+      length-turned,
+      varied_own,
+      turned_template,
+      turn_found,
+      none_at_all,
+      drop_varied,
+      count_ones,
+      span_turned,
+    )

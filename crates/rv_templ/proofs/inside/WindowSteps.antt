@@ -33,10 +33,7 @@ window_step_none library (g ∷ rest) clean =
 
 more_none : (most : ℕ) (library : List (List Shape)) (gates : List Shape) (k : ℕ) → Short most library → most < k → k ≤ length gates → at_count gates library k ≡ None
 unfolding at_count
-more_none most library gates k short h le =
-    none_first (at_template (take k gates) library) 0 (length library) (λ t a b.
-    let few = short t (omega arith) in
-    too_short (take k gates) library t (omega (arith, few, length-take-le k gates le)))
+more_none most library gates k short h le = grind (arith, none_first, at_template, too_short, length-take-le)
 
 most_suc : (gates : List Shape) (library : List (List Shape)) (k : ℕ) → at_count gates library (suc k) ≡ None → at_most gates library (suc k) ≡ at_most gates library k
 unfolding at_most

@@ -1,4 +1,4 @@
-// Drawings of circuits.
+// Drawings of circuits and of networks.
 use super::*;
 use std::alloc::Global;
 use std::process::Abort;
@@ -105,4 +105,63 @@ fn what_is_no_circuit_is_not_drawn(rt: HostRuntime) -> Result<(), Fail> {
     let first = b".numvars 2\n.variables a b\n.begin\n";
     expect_faults(&rt, rt.alloc(), "draw c.real", "c.real", first, &FAULTS)?;
     expect_drawings(&rt, rt.alloc(), &CASES)
+}
+
+// A control that wants 0, a constant, garbage, and a label that has to be escaped.
+const TO_BE_ESCAPED: &str = "\
+    .numvars 2\n.variables a b\n.inputs \"a_<&\" b\n.constants -0\n.garbage -1\n.begin\nt2 -a b\n.end\n";
+
+const AS_LATEX: &str = "\
+    \\begin{quantikz}\n\
+    \\lstick{a\\_\\textless{}\\symbol{38}} & \\octrl{1} & \\qw \\rstick{a} \\\\\n\
+    \\lstick{b $\\ket{0}$} & \\targ{} & \\trash{} \\rstick{b} \\\\\n\
+    \\end{quantikz}\n";
+
+const AS_SVG: &str = "\
+    <svg xmlns=\"http://www.w3.org/2000/svg\" viewBox=\"-88 0 206 90\" width=\"206\" height=\"90\" font-family=\"monospace\" font-size=\"13\" fill=\"none\" stroke=\"currentColor\" xml:space=\"preserve\">\n\
+    <g transform=\"translate(0 0)\">\n\
+    <g transform=\"translate(0 15)\"><text x=\"-8\" y=\"4\" text-anchor=\"end\" fill=\"currentColor\" stroke=\"none\">a_&lt;&amp;</text></g>\n\
+    <path d=\"M0 15H10M20 15H30\"/>\n\
+    <g transform=\"translate(30 15)\"><text x=\"8\" y=\"4\" fill=\"currentColor\" stroke=\"none\">a</text></g>\n\
+    <g transform=\"translate(0 45)\"><text x=\"-8\" y=\"4\" text-anchor=\"end\" fill=\"currentColor\" stroke=\"none\">b<tspan> |0⟩</tspan></text></g>\n\
+    <path d=\"M0 45H30\"/>\n\
+    <g transform=\"translate(30 45)\"><text x=\"8\" y=\"4\" fill=\"currentColor\" stroke=\"none\">b</text><line y1=\"-6\" y2=\"6\"/></g>\n\
+    <g transform=\"translate(15 0)\"><title>○ a ⊕ b </title>\n\
+    <g transform=\"translate(0 15)\"><line y1=\"5\" y2=\"15\"/><circle r=\"5\"/></g>\n\
+    <g transform=\"translate(0 45)\"><line y1=\"-15\" y2=\"-0\"/><circle r=\"10\"/><line y1=\"-10\" y2=\"10\"/></g>\n\
+    </g>\n\
+    </g>\n\
+    </svg>\n";
+
+#[test]
+fn a_circuit_has_three_forms(rt: HostRuntime) -> Result<(), Fail> {
+    let circuit = TO_BE_ESCAPED.as_bytes();
+    let text = writes("a_<& ──○── a\nb 0────⊕─┤ b\n".as_bytes());
+    expect_on(&rt, rt.alloc(), "draw --as text", circuit, text)?;
+    let latex = writes(AS_LATEX.as_bytes());
+    expect_on(&rt, rt.alloc(), "draw --as latex", circuit, latex)?;
+    let svg = writes(AS_SVG.as_bytes());
+    expect_on(&rt, rt.alloc(), "draw --as svg", circuit, svg)
+}
+
+const NETWORK: &[u8] = b"OPENQASM 2.0;\nqreg q[2];\nh q[0];\ntdg q[1];\ncz q[1],q[0];\n";
+
+const NETWORK_AS_LATEX: &str = "\
+    \\begin{quantikz}\n\
+    \\lstick{q0} & \\gate{H} & \\qw & \\ctrl{1} & \\qw \\rstick{q0} \\\\\n\
+    \\lstick{q1} & \\qw & \\gate{T^\\dagger} & \\control{} & \\qw \\rstick{q1} \\\\\n\
+    \\end{quantikz}\n";
+
+#[test]
+fn a_network_is_drawn_an_operation_a_column(rt: HostRuntime) -> Result<(), Fail> {
+    let text = writes("q0 ──H─────●── q0\nq1 ─────t──●── q1\n".as_bytes());
+    expect_on(&rt, rt.alloc(), "draw --from qasm", NETWORK, text)?;
+    let latex = writes(NETWORK_AS_LATEX.as_bytes());
+    expect_on(
+        &rt,
+        rt.alloc(),
+        "draw --from qasm --as latex",
+        NETWORK,
+        latex,
+    )
 }

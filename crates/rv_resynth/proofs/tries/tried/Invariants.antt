@@ -1,6 +1,5 @@
-use Rattle.std.proofs.Common.{length}
 use Rattle.rv_resynth.specs.inside.Windows.{Replaces}
 use Rattle.rv_resynth.proofs.tries.tried.Given as goal
 
-abbrev pub invariant-loop-number : goal.invariant-loop-number
-invariant-loop-number l = Replaces (length l.circuit.names) l.circuit.gates l.gates.items
+abbrev pub invariant-loop : goal.invariant-loop
+invariant-loop l = Replaces l.lines l.old l.gates.items
