@@ -34,7 +34,7 @@ fn each_flip_and_each_small_swap_is_one_operation(rt: HostRuntime) -> Result<(),
 // Where lines are free, none is added, so that each word of the lines is checked, whatever they hold.
 const CIRCUITS: [&str; 6] = [
     typed!(5, "a b c d e", "t4 a b c d\n"),
-    typed!(5, "a b c d e", "t4 -a b -c d\nf4 a b -c d\n"),
+    typed!(5, "a b c d e", "t4 -a b -c d\nf4 -a b c d\n"),
     typed!(6, "a b c d e f", "t5 -a b c -d e\n"),
     typed!(7, "a b c d e f g", "t5 a b c d e\n"),
     typed!(7, "a b c d e f g", "t6 a b c d e f\nt5 g f e d a\n"),
