@@ -9,6 +9,7 @@ use Rattle.rv_words.specs.declared.command.Command.{Command}
 use Rattle.rv_words.specs.declared.command.Command.TheVariants as command
 use Rattle.rv_words.specs.declared.command.Blocks.{Blocks}
 use Rattle.rv_words.specs.declared.command.Form.{Form}
+use Rattle.rv_words.specs.declared.command.PictureForm.{PictureForm}
 use Rattle.rv_words.specs.declared.command.Goal.{Goal}
 use Rattle.rv_words.specs.declared.command.Form.TheVariants as form
 use Rattle.rv_mct.specs.declared.aux.Aux.{Aux}
@@ -20,6 +21,7 @@ use Rattle.rv_inputs.specs.Contents.{Contents, content_at, content_or_fault, tex
 use Rattle.rv_inputs.specs.Formats.{at_input, circuit}
 use Rattle.rv_cmd.specs.Commands.{row_for, row_of}
 use Rattle.rv_cmd.specs.Commands.Cost.{cost_row}
+use Rattle.rv_cmd.specs.Commands.Draw.{draw_row}
 use Rattle.rv_cmd.specs.Commands.Esop.{esop_row}
 use Rattle.rv_cmd.specs.Commands.Flow.{flow_row}
 use Rattle.rv_cmd.specs.Commands.Simulate.{answered_by, simulated, words_end}
@@ -109,6 +111,10 @@ esop_alike : (to : Form) (goal : Option Goal) → NeverDiffers (esop_row to goal
 esop_alike to None = tt
 esop_alike to (Some goal) = tt
 
+draw_alike : (origin : Form) (picture : PictureForm) (wrap : ℕ) → NeverDiffers (draw_row origin picture wrap)
+draw_alike form.Qasm picture wrap = tt
+draw_alike _ picture wrap = tt
+
 abbrev IsAlikeRow : Row → Type 0
 IsAlikeRow (reads_first row) = NeverDiffers row
 IsAlikeRow (answers_as_it_reads row) = (contents : Contents) → IsAlike (row.outcome_by contents).end
@@ -119,6 +125,7 @@ rows_alike command.Compare settings other = absurd (other (inr refl))
 rows_alike command.Simulate settings other = simulate_alike settings.all
 rows_alike command.Templates settings other = templates_alike settings.library
 rows_alike command.Cost settings other = cost_alike settings.origin
+rows_alike command.Draw settings other = draw_alike settings.origin settings.picture settings.wrap
 rows_alike command.Esop settings other = esop_alike settings.to settings.goal
 rows_alike command.Flow settings other = flow_alike settings.origin settings.method settings.simplify settings.blocks settings.aux
 rows_alike _ settings other = tt
