@@ -159,6 +159,7 @@ mod made;
 mod one_pass;
 mod reduce;
 mod route;
+mod searches;
 mod single;
 mod templates;
 mod toreal;

@@ -1,0 +1,82 @@
+// Lists of cubes and circuits that a search finds.
+use super::*;
+use std::test::Fail;
+
+// How many of five bits are 1.
+const ONES: &str = ".i 5\n.o 3\n00001 001\n00010 001\n00011 010\n00100 001\n00101 010\n00110 010\n\
+                    00111 011\n01000 001\n01001 010\n01010 010\n01011 011\n01100 010\n01101 011\n\
+                    01110 011\n01111 100\n10000 001\n10001 010\n10010 010\n10011 011\n10100 010\n\
+                    10101 011\n10110 011\n10111 100\n11000 010\n11001 011\n11010 011\n11011 100\n\
+                    11100 011\n11101 100\n11110 100\n11111 101\n.e\n";
+
+// The published number of products is 15; the reduced list has 20.
+#[test]
+fn a_search_finds_a_published_number_of_products(rt: HostRuntime) -> Result<(), Fail> {
+    let input = ("f.pla", ONES.as_bytes());
+    let found = b".i 5\n.o 3\n.type esop\n.p 15\n";
+    expect_lines(
+        &rt,
+        rt.alloc(),
+        "esop --goal cubes --to pla f.pla",
+        input,
+        found,
+        20,
+    )?;
+    let reduced = b".i 5\n.o 3\n.type esop\n.p 20\n";
+    expect_lines(&rt, rt.alloc(), "esop --to pla f.pla", input, reduced, 25)
+}
+
+// Of each circuit there is one of the least cost with these gates.
+#[test]
+fn a_search_finds_the_least_circuit(rt: HostRuntime) -> Result<(), Fail> {
+    const CASES: [(&str, &str, u8, &str); 4] = [
+        (
+            "resynth",
+            typed!(3, "a b c", "t2 a b\nt2 b c\nt2 a b\nt2 b c\n"),
+            0,
+            written!(3, "a b c", "---", "---", "t2 a c\n"),
+        ),
+        // An effort of 0 is no search.
+        (
+            "resynth --effort 0",
+            typed!(3, "a b c", "t2 a b\nt2 b c\nt2 a b\nt2 b c\n"),
+            0,
+            written!(3, "a b c", "---", "---", "t2 a b\nt2 b c\nt2 a b\nt2 b c\n"),
+        ),
+        // The first line holds 0 and is garbage.
+        (
+            "resynth --marks",
+            concat!(
+                ".numvars 3\n.variables a b c\n.constants 0--\n.garbage 1--\n.begin\n",
+                "t3 a b c\nt2 b a\nt2 c b\n.end\n"
+            ),
+            0,
+            written!(3, "a b c", "0--", "1--", "t2 c b\n"),
+        ),
+        (
+            "resynth --marks",
+            typed!(25, "a b c d e f g h i j k l m n o p q r s t u v w x y", ""),
+            5,
+            "-: 25 inputs are more than 24",
+        ),
+    ];
+    expect_each(&rt, rt.alloc(), &CASES)
+}
+
+// What a search takes has to be asked for.
+#[test]
+fn what_no_search_takes_is_refused(rt: HostRuntime) -> Result<(), Fail> {
+    const CASES: [(&str, &str, u8, &str); 5] = [
+        (
+            "esop --effort 3",
+            ONES,
+            2,
+            "option --effort not used by esop",
+        ),
+        ("esop --seed 3", ONES, 2, "option --seed not used by esop"),
+        ("esop --goal lines", ONES, 2, "bad value for --goal"),
+        ("resynth --goal cubes", "", 2, "bad value for --goal"),
+        ("resynth --effort 1001", "", 2, "bad value for --effort"),
+    ];
+    expect_each(&rt, rt.alloc(), &CASES)
+}
