@@ -48,7 +48,7 @@ report-exact (two first second report differs Means) texts =
     denotes-exact first 0 (text_at texts 0) (λ x. at_input 1 (second (text_at texts 1)) >>= λ y. within (report x y) (differs x y))
     (λ x. DenotesWith second (text_at texts 1) (λ y. AreKept (report x y).limits))
     (λ x. denotes-exact second 1 (text_at texts 1) (λ y. within (report x y) (differs x y)) (λ y. AreKept (report x y).limits) (λ y. within-exact (report x y) (differs x y)))
-report-exact (finds form limits Means) texts =
+report-exact (finds form limits Lacks Means) texts =
     denotes-exact form 0 (text_at texts 0) (λ x. within (found_within (limits x) []) false) (λ x. AreKept (limits x)) (λ x. within-exact (found_within (limits x) []) false)
 
 reported : (made : Result Report Refusal) → IsOk (ended (as_report (as_unmade made))).end ↔ IsOk made

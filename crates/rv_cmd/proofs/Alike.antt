@@ -40,7 +40,7 @@ IsAlike (Err fault) = Unit {0}
 abbrev NeverDiffers : ReadsFirst → Type 0
 NeverDiffers (none text Means) = Unit {0}
 NeverDiffers (one format report Means) = Unit {0}
-NeverDiffers (finds format limits Means) = Unit {0}
+NeverDiffers (finds format limits Lacks Means) = Unit {0}
 NeverDiffers (two {X = X} {Y = Y} first second report differs Means) = (x : X) (y : Y) → differs x y ≡ false
 
 abbrev made_end : Result Report Refusal → End
@@ -64,7 +64,7 @@ made-alike (one format report Means) never found texts = read-alike (at_input 0 
 made-alike (two first second report differs Means) never found texts =
     read-alike (at_input 0 (first (text_at texts 0))) _ (λ x.
     read-alike (at_input 1 (second (text_at texts 1))) _ (λ y. within-alike (report x y) (differs x y) (never x y)))
-made-alike (finds format limits Means) never found texts =
+made-alike (finds format limits Lacks Means) never found texts =
     read-alike (at_input 0 (format (text_at texts 0))) _ (λ x. within-alike (found_within (limits x) found) false refl)
 
 first-alike : (row : ReadsFirst) → NeverDiffers row → (found : List ℕ) (contents : Contents) → IsAlike (outcome (reads_first row) found contents).end

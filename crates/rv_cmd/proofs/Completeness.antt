@@ -19,9 +19,9 @@ use Rattle.rv_inputs.specs.Contents.{Contents}
 use Rattle.rv_cmd.specs.declared.run_end.RunEnd.{RunEnd}
 use Rattle.rv_cmd.specs.declared.run_end.RunEnd.TheVariants.{Understood, ArgumentsRefused}
 use Rattle.rv_cmd.specs.Commands.{row_for, row_of}
-use Rattle.rv_cmd.specs.Headline.{AreUncounted, AsksToCompare, Compares, EndsAs, Headline, IsCompleteBy, IsExact, IsExactBy, LeavesCounts, Performs, Scene, Written, WrittenBy, Yields, YieldsReport, status_of_run_end}
+use Rattle.rv_cmd.specs.Headline.{AreUncounted, AsksToCompare, Compares, EndsAs, EndsLacking, Headline, IsCompleteBy, IsExact, IsExactBy, LeavesCounts, Performs, Scene, Written, WrittenBy, Yields, YieldsReport, status_of_run_end}
 use Rattle.rv_cmd.specs.Names.{LIBRARY, names_read}
-use Rattle.rv_cmd.specs.Row.{End, IsAccepted, Outcome, Row, end_of, status_of_end}
+use Rattle.rv_cmd.specs.Row.{End, IsAccepted, Lacks, Outcome, Row, end_of, status_of_end}
 use Rattle.rv_cmd.proofs.Accepted.{accepted-exact, demo-accepted}
 use Rattle.rv_cmd.proofs.Alike.{IsAlike, commands_alike, differs-compared}
 use Rattle.rv_cmd.proofs.Asked.{settings-counted}
@@ -31,14 +31,17 @@ use Rattle.rv_cmd.proofs.inside.Naming.{names_read-counted}
 -- what is told of the contents gives the end, unless a call failed or memory was wanting
 complete_performs : (row : Row) (names : List (List ℕ)) (old new : Scene) (end : End) (status : ℕ) → status ≡ status_of_end end
     → Performs row names old new end → old.files.tells ≡ true
-    → (status ≡ status_of_end (end_of row (map old.files.held names)))
-    ⊎ (((status ≡ 4) × (Rose old.files.faults new.files.faults ⊎ Rose old.out.faults new.out.faults)) ⊎ (status ≡ 6))
+    → Yields row (map old.files.held names) (status_of_end (end_of row (map old.files.held names))) old new status
 complete_performs row names old new (Ok differs) status is p tells =
     let Of : Contents → ℕ = λ contents. status_of_end (end_of row contents) in
     inl (is ∙ ap (λ (o : Outcome). status_of_end o.end) (sym p.ends.asked) ∙ ap status_of_end (end-found row p.ends.writes.text p.contents) ∙ ap Of (p.told tells))
 complete_performs row names old new (Err (Refused input why)) status is p tells =
     let Of : Contents → ℕ = λ contents. status_of_end (end_of row contents) in
-    inl (is ∙ ap status_of_end (sym p.ends.faulty.asked) ∙ ap Of (p.told tells))
+    let At : Contents → Type 0 = λ contents. Lacks row contents (Refused input why) in
+    elim p.ends.faulty [
+      | inl has ↦ inl (is ∙ ap status_of_end (sym has.asked) ∙ ap Of (p.told tells))
+      | inr none ↦ inr (inr (inr (record { fault = Refused input why; lacks = subst At (p.told tells) none.lacks; is = is })))
+    ]
 complete_performs row names old new (Err (TooLong input)) status is p tells =
     let Of : Contents → ℕ = λ contents. status_of_end (end_of row contents) in
     inl (is ∙ ap status_of_end (sym p.ends.faulty.asked) ∙ ap Of (p.told tells))
@@ -49,11 +52,11 @@ complete_performs row names old new (Err (CannotRead input)) status is p tells =
       | inr fails ↦ inr (inl (is, inl fails.rose))
     ]
 complete_performs row names old new (Err CannotWrite) status is p tells = inr (inl (is, inr p.ends.rose))
-complete_performs row names old new (Err OutOfMemory) status is p tells = inr (inr is)
+complete_performs row names old new (Err OutOfMemory) status is p tells = inr (inr (inl is))
 
 -- arguments that are refused for want of memory
 complete_memory : (asked : Result Settings ArgumentFault) (old new : Scene) (status : ℕ) → status ≡ 6 → IsCompleteBy asked old new status
-complete_memory (Ok settings) old new status is = λ tells. inr (inr is)
+complete_memory (Ok settings) old new status is = λ tells. inr (inr (inl is))
 complete_memory (Err fault) old new status is = inr is
 
 complete_by : (arguments : List (List ℕ)) (old new : Scene) (status : ℕ) (end : RunEnd) → EndsAs arguments end old new → status ≡ status_of_run_end end
@@ -107,7 +110,7 @@ good-end (Err (TooLong input)) few = absurd (omega (arith, few))
 good-end (Err OutOfMemory) few = absurd (omega (arith, few))
 
 yields-report : (settings : Settings) (contents : Contents) (old new : Scene) (status : ℕ) (end : End) → end_of (row_of settings) contents ≡ end → IsOk end
-    → Yields (status_of_end end) old new status → YieldsReport settings contents old new status
+    → Yields (row_of settings) contents (status_of_end end) old new status → YieldsReport settings contents old new status
 yields-report settings contents old new status (Err fault) is ok yields = absurd (let z = ok in cc)
 yields-report settings contents old new status (Ok differs) is ok yields = record {
   differs = differs;
@@ -118,7 +121,7 @@ yields-report settings contents old new status (Ok differs) is ok yields = recor
 
 -- told contents of the inputs
 exact-contents : (settings : Settings) (contents : Contents) (old new : Scene) (status : ℕ) → (settings.command ≡ Simulate → length contents ≡ 2)
-    → (settings.command ≡ Demo → contents ≡ []) → Yields (status_of_end (end_of (row_of settings) contents)) old new status
+    → (settings.command ≡ Demo → contents ≡ []) → Yields (row_of settings) contents (status_of_end (end_of (row_of settings) contents)) old new status
     → IsExact settings contents old new status
 exact-contents settings contents old new status two none yields =
     let end : End = end_of (row_of settings) contents in
@@ -128,7 +131,8 @@ exact-contents settings contents old new status two none yields =
       only = λ few. elim yields [
         | inl is ↦ exact.0 (good-end end (omega (arith, is, few)))
         | inr (inl failed) ↦ absurd (omega (arith, few, failed.0))
-        | inr (inr memory) ↦ absurd (omega (arith, few, memory))
+        | inr (inr (inl memory)) ↦ absurd (omega (arith, few, memory))
+        | inr (inr (inr lacking)) ↦ absurd (let z = good-end (Err lacking.fault) (omega (arith, few, lacking.is)) in cc)
       ];
       each = λ accepted. yields-report settings contents old new status end refl (exact.1 accepted) yields;
       demo = λ is.

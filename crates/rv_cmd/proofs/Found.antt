@@ -22,7 +22,7 @@ report-found : (row : ReadsFirst) (found : List ℕ) (texts : List (List ℕ)) �
 report-found (none text Means) found texts = refl
 report-found (one format report Means) found texts = refl
 report-found (two first second report differs Means) found texts = refl
-report-found (finds {X = X} format limits Means) found texts = by (at_input 0 (format (text_at texts 0)))
+report-found (finds {X = X} format limits Lacks Means) found texts = by (at_input 0 (format (text_at texts 0)))
   where
     by : (read : Result X Refusal) → made_end (read >>= λ x. within (found_within (limits x) found) false) ≡ made_end (read >>= λ x. within (found_within (limits x) []) false)
     by (Ok x) = within-found (limits x) found

@@ -79,5 +79,6 @@ safe_by (Err fault) old new status complete other tells = complete
 safe_by (Ok settings) old new status complete other tells = elim (complete tells) [
   | inl is ↦ inl is
   | inr (inl failed) ↦ absurd (other failed.0)
-  | inr (inr memory) ↦ inr memory
+  | inr (inr (inl memory)) ↦ inr (inl memory)
+  | inr (inr (inr lacking)) ↦ inr (inr lacking)
 ]

@@ -16,7 +16,7 @@ use Rattle.rv_words.specs.declared.command.Command.TheVariants.{Check, Compare, 
 use Rattle.rv_words.specs.declared.fault.ArgumentFault.{ArgumentFault}
 use Rattle.rv_faults.specs.declared.fault.Fault.{Fault}
 use Rattle.rv_faults.specs.declared.fault.Fault.TheVariants.{CannotRead, CannotWrite, Refused, TooLong, OutOfMemory}
-use Rattle.rv_faults.specs.Fault.{input_of, message_line, reason}
+use Rattle.rv_faults.specs.Fault.{input_of, message_line, reason, status_of}
 use Rattle.rv_faults.specs.Arguments.{status_of_arguments, arguments_reason}
 use Rattle.rv_faults.specs.Line.{Reports}
 use Rattle.rv_inputs.specs.Contents.{AreShort, Contents, IsOpen, LastIsRead, StaysAmong, StaysAt, held_as}
@@ -29,7 +29,7 @@ use Rattle.rv_cmd.specs.Commands.Templates.{CanBeTemplate, template_limits}
 use Rattle.rv_cmd.specs.Commands.ToReal.{toreal_limits}
 use Rattle.rv_cmd.specs.Names.{names_read}
 use Rattle.rv_cmd.specs.Limits.{AreKept, Report}
-use Rattle.rv_cmd.specs.Row.{End, IsAccepted, Means, Row, answers_as_it_reads, end_of, ended, outcome, reads_first, status_of_end}
+use Rattle.rv_cmd.specs.Row.{End, IsAccepted, Lacks, Means, Row, answers_as_it_reads, end_of, ended, outcome, reads_first, status_of_end}
 
 -- ---- What status 0 gives, and status 1 of `check` and `compare`
 
@@ -65,7 +65,7 @@ WrittenBy (Err fault) old new = ⊥
 
 -- A run by arguments that are understood ends in one of five ways:
 --   1. with status 0, or 1 if it says that the inputs of `check` or `compare` differ: the report that the contents ask for was written whole and flushed, and has its meaning;
---   2. as the contents ask: with the first fault that they have;
+--   2. as the contents ask: with the first fault that they have; or a search ended without a text, for a reason that its row allows;
 --   3. a call of the files failed;
 --   4. a call of the output failed, and a prefix of the text was sent, or, by a command that searches, of one with the meaning;
 --   5. for want of memory, and nothing was sent.
@@ -94,10 +94,15 @@ abbrev pub HasRead : Row → List (List ℕ) → Contents → ℕ → FilesView 
 HasRead (reads_first row) names contents input old new = LastIsRead names contents old new
 HasRead (answers_as_it_reads row) names contents input old new = row.HasRead names contents input old new
 
+-- a search ended without a text, and nothing was sent
+pub record HasNoText (row : Row) (contents : Contents) (old new : Scene) (fault : Fault) : Type 0 where
+  pub lacks : Lacks row contents fault
+  pub unsent : new.out ≡ old.out
+
 -- 2. As asked: what an input holds is refused,
 pub record Refuses (row : Row) (names : List (List ℕ)) (contents : Contents) (old new : Scene) (input : ℕ) (fault : Fault) : Type 0 where
   pub named : input < length names
-  pub faulty : HasFault row contents old new input fault
+  pub faulty : HasFault row contents old new input fault ⊎ HasNoText row contents old new fault
   pub read : HasRead row names contents input old.files new.files
 
 -- or is too long: one byte more than the limit was read of it,
@@ -241,17 +246,26 @@ pub record Headline (arguments : List (List ℕ)) (old new : Scene) (errs_old er
   pub out_later : old.out.faults ≤ new.out.faults
   pub errs_later : errs_old.faults ≤ errs_new.faults
 
--- the status is the one that is wanted, or it is 4 and a count of faults rose, or it is 6
-abbrev pub Yields : ℕ → Scene → Scene → ℕ → Type 0
-Yields wanted old new status =
-    (status ≡ wanted) ⊎ (((status ≡ 4) × (Rose old.files.faults new.files.faults ⊎ Rose old.out.faults new.out.faults)) ⊎ (status ≡ 6))
+-- the status of a search that ended without a text
+pub record EndsLacking (row : Row) (contents : Contents) (status : ℕ) : Type 0 where
+  pub fault : Fault
+  pub lacks : Lacks row contents fault
+  pub is : status ≡ status_of fault
 
--- Completeness: if the contents are told, the status is that of their outcome, or it is 4 and a count of faults rose, or it is 6.
+-- the status is the one that is wanted, or it is 4 and a count of faults rose, or it is 6, or a search ended without a text
+abbrev pub Yields : Row → Contents → ℕ → Scene → Scene → ℕ → Type 0
+Yields row contents wanted old new status =
+    (status ≡ wanted) ⊎ (((status ≡ 4) × (Rose old.files.faults new.files.faults ⊎ Rose old.out.faults new.out.faults))
+    ⊎ ((status ≡ 6) ⊎ EndsLacking row contents status))
+
+-- Completeness: if the contents are told, the status is that of their outcome, or it is 4 and a count of faults rose, or it is 6, or a
+-- search ended without a text.
 abbrev pub IsCompleteBy : Result Settings ArgumentFault → Scene → Scene → ℕ → Type 0
 IsCompleteBy (Err fault) old new status = (status ≡ status_of_arguments fault) ⊎ (status ≡ 6)
 IsCompleteBy (Ok settings) old new status =
     old.files.tells ≡ true
-    → Yields (status_of_end (end_of (row_of settings) (map old.files.held (names_read settings)))) old new status
+    → (let row = row_of settings in let contents = map old.files.held (names_read settings) in
+    Yields row contents (status_of_end (end_of row contents)) old new status)
 
 -- Only these commands can say that their inputs differ,
 abbrev pub Compares : Command → Type 0
@@ -263,15 +277,15 @@ AsksToCompare (Ok settings) = Compares settings.command
 AsksToCompare (Err fault) = ⊥
 
 -- The contents ask for a report; by any other command it never says that inputs differ. The status is 0, or 1 if it says so, or it
--- is 4 and a count of faults rose, or it is 6.
+-- is 4 and a count of faults rose, or it is 6, or a search ended without a text.
 pub record YieldsReport (settings : Settings) (contents : Contents) (old new : Scene) (status : ℕ) : Type 0 where
   pub differs : Bool
   pub asked : end_of (row_of settings) contents ≡ Ok differs
   pub alike : ¬ Compares settings.command → differs ≡ false
-  pub yields : Yields (status_of_end (Ok differs)) old new status
+  pub yields : Yields (row_of settings) contents (status_of_end (Ok differs)) old new status
 
--- Told contents ask for no fault exactly if they are accepted. Then the status is that of their report, unless a call failed or memory
--- was wanting; else it is neither 0 nor 1. `demo` has no input, and is always accepted.
+-- Told contents ask for no fault exactly if they are accepted. Then the status is that of their report, unless a call failed, memory
+-- was wanting or a search ended without a text; else it is neither 0 nor 1. `demo` has no input, and is always accepted.
 pub record IsExact (settings : Settings) (contents : Contents) (old new : Scene) (status : ℕ) : Type 0 where
   pub asked : IsOk (end_of (row_of settings) contents) ↔ IsAccepted (row_of settings) contents
   pub only : status ≤ 1 → IsAccepted (row_of settings) contents

@@ -1,5 +1,5 @@
 -- What a command does with the contents of its inputs: a row of one of four kinds.
-use Rattle.std.specs.Prelude.{ℕ, Bool, false, List, [], if◌then◌else◌, Result, Ok, Err}
+use Rattle.std.specs.Prelude.{◌≡◌, ℕ, Bool, false, List, [], if◌then◌else◌, Result, Ok, Err}
 use Rattle.rv_io.specs.Files.{FilesView}
 use Rattle.rv_reader.specs.Rules.{◌>>=◌}
 use Rattle.rv_faults.specs.declared.fault.Fault.{Fault}
@@ -34,13 +34,17 @@ ended (Err fault) = record { text = []; end = Err fault }
 
 -- A command that reads all its inputs before it writes; it has none, one or two. Its row has the format of each, the text with its
 -- limits that it makes of what they denote, and what that text means. Where there are two inputs the row also has whether the text
--- says that they differ, so that only these rows can end with status 1. A command that searches has limits alone: any text with the
--- meaning may be found.
+-- says that they differ, so that only these rows can end with status 1. A command that searches has limits, the reasons for which its
+-- search may end without a text where they are kept, and the meaning: any text with it may be found.
 pub data ReadsFirst : Type 1 where
   none : List ℕ → (List ℕ → Type 0) → ReadsFirst
   one : {X : Type 0} → Format X → (X → LimitedText) → (X → List ℕ → Type 0) → ReadsFirst
   two : {X Y : Type 0} → Format X → Format Y → (X → Y → LimitedText) → (X → Y → Bool) → (X → Y → List ℕ → Type 0) → ReadsFirst
-  finds : {X : Type 0} → Format X → (X → List Limit) → (X → List ℕ → Type 0) → ReadsFirst
+  finds : {X : Type 0} → Format X → (X → List Limit) → (X → Refusal → Type 0) → (X → List ℕ → Type 0) → ReadsFirst
+
+-- a search that always ends with a text
+abbrev pub always : {X : Type 0} → X → Refusal → Type 0
+always x refused = ⊥
 
 -- A command that answers as it reads its last input.
 pub record AnswersAsItReads : Type 1 where
@@ -73,7 +77,7 @@ report_by (none text Means) found texts = Ok (done text)
 report_by (one format report Means) found texts = at_input 0 (format (text_at texts 0)) >>= λ x. within (report x) false
 report_by (two first second report differs Means) found texts =
     at_input 0 (first (text_at texts 0)) >>= λ x. (at_input 1 (second (text_at texts 1)) >>= λ y. within (report x y) (differs x y))
-report_by (finds format limits Means) found texts = at_input 0 (format (text_at texts 0)) >>= λ x. within (found_within (limits x) found) false
+report_by (finds format limits Lacks Means) found texts = at_input 0 (format (text_at texts 0)) >>= λ x. within (found_within (limits x) found) false
 
 abbrev pub as_unmade : {X : Type 0} → Result X Refusal → Result X Unmade
 as_unmade (Ok x) = Ok x
@@ -89,7 +93,7 @@ abbrev pub outcome : Row → List ℕ → Contents → Outcome
 outcome (reads_first row) found contents = ended (as_report (texts_of contents >>= λ texts. as_unmade (report_by row found texts)))
 outcome (answers_as_it_reads row) found contents = row.outcome_by contents
 
--- the end that the contents ask for, whatever is found
+-- the end that the contents ask for, whatever is found, unless a search ends without a text
 abbrev pub end_of : Row → Contents → End
 end_of row contents = (outcome row [] contents).end
 
@@ -101,7 +105,7 @@ MeansBy (none made Means) texts text = Means text
 MeansBy (one format report Means) texts text = DenotesWith format (text_at texts 0) (λ x. Means x text)
 MeansBy (two first second report differs Means) texts text =
     DenotesWith first (text_at texts 0) (λ x. DenotesWith second (text_at texts 1) (λ y. Means x y text))
-MeansBy (finds format limits Means) texts text = DenotesWith format (text_at texts 0) (λ x. Means x text)
+MeansBy (finds format limits Lacks Means) texts text = DenotesWith format (text_at texts 0) (λ x. Means x text)
 
 abbrev pub Means : Row → List (List ℕ) → List ℕ → Type 0
 Means (reads_first row) texts text = MeansBy row texts text
@@ -113,7 +117,7 @@ AcceptsBy (none made Means) texts = Unit {0}
 AcceptsBy (one format report Means) texts = DenotesWith format (text_at texts 0) (λ x. AreKept (report x).limits)
 AcceptsBy (two first second report differs Means) texts =
     DenotesWith first (text_at texts 0) (λ x. DenotesWith second (text_at texts 1) (λ y. AreKept (report x y).limits))
-AcceptsBy (finds format limits Means) texts = DenotesWith format (text_at texts 0) (λ x. AreKept (limits x))
+AcceptsBy (finds format limits Lacks Means) texts = DenotesWith format (text_at texts 0) (λ x. AreKept (limits x))
 
 abbrev pub Accepts : Row → List (List ℕ) → Type 0
 Accepts (reads_first row) texts = AcceptsBy row texts
@@ -124,3 +128,25 @@ pub record IsAccepted (row : Row) (contents : Contents) : Type 0 where
   pub texts : List (List ℕ)
   pub are : AreTexts contents texts
   pub accepted : Accepts row texts
+
+-- ---- a search that ends without a text
+
+-- where the inputs have these texts, within the limits, for this reason
+abbrev pub LacksBy : ReadsFirst → List (List ℕ) → Refusal → Type 0
+LacksBy (none made Means) texts refused = ⊥
+LacksBy (one format report Means) texts refused = ⊥
+LacksBy (two first second report differs Means) texts refused = ⊥
+LacksBy (finds format limits Lacks Means) texts refused =
+    DenotesWith format (text_at texts 0) (λ x. AreKept (limits x) × Lacks x refused)
+
+-- the inputs hold texts for which it may end so, with this fault
+pub record LacksText (row : ReadsFirst) (contents : Contents) (fault : Fault) : Type 0 where
+  pub texts : List (List ℕ)
+  pub are : AreTexts contents texts
+  pub refusal : Refusal
+  pub lacks : LacksBy row texts refusal
+  pub is : fault ≡ fault_of (unmade_by refusal)
+
+abbrev pub Lacks : Row → Contents → Fault → Type 0
+Lacks (reads_first row) contents fault = LacksText row contents fault
+Lacks (answers_as_it_reads row) contents fault = ⊥

@@ -6,7 +6,7 @@ use Rattle.rv_words.specs.declared.asked.Settings.{Settings}
 use Rattle.rv_words.specs.declared.fault.ArgumentFault.{ArgumentFault}
 use Rattle.rv_faults.specs.Arguments.{status_of_arguments}
 use Rattle.rv_cmd.specs.Commands.{row_of}
-use Rattle.rv_cmd.specs.Headline.{Scene}
+use Rattle.rv_cmd.specs.Headline.{EndsLacking, Scene}
 use Rattle.rv_cmd.specs.Names.{names_read}
 use Rattle.rv_cmd.specs.Row.{end_of, status_of_end}
 
@@ -14,8 +14,9 @@ use Rattle.rv_cmd.specs.Row.{end_of, status_of_end}
 abbrev pub scene_of : SafeFiles → NullSink → Scene
 scene_of files out = record { files = safe_view files; out = null_view out }
 
--- the status is that of what the arguments and the contents ask for, or it is 6
+-- the status is that of what the arguments and the contents ask for, or it is 6, or a search ended without a text
 abbrev pub IsSafeBy : Result Settings ArgumentFault → Scene → ℕ → Type 0
 IsSafeBy (Err fault) old status = (status ≡ status_of_arguments fault) ⊎ (status ≡ 6)
 IsSafeBy (Ok settings) old status =
-    (status ≡ status_of_end (end_of (row_of settings) (map old.files.held (names_read settings)))) ⊎ (status ≡ 6)
+    (let row = row_of settings in let contents = map old.files.held (names_read settings) in
+    (status ≡ status_of_end (end_of row contents)) ⊎ ((status ≡ 6) ⊎ EndsLacking row contents status))

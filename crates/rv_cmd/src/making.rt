@@ -3,7 +3,7 @@ ghost use Rattle.std.specs.Prelude.{◌≡◌, ◌∷◌, ℕ, Bool, List, [], l
 ghost use Rattle.rv_inputs.specs.Formats.{format};
 ghost use Rattle.rv_cmd.specs.Limits.{Limit, LimitedText, found_within};
 ghost use Rattle.rv_cmd.specs.Names.{names_read};
-ghost use Rattle.rv_cmd.specs.Row.{finds, one, two};
+ghost use Rattle.rv_cmd.specs.Row.{always, finds, one, two};
 ghost use Rattle.rv_cmd.specs.inside.Making.{Makes};
 ghost use Rattle.rv_cmd.specs.inside.Products.{IsProductOf, IsRefusalOf, product_text};
 
@@ -37,7 +37,7 @@ pub(crate) trait OneInput {
         ensures unmade { IfErr result (IsRefusalOf 1 (report self.now object.now).limits) };
 }
 
-/// A command of one input that searches, with what its options ask for.
+/// A command of one input that searches, and always ends with a text, with what its options ask for.
 pub(crate) trait OneSearch {
     /// The format of its input.
     type Text: InputText;
@@ -139,7 +139,7 @@ fn found_for_one<F: Files, C: OneSearch>(
     files: &mut F,
     command: &C,
 ) -> Result<Made, Unmade>
-    ensures { Makes (finds (format C.Text.denoted C.Text.why) (C.limits command.now) (C.Means command.now))
+    ensures { Makes (finds (format C.Text.denoted C.Text.why) (C.limits command.now) always (C.Means command.now))
         (name.now ∷ []) (F.view files.old) (F.view files.new) result }
 {
     match read_one::<F, C::Text>(alloc, name, files) {
@@ -173,7 +173,7 @@ pub(crate) fn found_of_one<F: Files, C: OneSearch>(
     command: &C,
 ) -> Result<Made, Unmade>
     requires { length (names_read settings.now) ≡ 1 }
-    ensures { Makes (finds (format C.Text.denoted C.Text.why) (C.limits command.now) (C.Means command.now))
+    ensures { Makes (finds (format C.Text.denoted C.Text.why) (C.limits command.now) always (C.Means command.now))
         (names_read settings.now) (F.view files.old) (F.view files.new) result }
 {
     found_for_one(alloc, name_of(settings, 0), files, command)

@@ -26,7 +26,10 @@ pub(crate) fn too_many_lines(count: u8, most: u8) -> Refusal
     ensures { (lines : ℕ) (first rest : List Limit) → AreKept first → (lines ≡ count) × (most < count)
         → IsRefusalOf 1 (first ++ of_lines lines most ∷ rest) result }
 {
-    passed(InputFault::TooManyLines { count, most })
+    passed(InputFault::TooManyLines {
+        count: u32::from(count),
+        most,
+    })
 }
 
 /// So many inputs are more than a circuit may have that is compared.
@@ -35,7 +38,7 @@ pub(crate) fn too_many_inputs(count: u8) -> Refusal
         → IsRefusalOf 1 (first ++ of_inputs 0 c ∷ rest) result }
 {
     passed(InputFault::TooManyInputs {
-        count,
+        count: u32::from(count),
         most: MOST_INPUTS,
     })
 }

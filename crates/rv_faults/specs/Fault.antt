@@ -7,7 +7,7 @@ use Rattle.rv_faults.specs.declared.fault.Refusal.TheVariants as refusal
 use Rattle.rv_faults.specs.declared.fault.Unmade.{Unmade}
 use Rattle.rv_faults.specs.declared.fault.Unmade.TheVariants as unmade
 use Rattle.rv_faults.specs.declared.fault.TextFormat.{TextFormat}
-use Rattle.rv_faults.specs.declared.fault.TextFormat.TheVariants.{Real, Permutation, Pla, Qasm, Words}
+use Rattle.rv_faults.specs.declared.fault.TextFormat.TheVariants.{Real, Permutation, Pla, Qasm, Blif, Words}
 use Rattle.rv_faults.specs.declared.fault.InputFault.{InputFault}
 use Rattle.rv_faults.specs.declared.fault.InputFault.TheVariants.{Text, WrongLength, OutOfRange, Repeated, Conflict, NotToffoli, NotIdentity, NotClassical, WideTemplate, LongTemplate, TooManyLines, TooManyInputs, TooManyGates, TooManyOps, LargeCoefficient}
 use Rattle.rv_text.specs.declared.lines.TheConstants.{MOST_BYTES}
@@ -16,6 +16,7 @@ use Rattle.rv_real.specs.Code as real
 use Rattle.rv_perm.specs.Code as perm
 use Rattle.rv_pla.specs.Code as pla
 use Rattle.rv_qasm.specs.Code as qasm
+use Rattle.rv_blif.specs.Code as blif
 use Rattle.rv_gate.specs.Word.{word_of}
 use Rattle.rv_text.specs.Bytes.{bit_byte}
 
@@ -80,6 +81,7 @@ rule_of Real code = real.text_of_code code
 rule_of Permutation code = perm.text_of_code code
 rule_of Pla code = pla.text_of_code code
 rule_of Qasm code = qasm.text_of_code code
+rule_of Blif code = blif.text_of_code code
 rule_of Words code = codes "wrong word"
 
 -- a count, and what it may be at most

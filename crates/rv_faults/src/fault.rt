@@ -75,6 +75,8 @@ pub enum TextFormat {
     Pla,
     /// OpenQASM 2.0; the codes are those of [`rv_qasm::code`].
     Qasm,
+    /// BLIF; the codes are those of [`rv_blif::code`].
+    Blif,
     /// Words for a circuit; there is one code, 0.
     Words,
 }
@@ -135,12 +137,12 @@ pub enum InputFault {
     },
     /// So many lines are needed, more than there may be.
     TooManyLines {
-        count: u8,
+        count: u32,
         most: u8,
     },
-    /// A circuit has so many inputs, more than it may have.
+    /// A circuit or a logic network has so many inputs, more than it may have.
     TooManyInputs {
-        count: u8,
+        count: u32,
         most: u8,
     },
     /// So many gates are needed, more than a circuit has.

@@ -10,6 +10,7 @@ ghost use Rattle.rv_faults.specs.Line.{Reports};
 use crate::{Fault, InputFault, TextFormat};
 use rv_gate::{MOST_LINES, has};
 use rv_io::{Sink, WriteFault, Writer};
+use rv_blif::code::text_of_code as blif_text;
 use rv_perm::MOST_NUMBERS;
 use rv_perm::code::text_of_code as permutation_text;
 use rv_pla::code::text_of_code as pla_text;
@@ -94,12 +95,10 @@ fn put_refusal<E: Sink>(writer: &mut Writer, errs: &mut E, why: InputFault)
             put_template(writer, errs, gates, b" gates is longer than ", most);
         }
         InputFault::TooManyLines { count, most } => {
-            let what = b" lines are more than ";
-            put_counted(writer, errs, u32::from(count), what, u32::from(most));
+            put_counted(writer, errs, count, b" lines are more than ", u32::from(most));
         }
         InputFault::TooManyInputs { count, most } => {
-            let what = b" inputs are more than ";
-            put_counted(writer, errs, u32::from(count), what, u32::from(most));
+            put_counted(writer, errs, count, b" inputs are more than ", u32::from(most));
         }
         InputFault::TooManyGates { count, most } => {
             put_counted(writer, errs, count, b" gates are more than ", most);
@@ -223,6 +222,7 @@ fn rule_of(format: TextFormat, code: u8) -> &'static str
         TextFormat::Permutation => permutation_text(code),
         TextFormat::Pla => pla_text(code),
         TextFormat::Qasm => qasm_text(code),
+        TextFormat::Blif => blif_text(code),
         TextFormat::Words => "wrong word",
     }
 }

@@ -15,9 +15,13 @@ use Rattle.rv_pla.specs.declared.fault.PlaFault.TheVariants as pla
 use Rattle.rv_qasm.specs.Reading.{Listing, qasm_of}
 use Rattle.rv_qasm.specs.declared.fault.QasmFault.{QasmFault}
 use Rattle.rv_qasm.specs.declared.fault.QasmFault.TheVariants as qasm
+use Rattle.rv_blif.specs.Logic.{LogicView}
+use Rattle.rv_blif.specs.Reading.{logic_of}
+use Rattle.rv_blif.specs.declared.fault.BlifFault.{BlifFault}
+use Rattle.rv_blif.specs.declared.fault.BlifFault.TheVariants as blif
 use Rattle.rv_faults.specs.declared.fault.Refusal.{Refusal}
 use Rattle.rv_faults.specs.declared.fault.Refusal.TheVariants.{Refused, OutOfMemory}
-use Rattle.rv_faults.specs.declared.fault.TextFormat.TheVariants.{Real, Permutation, Pla, Qasm}
+use Rattle.rv_faults.specs.declared.fault.TextFormat.TheVariants.{Real, Permutation, Pla, Qasm, Blif}
 use Rattle.rv_faults.specs.declared.fault.InputFault.{InputFault}
 use Rattle.rv_faults.specs.declared.fault.InputFault.TheVariants.{Text, WrongLength, OutOfRange, Repeated, Conflict}
 
@@ -42,6 +46,10 @@ no_pla pla.Mem = None
 abbrev pub no_program : QasmFault → Option InputFault
 no_program (qasm.Text fault) = Some (Text Qasm fault.line fault.code)
 no_program qasm.Mem = None
+
+abbrev pub no_logic : BlifFault → Option InputFault
+no_logic (blif.Text fault) = Some (Text Blif fault.line fault.code)
+no_logic blif.Mem = None
 
 -- ---- formats
 
@@ -70,6 +78,10 @@ table = format pla_of no_pla
 -- OpenQASM 2.0
 abbrev pub program : Format Listing
 program = format qasm_of no_program
+
+-- BLIF
+abbrev pub logic : Format LogicView
+logic = format logic_of no_logic
 
 -- ---- the input of this number
 

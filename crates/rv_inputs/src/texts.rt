@@ -1,8 +1,9 @@
 // The texts that an input may hold, with their faults as those of an input.
 ghost use Rattle.std.specs.Prelude.{◌≡◌, Option, Some, None, refl};
 ghost use Rattle.rv_faults.specs.declared.fault.InputFault.{InputFault};
-ghost use Rattle.rv_inputs.specs.Formats.{no_circuit, no_permutation, no_pla, no_program};
+ghost use Rattle.rv_inputs.specs.Formats.{no_circuit, no_logic, no_permutation, no_pla, no_program};
 
+use rv_blif::{BlifFault, BlifReader};
 use rv_faults::{InputFault, TextFormat};
 use rv_perm::{PermFault, PermReader};
 use rv_pla::{PlaFault, PlaReader};
@@ -94,6 +95,19 @@ impl InputText for QasmReader {
         match fault {
             QasmFault::Text(fault) => of_text(TextFormat::Qasm, fault.line, fault.code),
             QasmFault::Mem => None,
+        }
+    }
+}
+
+impl InputText for BlifReader {
+    ghost why = { no_logic };
+
+    ghost why_mem = { refl };
+
+    fn why(fault: BlifFault) -> Option<InputFault> {
+        match fault {
+            BlifFault::Text(fault) => of_text(TextFormat::Blif, fault.line, fault.code),
+            BlifFault::Mem => None,
         }
     }
 }

@@ -79,7 +79,7 @@ read g = read_named g (command_of (command_text g))
 pub record IsAsked (s : Settings) : Type 0 where
   pub inputs : length s.inputs ≡ (usage_of s.command).most
   pub once : count_by is_standard s.inputs + standard_libraries s.library ≤ 1
-  pub lines : IsLineCount s.lines
+  pub lines : IsLineCount s.command s.lines
 
 -- arguments that something refuses are not understood
 abbrev pub unless_not_understood : Kinds → Result Settings ArgumentFault → Result Settings ArgumentFault

@@ -3,6 +3,7 @@ use Rattle.std.specs.Prelude.{ℕ, ◌≤◌, ◌&&◌, nat_le, List, Option, So
 use Rattle.rv_reader.specs.Rules.{◌>>=◌, found_or}
 use Rattle.std.specs.Str.{bytes_eq}
 use Rattle.rv_text.specs.Decimal.{is_short_decimal, decimal_value}
+use Rattle.rv_gate.specs.declared.word.TheConstants.{MOST_LINES}
 use Rattle.rv_perm.specs.declared.perm.TheConstants.{MOST_DEMO_LINES}
 use Rattle.rv_words.specs.declared.choice.TheConstants.{MOST_EFFORT}
 use Rattle.rv_tbs.specs.declared.method.Method.{Method}
@@ -10,7 +11,7 @@ use Rattle.rv_tbs.specs.declared.method.Method.TheVariants.{Best, Out, Both}
 use Rattle.rv_mct.specs.declared.aux.Aux.{Aux}
 use Rattle.rv_mct.specs.declared.aux.Aux.TheVariants.{Borrowed, Clean}
 use Rattle.rv_words.specs.declared.command.Command.{Command}
-use Rattle.rv_words.specs.declared.command.Command.TheVariants.{Compare, Esop, Flow, Resynth}
+use Rattle.rv_words.specs.declared.command.Command.TheVariants.{Compare, Compute, Esop, Flow, Resynth}
 use Rattle.rv_words.specs.declared.command.Blocks.{Blocks}
 use Rattle.rv_words.specs.declared.command.Blocks.TheVariants.{Exact, Relative, Toffoli}
 use Rattle.rv_words.specs.declared.command.Goal.{Goal}
@@ -18,7 +19,7 @@ use Rattle.rv_words.specs.declared.command.Goal.TheVariants.{Cubes, Gates, Quant
 use Rattle.rv_words.specs.declared.command.PictureForm.{PictureForm}
 use Rattle.rv_words.specs.declared.command.PictureForm.TheVariants.{Text, Svg, Latex}
 use Rattle.rv_words.specs.declared.command.Form.{Form}
-use Rattle.rv_words.specs.declared.command.Form.TheVariants.{Real, Pla, Qasm, Perm}
+use Rattle.rv_words.specs.declared.command.Form.TheVariants.{Real, Pla, Qasm, Perm, Blif}
 use Rattle.rv_words.specs.declared.options.TheConstants.{METHOD, TO, FROM, AUX, LINES, SEED, WRAP, GOAL, EFFORT, BLOCKS, AS}
 use Rattle.rv_words.specs.Given.{Given}
 
@@ -35,8 +36,8 @@ form_to value =
     else (if bytes_eq value (codes "pla") then Some Pla
     else None)
 
--- `flow` reads a truth table or a permutation, `compare` as its second input a circuit or one of these, and `cost` and `draw` a circuit
--- or a network
+-- `flow` reads a truth table or a permutation, `compare` as its second input a circuit, one of these or a logic network, and `cost` and
+-- `draw` a circuit or a network
 abbrev pub form_from : Command → List ℕ → Option Form
 form_from Flow value =
     if bytes_eq value (codes "pla") then Some Pla
@@ -46,7 +47,8 @@ form_from Compare value =
     if bytes_eq value (codes "real") then Some Real
     else (if bytes_eq value (codes "pla") then Some Pla
     else (if bytes_eq value (codes "perm") then Some Perm
-    else None))
+    else (if bytes_eq value (codes "blif") then Some Blif
+    else None)))
 form_from command value =
     if bytes_eq value (codes "real") then Some Real
     else (if bytes_eq value (codes "qasm") then Some Qasm
@@ -135,11 +137,20 @@ origin_in command g = chosen FROM (usual_form command) (form_from command) (g (c
 abbrev pub aux_in : Given → Result Aux ℕ
 aux_in g = chosen AUX Borrowed aux_of (g (codes "aux"))
 
-abbrev pub IsLineCount : ℕ → Type 0
-IsLineCount lines = (1 ≤ lines) × (lines ≤ MOST_DEMO_LINES)
+-- the lines of a generated permutation, or of a circuit that is to be found
+abbrev pub most_lines : Command → ℕ
+most_lines Compute = MOST_LINES
+most_lines command = MOST_DEMO_LINES
 
-abbrev pub lines_in : Given → Result ℕ ℕ
-lines_in g = chosen LINES 4 (number_in 1 MOST_DEMO_LINES) (g (codes "lines"))
+abbrev pub usual_lines : Command → ℕ
+usual_lines Compute = MOST_LINES
+usual_lines command = 4
+
+abbrev pub IsLineCount : Command → ℕ → Type 0
+IsLineCount command lines = (1 ≤ lines) × (lines ≤ most_lines command)
+
+abbrev pub lines_in : Command → Given → Result ℕ ℕ
+lines_in command g = chosen LINES (usual_lines command) (number_in 1 (most_lines command)) (g (codes "lines"))
 
 abbrev pub seed_in : Command → Given → Result ℕ ℕ
 seed_in command g = chosen SEED (usual_seed command) (number_in 0 65535) (g (codes "seed"))
@@ -181,7 +192,7 @@ values_in command g = do
   to ← to_in g
   origin ← origin_in command g
   aux ← aux_in g
-  lines ← lines_in g
+  lines ← lines_in command g
   seed ← seed_in command g
   wrap ← wrap_in g
   goal ← goal_in command g

@@ -2,13 +2,15 @@
 ghost use Rattle.std.specs.Prelude.{◌≡◌, IfOk};
 ghost use Rattle.clap.specs.Matches.{first_value, found_of};
 ghost use Rattle.rv_words.specs.Values.{IsLineCount, aux_in, aux_of, blocks_in, blocks_of, effort_in, form_to, form_from};
-ghost use Rattle.rv_words.specs.Values.{goal_in, goal_of, lines_in, method_in, picture_in, picture_of, usual_effort, usual_goal, usual_seed};
+ghost use Rattle.rv_words.specs.Values.{goal_in, goal_of, lines_in, method_in, most_lines, picture_in, picture_of};
+ghost use Rattle.rv_words.specs.Values.{usual_effort, usual_goal, usual_lines, usual_seed};
 ghost use Rattle.rv_words.specs.Values.{method_of, origin_in, seed_in, to_in, usual_form, values_in, wrap_in};
 
 use crate::number::number_in;
 use crate::options::{AS, AUX, BLOCKS, EFFORT, FROM, GOAL, LINES, METHOD, SEED, TO, WRAP};
 use crate::{Blocks, Command, Form, Goal, PictureForm};
 use clap::ArgMatches;
+use rv_gate::MOST_LINES;
 use rv_mct::Aux;
 use rv_perm::MOST_DEMO_LINES;
 use rv_tbs::Method;
@@ -87,6 +89,7 @@ fn form_from(command: Command, value: &str) -> Option<Form>
             "real" => Some(Form::Real),
             "pla" => Some(Form::Pla),
             "perm" => Some(Form::Perm),
+            "blif" => Some(Form::Blif),
             _ => None,
         },
         _ => match value {
@@ -223,16 +226,36 @@ fn aux_in(matches: &ArgMatches<'_>) -> Result<Aux, u8>
     }
 }
 
-fn lines_in(matches: &ArgMatches<'_>) -> Result<u8, u8>
-    ensures value { result ≡ lines_in (first_value (found_of matches.now)) }
-    ensures within { IfOk result IsLineCount }
+// How many lines there may be.
+fn most_lines(command: Command) -> u8
+    ensures { result ≡ most_lines command }
+{
+    match command {
+        Command::Compute => MOST_LINES,
+        _ => MOST_DEMO_LINES,
+    }
+}
+
+fn usual_lines(command: Command) -> u8
+    ensures value { result ≡ usual_lines command }
+    ensures within { IsLineCount command result }
+{
+    match command {
+        Command::Compute => MOST_LINES,
+        _ => 4,
+    }
+}
+
+fn lines_in(matches: &ArgMatches<'_>, command: Command) -> Result<u8, u8>
+    ensures value { result ≡ lines_in command (first_value (found_of matches.now)) }
+    ensures within { IfOk result (IsLineCount command) }
 {
     match matches.get_str("lines") {
-        Some(value) => match number_in(1, u16::from(MOST_DEMO_LINES), value) {
+        Some(value) => match number_in(1, u16::from(most_lines(command)), value) {
             Some(lines) => Ok(lines as u8),
             None => Err(LINES),
         },
-        None => Ok(4),
+        None => Ok(usual_lines(command)),
     }
 }
 
@@ -297,14 +320,14 @@ fn picture_in(matches: &ArgMatches<'_>) -> Result<PictureForm, u8>
 #[tactic(auto, unfolding(crate::specs::Values::values_in))]
 pub(crate) fn values_in(matches: &ArgMatches<'_>, command: Command) -> Result<Values, u8>
     ensures value { result ≡ values_in command (first_value (found_of matches.now)) }
-    ensures within { IfOk result (λ v. IsLineCount v.lines) }
+    ensures within { IfOk result (λ v. IsLineCount command v.lines) }
 {
     Ok(Values {
         method: method_in(matches)?,
         to: to_in(matches)?,
         origin: origin_in(matches, command)?,
         aux: aux_in(matches)?,
-        lines: lines_in(matches)?,
+        lines: lines_in(matches, command)?,
         seed: seed_in(matches, command)?,
         wrap: wrap_in(matches)?,
         goal: goal_in(matches, command)?,

@@ -46,11 +46,13 @@ pub enum Command {
     Route,
     /// Writes a drawing of a circuit or a network.
     Draw,
-    /// Writes whether a circuit has the function of another circuit or of a permutation, or one that a
-    /// table allows.
+    /// Writes whether a circuit has the function of another circuit, a permutation or a logic network, or
+    /// one that a table allows.
     Compare,
     /// Writes a circuit that does the same and is no dearer, found by a search.
     Resynth,
+    /// Writes a circuit that adds what a logic network computes to its outputs, found by a search.
+    Compute,
 }
 
 // A command's name, how many inputs it takes at the least and at the most, and the options that it uses.
@@ -103,10 +105,11 @@ pub(crate) fn usage_of(command: Command) -> Usage
         Command::Draw => row("draw", 0, 1, &[FROM, WRAP, AS]),
         Command::Compare => row("compare", 1, 2, &[FROM, ALL]),
         Command::Resynth => row("resynth", 0, 1, &[GOAL, EFFORT, SEED, MARKS]),
+        Command::Compute => row("compute", 0, 1, &[LINES]),
     }
 }
 
-static COMMANDS: [Command; 19] = [
+static COMMANDS: [Command; 20] = [
     Command::Synth,
     Command::Embed,
     Command::Esop,
@@ -126,6 +129,7 @@ static COMMANDS: [Command; 19] = [
     Command::Draw,
     Command::Compare,
     Command::Resynth,
+    Command::Compute,
 ];
 
 // The command of this name.
@@ -176,6 +180,8 @@ pub enum Form {
     Qasm,
     /// The numbers of a permutation.
     Perm,
+    /// A logic network in BLIF.
+    Blif,
 }
 
 /// What a search is to make small.

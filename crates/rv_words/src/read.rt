@@ -86,7 +86,7 @@ fn read_inputs(
     command: Command,
     values: Values,
 ) -> Result<Settings, ArgumentFault>
-    requires { IsLineCount values.lines }
+    requires { IsLineCount command values.lines }
     ensures answer { IsAnswer (read_inputs command (first_value (found_of matches.now)) values) result }
     ensures asked { IfOk result IsAsked }
 {

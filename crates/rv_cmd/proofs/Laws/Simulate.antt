@@ -76,10 +76,10 @@ performs_unready all a b old new out (Refused i why) stays u =
       told = λ tells. ap (λ held. held ∷ old.held b ∷ []) (sym (r.held tells));
       ends = record {
         named = omega arith;
-        faulty = record {
+        faulty = inl (record {
           asked = ap (λ first. (after_first all (old.held b) first).end) (content-short 0 r.bytes r.limited) ∙ ap (λ c. (after_circuit all (old.held b) (as_unmade c)).end) why_is;
           leaves = refl;
-        };
+        });
         read = record { started = record { started = r.started; opened = r.opened }; place = r.place };
       };
     })
@@ -208,10 +208,10 @@ module _ (all : Bool) (c : Cascade) (a b : List ℕ) (start mid new : FilesView)
         told = told_text w;
         ends = record {
           named = omega arith;
-          faulty = record {
+          faulty = inl (record {
             asked = ap (λ o. o.end) is ∙ ap (λ wrong. words_end wrong w.bytes) w.fact.first;
             leaves = w.fact.sent ∙ ap (λ o. grown out.sent o.text) (sym is);
-          };
+          });
           read = (
             record { started = s.started; opened = λ tells. named (ready.keeps.tells ∙ tells) s.started },
             record {

@@ -1,5 +1,5 @@
 -- The inputs of a command are read, and something is made of them.
-use Rattle.std.proofs.Common.{◌≡◌, ℕ, ◌≤◌, Bool, false, List, [], ◌∷◌, length, Option, Some, Result, Ok, Err, refl, ap, sym, subst, ◌∙◌, arith}
+use Rattle.std.proofs.Common.{◌≡◌, ℕ, ◌≤◌, Bool, false, List, [], ◌∷◌, length, Option, Some, Result, Ok, Err, refl, ap, sym, subst, ◌∙◌, inl, inr, arith}
 use Rattle.std.proofs.lemmas.List.Elements.{All-nil}
 use Rattle.rv_io.specs.Files.{FilesView}
 use Rattle.rv_reader.specs.Rules.{◌>>=◌}
@@ -14,7 +14,7 @@ use Rattle.rv_inputs.specs.Formats.{Format, at_input}
 use Rattle.rv_inputs.specs.Reading.{HasObject, HasObjects, IsUnread, LacksObject, LacksObjects, ReadsOnly}
 use Rattle.rv_cmd.specs.declared.product.Made.{Made}
 use Rattle.rv_cmd.specs.declared.product.Product.{Product}
-use Rattle.rv_cmd.specs.Limits.{Limit, LimitedText, Report, first_refused, found_within, within}
+use Rattle.rv_cmd.specs.Limits.{AreKept, Limit, LimitedText, Report, first_refused, found_within, within}
 use Rattle.rv_cmd.specs.Row.{ReadsFirst, finds, none, one, two}
 use Rattle.rv_cmd.specs.inside.Making.{IsMadeBy, IsRefusedBy, IsUnmadeBy, Makes}
 use Rattle.rv_cmd.specs.inside.Products.{IsProductOf, IsRefusalOf, alike, product_text, report_of}
@@ -94,7 +94,7 @@ module _ {X : Type 0} (form : Format X) (report : X → LimitedText) (Means : X 
     keeps = keeps;
     made = tt;
     unmade = unread-as (name ∷ []) old new (LacksObject form (name ∷ []) old new) (IsRefusedBy (one form report Means) (name ∷ []) old new)
-        (λ refused l. record { texts = l.text ∷ []; read = l.read; is = ap reported l.is }) it u;
+        (λ refused l. record { texts = l.text ∷ []; read = l.read; is = inl (ap reported l.is) }) it u;
   }
 
   refusal-one : (object : X) (refused : Refusal) → HasObject form (name ∷ []) old new object → IsRefusalOf 1 (report object).limits refused
@@ -104,7 +104,7 @@ module _ {X : Type 0} (form : Format X) (report : X → LimitedText) (Means : X 
       (λ by is. record {
         texts = has.text ∷ [];
         read = has.read;
-        is = ap (λ (read : Result X (Option InputFault)). reported (at_input 0 read)) has.is ∙ within-refused (report object) false by is;
+        is = inl (ap (λ (read : Result X (Option InputFault)). reported (at_input 0 read)) has.is ∙ within-refused (report object) false by is);
       }) refused f
 
   pub refused-one : (object : X) (refused : Refusal) (it : Unmade) → it ≡ unmade_by refused → ReadsOnly (name ∷ []) old new → HasObject form (name ∷ []) old new object
@@ -122,34 +122,49 @@ text_in (Ok made) = product_text made.product
 text_in (Err it) = []
 
 -- What makes a text makes it as the text that is found.
-makes-found : {X : Type 0} (form : Format X) (limits : X → List Limit) (Means : X → List ℕ → Type 0) (names : List (List ℕ)) (old new : FilesView)
+makes-found : {X : Type 0} (form : Format X) (limits : X → List Limit) (Lacks : X → Refusal → Type 0) (Means : X → List ℕ → Type 0) (names : List (List ℕ)) (old new : FilesView)
     (result : Result Made Unmade) → Makes (one form (λ x. found_within (limits x) (text_in result)) Means) names old new result
-    → Makes (finds form limits Means) names old new result
-makes-found form limits Means names old new (Ok made) m =
+    → Makes (finds form limits Lacks Means) names old new result
+makes-found form limits Lacks Means names old new (Ok made) m =
     record { keeps = m.keeps; made = record { texts = m.made.texts; read = m.made.read; report = m.made.report }; unmade = tt }
-makes-found form limits Means names old new (Err it) m = record {
+makes-found form limits Lacks Means names old new (Err it) m = record {
   keeps = m.keeps;
   made = tt;
-  unmade = unread-as names old new (IsRefusedBy (one form (λ x. found_within (limits x) []) Means) names old new) (IsRefusedBy (finds form limits Means) names old new)
-      (λ refused l. record { texts = l.texts; read = l.read; is = l.is }) it m.unmade;
+  unmade = unread-as names old new (IsRefusedBy (one form (λ x. found_within (limits x) []) Means) names old new) (IsRefusedBy (finds form limits Lacks Means) names old new)
+      (λ refused l. record { texts = l.texts; read = l.read; is = elim l.is [ inl is ↦ inl is | inr lacks ↦ absurd lacks ] }) it m.unmade;
 }
 
-module _ {X : Type 0} (form : Format X) (limits : X → List Limit) (Means : X → List ℕ → Type 0) (name : List ℕ) (old new : FilesView) where
+module _ {X : Type 0} (form : Format X) (limits : X → List Limit) (Lacks : X → Refusal → Type 0) (Means : X → List ℕ → Type 0) (name : List ℕ)
+    (old new : FilesView) where
   pub finds-one : (object : X) (product : Product) (it : Made) → it ≡ alike product → ReadsOnly (name ∷ []) old new → HasObject form (name ∷ []) old new object
-      → IsProductOf (found_within (limits object) (product_text product)) (Means object) product → Makes (finds form limits Means) (name ∷ []) old new (Ok it)
+      → IsProductOf (found_within (limits object) (product_text product)) (Means object) product → Makes (finds form limits Lacks Means) (name ∷ []) old new (Ok it)
   finds-one object product it is keeps has found =
-      let By : Made → Type 0 = λ made. Makes (finds form limits Means) (name ∷ []) old new (Ok made) in
-      subst By (sym is) (makes-found form limits Means (name ∷ []) old new (Ok (alike product))
+      let By : Made → Type 0 = λ made. Makes (finds form limits Lacks Means) (name ∷ []) old new (Ok made) in
+      subst By (sym is) (makes-found form limits Lacks Means (name ∷ []) old new (Ok (alike product))
       (makes-one form (λ x. found_within (limits x) (product_text product)) Means name old new object product (alike product) refl keeps has found))
 
   pub finds-unread : (it : Unmade) → ReadsOnly (name ∷ []) old new → IsUnread (name ∷ []) old new (LacksObject form (name ∷ []) old new) it
-      → Makes (finds form limits Means) (name ∷ []) old new (Err it)
-  finds-unread it keeps u = makes-found form limits Means (name ∷ []) old new (Err it) (unread-one form (λ x. found_within (limits x) []) Means name old new it keeps u)
+      → Makes (finds form limits Lacks Means) (name ∷ []) old new (Err it)
+  finds-unread it keeps u = makes-found form limits Lacks Means (name ∷ []) old new (Err it) (unread-one form (λ x. found_within (limits x) []) Means name old new it keeps u)
 
   pub finds-refused : (object : X) (refused : Refusal) (it : Unmade) → it ≡ unmade_by refused → ReadsOnly (name ∷ []) old new → HasObject form (name ∷ []) old new object
-      → IsRefusalOf 1 (limits object) refused → Makes (finds form limits Means) (name ∷ []) old new (Err it)
+      → IsRefusalOf 1 (limits object) refused → Makes (finds form limits Lacks Means) (name ∷ []) old new (Err it)
   finds-refused object refused it same keeps has f =
-      makes-found form limits Means (name ∷ []) old new (Err it) (refused-one form (λ x. found_within (limits x) []) Means name old new object refused it same keeps has f)
+      makes-found form limits Lacks Means (name ∷ []) old new (Err it) (refused-one form (λ x. found_within (limits x) []) Means name old new object refused it same keeps has f)
+
+  -- the search ended without a text
+  pub finds-none : (object : X) (why : InputFault) (it : Unmade) → it ≡ unmade_by (Refused 0 why) → ReadsOnly (name ∷ []) old new → HasObject form (name ∷ []) old new object
+      → AreKept (limits object) → Lacks object (Refused 0 why) → Makes (finds form limits Lacks Means) (name ∷ []) old new (Err it)
+  finds-none object why it same keeps has kept lacks =
+      let is : IsRefusedBy (finds form limits Lacks Means) (name ∷ []) old new (Refused 0 why) = record {
+        texts = has.text ∷ [];
+        read = has.read;
+        is = inr (record { object = object; is = has.is; fact = (kept, lacks) });
+      } in record {
+        keeps = keeps;
+        made = tt;
+        unmade = subst (IsUnmadeBy (finds form limits Lacks Means) (name ∷ []) old new) (sym same) (omega arith, is);
+      }
 
 -- by names that are given otherwise
 pub makes-at : (row : ReadsFirst) (names others : List (List ℕ)) (old new : FilesView) (result : Result Made Unmade) → names ≡ others
@@ -216,7 +231,7 @@ module _ {X Y : Type 0} (first : Format X) (second : Format Y) (report : X → Y
         (λ refused l. record {
           texts = l.first_text ∷ l.second_text ∷ [];
           read = l.read;
-          is = lacking (at_input 0 (first l.first_text)) (at_input 1 (second l.second_text)) refused l.is;
+          is = inl (lacking (at_input 0 (first l.first_text)) (at_input 1 (second l.second_text)) refused l.is);
         }) it u;
   }
 
@@ -227,7 +242,7 @@ module _ {X Y : Type 0} (first : Format X) (second : Format Y) (report : X → Y
       (λ by is. record {
         texts = has.first_text ∷ has.second_text ∷ [];
         read = has.read;
-        is = both-read x y has.first_text has.second_text has.first_is has.second_is ∙ within-refused (report x y) (differs x y) by is;
+        is = inl (both-read x y has.first_text has.second_text has.first_is has.second_is ∙ within-refused (report x y) (differs x y) by is);
       }) refused f
 
   pub refused-two : (x : X) (y : Y) (refused : Refusal) (it : Unmade) → it ≡ unmade_by refused → ReadsOnly (a ∷ b ∷ []) old new → HasObjects first second (a ∷ b ∷ []) old new x y

@@ -61,7 +61,19 @@ performs_unmade (reads_first row) names old new out (Refused input why) u =
       told = u.unmade.1.read.told;
       ends = record {
         named = u.unmade.0;
-        faulty = record { asked = ap (λ o. o.end) (outcome-read row [] texts (Err (refusal.Refused input why)) u.unmade.1.read.short u.unmade.1.is); leaves = refl };
+        faulty = elim u.unmade.1.is [
+          | inl is ↦ inl (record { asked = ap (λ o. o.end) (outcome-read row [] texts (Err (refusal.Refused input why)) u.unmade.1.read.short is); leaves = refl })
+          | inr lacks ↦ inr (record {
+            lacks = record {
+              texts = texts;
+              are = record { held = refl; short = u.unmade.1.read.short };
+              refusal = refusal.Refused input why;
+              lacks = lacks;
+              is = refl;
+            };
+            unsent = refl;
+          })
+        ];
         read = u.unmade.1.read.read;
       };
     }

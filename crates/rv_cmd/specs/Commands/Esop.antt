@@ -25,7 +25,7 @@ use Rattle.rv_words.specs.declared.command.Goal.TheVariants as wish
 use Rattle.rv_words.specs.declared.command.Form.TheVariants.{Pla}
 use Rattle.rv_inputs.specs.Formats.{table}
 use Rattle.rv_cmd.specs.Limits.{Limit, LimitedText, of_gates, unlimited}
-use Rattle.rv_cmd.specs.Row.{ReadsFirst, finds, one}
+use Rattle.rv_cmd.specs.Row.{ReadsFirst, always, finds, one}
 
 -- the first list of a PLA, reduced for it until no step is left
 abbrev pub reduced_list : TwoLevel → Esop
@@ -115,4 +115,4 @@ IsFoundReport _ goal pla text = IsFoundCascade goal pla text
 -- without a goal nothing is searched for
 abbrev pub esop_row : Form → Option wishes.Goal → ReadsFirst
 esop_row to None = one table (esop_report to) (IsEsopReport to)
-esop_row to (Some goal) = finds table (found_limits to) (IsFoundReport to (esop_goal goal))
+esop_row to (Some goal) = finds table (found_limits to) always (IsFoundReport to (esop_goal goal))

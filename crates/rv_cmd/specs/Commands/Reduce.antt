@@ -5,7 +5,7 @@ use Rattle.rv_reduce.specs.Reduced.{IsReductionOf}
 use Rattle.rv_qasm.specs.Reading.{Listing, in_register_q, qasm_of}
 use Rattle.rv_inputs.specs.Formats.{program}
 use Rattle.rv_cmd.specs.Limits.{Limit}
-use Rattle.rv_cmd.specs.Row.{ReadsFirst, finds}
+use Rattle.rv_cmd.specs.Row.{ReadsFirst, always, finds}
 
 -- nothing is refused
 abbrev pub reduce_limits : Listing → List Limit
@@ -20,4 +20,4 @@ pub record IsReduced (listing : Listing) (text : List ℕ) : Type 0 where
   pub reduction : IsReductionOf listing.net net
 
 abbrev pub reduce_row : ReadsFirst
-reduce_row = finds program reduce_limits IsReduced
+reduce_row = finds program reduce_limits always IsReduced

@@ -10,7 +10,7 @@ use Rattle.rv_real.specs.Reading.{real_of}
 use Rattle.rv_inputs.specs.Formats.{circuit}
 use Rattle.rv_cmd.specs.Commands.Compare.{of_inputs}
 use Rattle.rv_cmd.specs.Limits.{Limit}
-use Rattle.rv_cmd.specs.Row.{ReadsFirst, finds}
+use Rattle.rv_cmd.specs.Row.{ReadsFirst, always, finds}
 
 -- what the arguments ask to make small: quantum cost, if nothing else is asked
 abbrev pub resynth_goal : Option wishes.Goal → Goal
@@ -43,4 +43,4 @@ IsResynthReport true goal = IsResynthesizedByMarks goal
 IsResynthReport false goal = IsResynthesized goal
 
 abbrev pub resynth_row : Goal → Bool → ReadsFirst
-resynth_row goal marks = finds circuit (resynth_limits marks) (IsResynthReport marks goal)
+resynth_row goal marks = finds circuit (resynth_limits marks) always (IsResynthReport marks goal)

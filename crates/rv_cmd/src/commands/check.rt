@@ -59,11 +59,17 @@ fn no_verdict(lines: u8, fault: CheckFault) -> Refusal
     match fault {
         CheckFault::CircuitLines(count) => Refusal::Refused {
             input: 0,
-            why: InputFault::TooManyLines { count, most },
+            why: InputFault::TooManyLines {
+                count: u32::from(count),
+                most,
+            },
         },
         CheckFault::NetLines(count) => Refusal::Refused {
             input: 1,
-            why: InputFault::TooManyLines { count, most },
+            why: InputFault::TooManyLines {
+                count: u32::from(count),
+                most,
+            },
         },
         CheckFault::TooLarge { word, place } => Refusal::Refused {
             input: 1,

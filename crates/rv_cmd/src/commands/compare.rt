@@ -143,11 +143,17 @@ fn no_answer(fault: CompareFault) -> Refusal
     match fault {
         CompareFault::FirstInputs(count) => Refusal::Refused {
             input: 0,
-            why: InputFault::TooManyInputs { count, most },
+            why: InputFault::TooManyInputs {
+                count: u32::from(count),
+                most,
+            },
         },
         CompareFault::SecondInputs(count) => Refusal::Refused {
             input: 1,
-            why: InputFault::TooManyInputs { count, most },
+            why: InputFault::TooManyInputs {
+                count: u32::from(count),
+                most,
+            },
         },
     }
 }
