@@ -13,7 +13,7 @@ use Rattle.rv_words.specs.declared.command.PictureForm.{PictureForm}
 use Rattle.rv_words.specs.declared.command.Goal.{Goal}
 use Rattle.rv_words.specs.declared.command.Form.TheVariants as form
 use Rattle.rv_mct.specs.declared.aux.Aux.{Aux}
-use Rattle.rv_tbs.specs.declared.method.Method.{Method}
+use Rattle.rv_flow.specs.declared.flowing.Synthesis.{Synthesis}
 use Rattle.rv_faults.specs.declared.fault.Fault.TheVariants.{TooLong}
 use Rattle.rv_faults.specs.declared.fault.Refusal.{Refusal}
 use Rattle.rv_faults.specs.declared.fault.Unmade.{Unmade}
@@ -23,7 +23,7 @@ use Rattle.rv_cmd.specs.Commands.{row_for, row_of}
 use Rattle.rv_cmd.specs.Commands.Cost.{cost_row}
 use Rattle.rv_cmd.specs.Commands.Draw.{draw_row}
 use Rattle.rv_cmd.specs.Commands.Esop.{esop_row}
-use Rattle.rv_cmd.specs.Commands.Flow.{flow_row}
+use Rattle.rv_cmd.specs.Commands.Flow.{flow_row, flow_synthesis}
 use Rattle.rv_cmd.specs.Commands.Simulate.{answered_by, simulated, words_end}
 use Rattle.rv_cmd.specs.Commands.Templates.{templates_row}
 use Rattle.rv_cmd.specs.Limits.{LimitedText, Report, first_refused, found_within, report_unless, within}
@@ -82,7 +82,7 @@ cost_alike : (origin : Form) → NeverDiffers (cost_row origin)
 cost_alike form.Qasm = tt
 cost_alike _ = tt
 
-flow_alike : (origin : Form) (method : Method) (simplify : Bool) (blocks : Blocks) (aux : Aux) → NeverDiffers (flow_row origin method simplify blocks aux)
+flow_alike : (origin : Form) (method : Synthesis) (simplify : Bool) (blocks : Blocks) (aux : Aux) → NeverDiffers (flow_row origin method simplify blocks aux)
 flow_alike form.Perm method simplify blocks aux = tt
 flow_alike _ method simplify blocks aux = tt
 
@@ -127,7 +127,7 @@ rows_alike command.Templates settings other = templates_alike settings.library
 rows_alike command.Cost settings other = cost_alike settings.origin
 rows_alike command.Draw settings other = draw_alike settings.origin settings.picture settings.wrap
 rows_alike command.Esop settings other = esop_alike settings.to settings.goal
-rows_alike command.Flow settings other = flow_alike settings.origin settings.method settings.simplify settings.blocks settings.aux
+rows_alike command.Flow settings other = flow_alike settings.origin (flow_synthesis settings.method) settings.simplify settings.blocks settings.aux
 rows_alike _ settings other = tt
 
 row-alike : (row : Row) → IsAlikeRow row → (found : List ℕ) (contents : Contents) → IsAlike (outcome row found contents).end

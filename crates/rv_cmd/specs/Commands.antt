@@ -1,6 +1,7 @@
 -- The table of the commands: a row each.
 pub mod Check
 pub mod Compare
+pub mod Compute
 pub mod Cost
 pub mod Decompose
 pub mod Demo
@@ -24,13 +25,14 @@ use Rattle.rv_words.specs.declared.command.Command.TheVariants as command
 use Rattle.rv_cmd.specs.Row.{Row, answers_as_it_reads, reads_first}
 use Rattle.rv_cmd.specs.Commands.Check.{check_row}
 use Rattle.rv_cmd.specs.Commands.Compare.{compare_row}
+use Rattle.rv_cmd.specs.Commands.Compute.{compute_row}
 use Rattle.rv_cmd.specs.Commands.Cost.{cost_row}
 use Rattle.rv_cmd.specs.Commands.Decompose.{decompose_row}
 use Rattle.rv_cmd.specs.Commands.Demo.{demo_row}
 use Rattle.rv_cmd.specs.Commands.Draw.{draw_row}
 use Rattle.rv_cmd.specs.Commands.Embed.{embed_row}
 use Rattle.rv_cmd.specs.Commands.Esop.{esop_row}
-use Rattle.rv_cmd.specs.Commands.Flow.{flow_row}
+use Rattle.rv_cmd.specs.Commands.Flow.{flow_row, flow_synthesis}
 use Rattle.rv_cmd.specs.Commands.Fold.{fold_row}
 use Rattle.rv_cmd.specs.Commands.Map.{map_row}
 use Rattle.rv_cmd.specs.Commands.Reduce.{reduce_row}
@@ -38,13 +40,13 @@ use Rattle.rv_cmd.specs.Commands.Resynth.{resynth_goal, resynth_row}
 use Rattle.rv_cmd.specs.Commands.Route.{route_row}
 use Rattle.rv_cmd.specs.Commands.Simulate.{simulate_row}
 use Rattle.rv_cmd.specs.Commands.Single.{single_row}
-use Rattle.rv_cmd.specs.Commands.Synth.{synth_row}
+use Rattle.rv_cmd.specs.Commands.Synth.{rows_method, synth_row}
 use Rattle.rv_cmd.specs.Commands.Templates.{templates_row}
 use Rattle.rv_cmd.specs.Commands.ToReal.{toreal_row}
 
 -- the row of a command, with what its options ask for
 abbrev pub row_for : Command → Settings → Row
-row_for command.Synth s = reads_first (synth_row s.method)
+row_for command.Synth s = reads_first (synth_row (rows_method s.method))
 row_for command.Embed s = reads_first embed_row
 row_for command.Esop s = reads_first (esop_row s.to s.goal)
 row_for command.Templates s = reads_first (templates_row s.library)
@@ -53,7 +55,7 @@ row_for command.Map s = reads_first (map_row s.blocks s.aux)
 row_for command.Cost s = reads_first (cost_row s.origin)
 row_for command.Simulate s = answers_as_it_reads (simulate_row s.all)
 row_for command.ToReal s = reads_first toreal_row
-row_for command.Flow s = reads_first (flow_row s.origin s.method s.simplify s.blocks s.aux)
+row_for command.Flow s = reads_first (flow_row s.origin (flow_synthesis s.method) s.simplify s.blocks s.aux)
 row_for command.Demo s = reads_first (demo_row s.lines s.seed)
 row_for command.Fold s = reads_first fold_row
 row_for command.Reduce s = reads_first reduce_row
@@ -63,6 +65,7 @@ row_for command.Route s = reads_first route_row
 row_for command.Draw s = reads_first (draw_row s.origin s.picture s.wrap)
 row_for command.Compare s = reads_first (compare_row s.origin s.all)
 row_for command.Resynth s = reads_first (resynth_row (resynth_goal s.goal) s.marks)
+row_for command.Compute s = reads_first (compute_row s.lines)
 
 abbrev pub row_of : Settings → Row
 row_of settings = row_for settings.command settings

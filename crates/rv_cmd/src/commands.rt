@@ -7,6 +7,7 @@ ghost use Rattle.rv_cmd.specs.inside.Making.{MakesBy};
 
 pub(crate) mod check;
 pub(crate) mod compare;
+pub(crate) mod compute;
 pub(crate) mod cost;
 pub(crate) mod decompose;
 pub(crate) mod demo;
@@ -42,9 +43,12 @@ pub(crate) fn make<F: Files>(
     requires command { IsReadsFirst (row_of settings.now) }
     ensures { MakesBy (row_of settings.now) (names_read settings.now) (F.view files.old) (F.view files.new) result }
 {
-    let (method, aux, blocks) = (settings.method, settings.aux, settings.blocks);
+    let (aux, blocks) = (settings.aux, settings.blocks);
     match settings.command {
-        Command::Synth => of_one(alloc, settings, files, &synth::Synth { method }),
+        Command::Synth => {
+            let method = synth::rows_method(settings.method);
+            of_one(alloc, settings, files, &synth::Synth { method })
+        }
         Command::Embed => of_one(alloc, settings, files, &embed::Embed),
         Command::Esop => esop::esop(alloc, settings, files),
         Command::Templates => templates::templates(alloc, settings, files),
@@ -63,5 +67,6 @@ pub(crate) fn make<F: Files>(
         Command::Draw => draw::draw(alloc, settings, files),
         Command::Compare => compare::compare(alloc, settings, files),
         Command::Resynth => resynth::resynth(alloc, settings, files),
+        Command::Compute => compute::compute(alloc, settings, files),
     }
 }

@@ -104,6 +104,14 @@ wide_demo : settings_of (codes "demo" ∷ codes "--lines" ∷ codes "9" ∷ []) 
 unfolding settings_of read read_by values_in refusal value_of line clap_on_literals
 wide_demo = refl
 
+wide_circuit : settings_of (codes "compute" ∷ codes "--lines" ∷ codes "65" ∷ []) ≡ Err (BadValue LINES)
+unfolding settings_of read read_by values_in refusal value_of line clap_on_literals
+wide_circuit = refl
+
+single_for_synth : settings_of (codes "synth" ∷ codes "--method" ∷ codes "single" ∷ []) ≡ Err (BadValue METHOD)
+unfolding settings_of read read_by values_in refusal value_of line clap_on_literals
+single_for_synth = refl
+
 demo_of_input : settings_of (codes "demo" ∷ codes "f" ∷ []) ≡ Err (InputCount Demo)
 unfolding settings_of read read_by values_in refusal value_of line clap_on_literals
 demo_of_input = refl

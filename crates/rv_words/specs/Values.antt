@@ -6,7 +6,6 @@ use Rattle.rv_text.specs.Decimal.{is_short_decimal, decimal_value}
 use Rattle.rv_gate.specs.declared.word.TheConstants.{MOST_LINES}
 use Rattle.rv_perm.specs.declared.perm.TheConstants.{MOST_DEMO_LINES}
 use Rattle.rv_words.specs.declared.choice.TheConstants.{MOST_EFFORT}
-use Rattle.rv_tbs.specs.declared.method.Method.{Method}
 use Rattle.rv_tbs.specs.declared.method.Method.TheVariants.{Best, Out, Both}
 use Rattle.rv_mct.specs.declared.aux.Aux.{Aux}
 use Rattle.rv_mct.specs.declared.aux.Aux.TheVariants.{Borrowed, Clean}
@@ -14,6 +13,8 @@ use Rattle.rv_words.specs.declared.command.Command.{Command}
 use Rattle.rv_words.specs.declared.command.Command.TheVariants.{Compare, Compute, Esop, Flow, Resynth}
 use Rattle.rv_words.specs.declared.command.Blocks.{Blocks}
 use Rattle.rv_words.specs.declared.command.Blocks.TheVariants.{Exact, Relative, Toffoli}
+use Rattle.rv_words.specs.declared.command.Synthesis.{Synthesis}
+use Rattle.rv_words.specs.declared.command.Synthesis.TheVariants.{Rows, SingleTargets}
 use Rattle.rv_words.specs.declared.command.Goal.{Goal}
 use Rattle.rv_words.specs.declared.command.Goal.TheVariants.{Cubes, Gates, Quantum, T}
 use Rattle.rv_words.specs.declared.command.PictureForm.{PictureForm}
@@ -23,12 +24,18 @@ use Rattle.rv_words.specs.declared.command.Form.TheVariants.{Real, Pla, Qasm, Pe
 use Rattle.rv_words.specs.declared.options.TheConstants.{METHOD, TO, FROM, AUX, LINES, SEED, WRAP, GOAL, EFFORT, BLOCKS, AS}
 use Rattle.rv_words.specs.Given.{Given}
 
-abbrev pub method_of : List ℕ → Option Method
-method_of value =
-    if bytes_eq value (codes "best") then Some Best
-    else (if bytes_eq value (codes "out") then Some Out
-    else (if bytes_eq value (codes "both") then Some Both
-    else None))
+-- `flow` also takes single-target gates, which `synth` leaves to `single`
+abbrev pub single_for : Command → Option Synthesis
+single_for Flow = Some SingleTargets
+single_for command = None
+
+abbrev pub method_of : Command → List ℕ → Option Synthesis
+method_of command value =
+    if bytes_eq value (codes "best") then Some (Rows Best)
+    else (if bytes_eq value (codes "out") then Some (Rows Out)
+    else (if bytes_eq value (codes "both") then Some (Rows Both)
+    else (if bytes_eq value (codes "single") then single_for command
+    else None)))
 
 abbrev pub form_to : List ℕ → Option Form
 form_to value =
@@ -125,8 +132,8 @@ abbrev pub wished : {X : Type 0} → Option X → Option (Option X)
 wished None = None
 wished (Some x) = Some (Some x)
 
-abbrev pub method_in : Given → Result Method ℕ
-method_in g = chosen METHOD Best method_of (g (codes "method"))
+abbrev pub method_in : Command → Given → Result Synthesis ℕ
+method_in command g = chosen METHOD (Rows Best) (method_of command) (g (codes "method"))
 
 abbrev pub to_in : Given → Result Form ℕ
 to_in g = chosen TO Real form_to (g (codes "to"))
@@ -173,7 +180,7 @@ picture_in g = chosen AS Text picture_of (g (codes "as"))
 
 -- the values of the options that take one of a list or a range
 pub record Values : Type 0 where
-  pub method : Method
+  pub method : Synthesis
   pub to : Form
   pub origin : Form
   pub aux : Aux
@@ -188,7 +195,7 @@ pub record Values : Type 0 where
 -- all values, or the place of the first that is bad
 unfoldable pub values_in : Command → Given → Result Values ℕ
 values_in command g = do
-  method ← method_in g
+  method ← method_in command g
   to ← to_in g
   origin ← origin_in command g
   aux ← aux_in g

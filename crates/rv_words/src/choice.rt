@@ -8,7 +8,7 @@ ghost use Rattle.rv_words.specs.Values.{method_of, origin_in, seed_in, to_in, us
 
 use crate::number::number_in;
 use crate::options::{AS, AUX, BLOCKS, EFFORT, FROM, GOAL, LINES, METHOD, SEED, TO, WRAP};
-use crate::{Blocks, Command, Form, Goal, PictureForm};
+use crate::{Blocks, Command, Form, Goal, PictureForm, Synthesis};
 use clap::ArgMatches;
 use rv_gate::MOST_LINES;
 use rv_mct::Aux;
@@ -22,7 +22,7 @@ pub const MOST_EFFORT: u16 = 1000;
 // The values of the options that take one of a list or a range.
 #[derive(Drop)]
 pub(crate) struct Values {
-    pub(crate) method: Method,
+    pub(crate) method: Synthesis,
     pub(crate) to: Form,
     pub(crate) origin: Form,
     pub(crate) aux: Aux,
@@ -55,13 +55,17 @@ impl Model for Values {
     } };
 }
 
-fn method_of(value: &str) -> Option<Method>
-    ensures { result ≡ method_of value.now }
+fn method_of(command: Command, value: &str) -> Option<Synthesis>
+    ensures { result ≡ method_of command value.now }
 {
     match value {
-        "best" => Some(Method::Best),
-        "out" => Some(Method::Out),
-        "both" => Some(Method::Both),
+        "best" => Some(Synthesis::Rows(Method::Best)),
+        "out" => Some(Synthesis::Rows(Method::Out)),
+        "both" => Some(Synthesis::Rows(Method::Both)),
+        "single" => match command {
+            Command::Flow => Some(Synthesis::SingleTargets),
+            _ => None,
+        },
         _ => None,
     }
 }
@@ -190,12 +194,12 @@ fn picture_of(value: &str) -> Option<PictureForm>
     }
 }
 
-fn method_in(matches: &ArgMatches<'_>) -> Result<Method, u8>
-    ensures { result ≡ method_in (first_value (found_of matches.now)) }
+fn method_in(matches: &ArgMatches<'_>, command: Command) -> Result<Synthesis, u8>
+    ensures { result ≡ method_in command (first_value (found_of matches.now)) }
 {
     match matches.get_str("method") {
-        Some(value) => method_of(value).ok_or(METHOD),
-        None => Ok(Method::Best),
+        Some(value) => method_of(command, value).ok_or(METHOD),
+        None => Ok(Synthesis::Rows(Method::Best)),
     }
 }
 
@@ -323,7 +327,7 @@ pub(crate) fn values_in(matches: &ArgMatches<'_>, command: Command) -> Result<Va
     ensures within { IfOk result (λ v. IsLineCount command v.lines) }
 {
     Ok(Values {
-        method: method_in(matches)?,
+        method: method_in(matches, command)?,
         to: to_in(matches)?,
         origin: origin_in(matches, command)?,
         aux: aux_in(matches)?,

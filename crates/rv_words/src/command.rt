@@ -8,6 +8,7 @@ use crate::options::{
     ALL, AS, AUX, BLOCKS, EFFORT, FROM, GOAL, LIBRARY, LINES, MARKS, METHOD, SEED, SIMPLIFY, TO,
     WRAP,
 };
+use rv_tbs::Method;
 
 /// What a run is to do.
 #[derive(Clone, Copy)]
@@ -182,6 +183,15 @@ pub enum Form {
     Perm,
     /// A logic network in BLIF.
     Blif,
+}
+
+/// How the circuit of a permutation is found.
+#[derive(Clone, Copy)]
+pub enum Synthesis {
+    /// By transformations, row by row.
+    Rows(Method),
+    /// By single-target gates.
+    SingleTargets,
 }
 
 /// What a search is to make small.

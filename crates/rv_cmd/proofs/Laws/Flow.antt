@@ -5,12 +5,12 @@ use Rattle.rv_gate.specs.Circuit.{Cascade}
 use Rattle.rv_gate.specs.declared.word.TheConstants.{MOST_LINES}
 use Rattle.rv_perm.specs.Marked.{IsMarked, Marked}
 use Rattle.rv_pla.specs.Pla.{TwoLevel}
-use Rattle.rv_tbs.specs.declared.method.Method.{Method}
 use Rattle.rv_embed.specs.Embedding.{embedding_of}
 use Rattle.rv_embed.proofs.Embeds.{embedding-embeds}
 use Rattle.rv_mct.specs.Widened.{helper_count, lines_with_helpers}
 use Rattle.rv_mct.specs.declared.aux.Aux.{Aux}
 use Rattle.rv_flow.specs.Flow.{circuit_for}
+use Rattle.rv_flow.specs.declared.flowing.Synthesis.{Synthesis}
 use Rattle.rv_flow.proofs.Carrying.{carries-permutation}
 use Rattle.rv_flow.proofs.Circuits.{circuit-lines}
 use Rattle.rv_faults.specs.declared.fault.Refusal.{Refusal}
@@ -29,7 +29,7 @@ use Rattle.rv_cmd.specs.inside.Products.{IsProductOf, IsRefusalOf}
 use Rattle.rv_cmd.proofs.Laws.Map.{maps-on}
 use Rattle.rv_cmd.proofs.inside.Limits.{kept-append, refusal-after, refused-after}
 
-module _ (method : Method) (simplify : Bool) (blocks : Blocks) (aux : Aux) where
+module _ (method : Synthesis) (simplify : Bool) (blocks : Blocks) (aux : Aux) where
   abbrev found : Marked → Cascade
   found spec = circuit_for method simplify spec
 
@@ -98,7 +98,7 @@ module _ (method : Method) (simplify : Bool) (blocks : Blocks) (aux : Aux) where
         refusal-after 1 (embed_limits pla) (flow_limits method simplify blocks aux (embedding_of pla)) refused kept (subst Refuses embedded is)
 
 -- from a truth table
-pub flow-of-table : (origin : Form) (method : Method) (simplify : Bool) (blocks : Blocks) (aux : Aux) → (origin ≡ form.Perm → ⊥)
+pub flow-of-table : (origin : Form) (method : Synthesis) (simplify : Bool) (blocks : Blocks) (aux : Aux) → (origin ≡ form.Perm → ⊥)
     → flow_row origin method simplify blocks aux ≡ one table (function_report method simplify blocks aux) (IsFunctionFlow method simplify blocks aux)
 flow-of-table form.Perm method simplify blocks aux other = absurd (other refl)
 flow-of-table _ method simplify blocks aux other = refl

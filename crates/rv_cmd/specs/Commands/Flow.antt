@@ -6,14 +6,17 @@ use Rattle.rv_embed.specs.Embedding.{embedding_of}
 use Rattle.rv_embed.specs.Embeds.{Embeds}
 use Rattle.rv_mct.specs.Widened.{helper_count}
 use Rattle.rv_mct.specs.declared.aux.Aux.{Aux}
-use Rattle.rv_tbs.specs.declared.method.Method.{Method}
 use Rattle.rv_net.specs.Denotes.{Carries}
 use Rattle.rv_net.specs.Op.{IsNetwork, Network}
 use Rattle.rv_qasm.specs.Reading.{in_register_q, qasm_of}
 use Rattle.rv_qasm.specs.Text.{text_of}
 use Rattle.rv_perm.specs.Perm.{permuted}
 use Rattle.rv_flow.specs.Flow.{circuit_for}
+use Rattle.rv_flow.specs.declared.flowing.Synthesis.{Synthesis}
+use Rattle.rv_flow.specs.declared.flowing.Synthesis.TheVariants.{Rows, SingleTargets}
 use Rattle.rv_words.specs.declared.command.Blocks.{Blocks}
+use Rattle.rv_words.specs.declared.command.Synthesis as asked
+use Rattle.rv_words.specs.declared.command.Synthesis.TheVariants as asks
 use Rattle.rv_words.specs.declared.command.Form.{Form}
 use Rattle.rv_words.specs.declared.command.Form.TheVariants as form
 use Rattle.rv_inputs.specs.Formats.{permutation, table}
@@ -22,7 +25,12 @@ use Rattle.rv_cmd.specs.Commands.Map.{MapsBy, mapped, network_limits}
 use Rattle.rv_cmd.specs.Limits.{Limit, LimitedText}
 use Rattle.rv_cmd.specs.Row.{ReadsFirst, one}
 
-module _ (method : Method) (simplify : Bool) (blocks : Blocks) (aux : Aux) where
+-- how the arguments ask for the circuit to be made
+abbrev pub flow_synthesis : asked.Synthesis → Synthesis
+flow_synthesis (asks.Rows method) = Rows method
+flow_synthesis asks.SingleTargets = SingleTargets
+
+module _ (method : Synthesis) (simplify : Bool) (blocks : Blocks) (aux : Aux) where
   -- of the network of the permutation's circuit; its lines are never too many
   abbrev pub flow_limits : Marked → List Limit
   flow_limits spec = network_limits blocks aux (circuit_for method simplify spec)
@@ -53,6 +61,6 @@ module _ (method : Method) (simplify : Bool) (blocks : Blocks) (aux : Aux) where
     pub carried : IsFlow (embedding_of pla) text
 
 -- by the form of the input
-abbrev pub flow_row : Form → Method → Bool → Blocks → Aux → ReadsFirst
+abbrev pub flow_row : Form → Synthesis → Bool → Blocks → Aux → ReadsFirst
 flow_row form.Perm method simplify blocks aux = one permutation (flow_report method simplify blocks aux) (IsFlow method simplify blocks aux)
 flow_row _ method simplify blocks aux = one table (function_report method simplify blocks aux) (IsFunctionFlow method simplify blocks aux)

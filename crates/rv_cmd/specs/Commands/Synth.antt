@@ -7,9 +7,16 @@ use Rattle.rv_perm.specs.Marked.{Marked}
 use Rattle.rv_tbs.specs.Synthesis.{synthesis_of}
 use Rattle.rv_tbs.specs.declared.method.Method.{Method}
 use Rattle.rv_tbs.specs.declared.method.Method.TheVariants.{Best}
+use Rattle.rv_words.specs.declared.command.Synthesis.{Synthesis}
+use Rattle.rv_words.specs.declared.command.Synthesis.TheVariants.{Rows, SingleTargets}
 use Rattle.rv_inputs.specs.Formats.{permutation}
 use Rattle.rv_cmd.specs.Limits.{LimitedText, unlimited}
 use Rattle.rv_cmd.specs.Row.{ReadsFirst, one}
+
+-- the method of transformations that is asked for; single targets never are
+abbrev pub rows_method : Synthesis → Method
+rows_method (Rows method) = method
+rows_method SingleTargets = Best
 
 -- the circuit that the method finds
 abbrev pub synth_report : Method → Marked → LimitedText

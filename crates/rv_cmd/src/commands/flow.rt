@@ -1,6 +1,6 @@
 ghost use Rattle.std.specs.Prelude.{◌≡◌, length, IfOk, IfErr};
 ghost use Rattle.rv_cmd.specs.Commands.Flow.{IsFlow, IsFunctionFlow, flow_limits, flow_report, flow_row};
-ghost use Rattle.rv_cmd.specs.Commands.Flow.{function_report};
+ghost use Rattle.rv_cmd.specs.Commands.Flow.{flow_synthesis, function_report};
 ghost use Rattle.rv_cmd.specs.Names.{names_read};
 ghost use Rattle.rv_cmd.specs.inside.Making.{Makes};
 ghost use Rattle.rv_cmd.specs.inside.Products.{IsProductOf, IsRefusalOf};
@@ -10,13 +10,12 @@ use crate::making::{OneInput, of_one};
 use crate::product::{Made, Product};
 use crate::steps::embedding;
 use rv_faults::{Refusal, Unmade};
-use rv_flow::circuit_for;
+use rv_flow::{Synthesis, circuit_for};
 use rv_io::Files;
 use rv_mct::Aux;
 use rv_perm::{PermReader, PermSpec};
 use rv_pla::{Pla, PlaReader};
-use rv_tbs::Method;
-use rv_words::{Blocks, Form, Settings};
+use rv_words::{Blocks, Form, Settings, Synthesis as Wish};
 use std::alloc::Global;
 
 /// The network of a permutation, or of the function of a PLA.
@@ -26,11 +25,13 @@ pub(crate) fn flow<F: Files>(
     files: &mut F,
 ) -> Result<Made, Unmade>
     requires { length (names_read settings.now) ≡ 1 }
-    ensures { Makes (flow_row settings.now.origin settings.now.method settings.now.simplify settings.now.blocks settings.now.aux)
+    ensures { Makes
+        (flow_row settings.now.origin (flow_synthesis settings.now.method) settings.now.simplify settings.now.blocks
+        settings.now.aux)
         (names_read settings.now) (F.view files.old) (F.view files.new) result }
 {
     let asked = Asked {
-        method: settings.method,
+        method: flow_synthesis(settings.method),
         simplify: settings.simplify,
         blocks: settings.blocks,
         aux: settings.aux,
@@ -41,10 +42,20 @@ pub(crate) fn flow<F: Files>(
     }
 }
 
+// How the arguments ask for the circuit to be made.
+fn flow_synthesis(wish: Wish) -> Synthesis
+    ensures { result ≡ flow_synthesis wish }
+{
+    match wish {
+        Wish::Rows(method) => Synthesis::Rows(method),
+        Wish::SingleTargets => Synthesis::SingleTargets,
+    }
+}
+
 // How the circuit of a permutation is made, and its network.
 #[derive(Clone, Copy)]
 struct Asked {
-    method: Method,
+    method: Synthesis,
     simplify: bool,
     blocks: Blocks,
     aux: Aux,

@@ -1,10 +1,12 @@
-ghost use Rattle.rv_cmd.specs.Commands.Synth.{IsSynthesis, synth_report};
+ghost use Rattle.std.specs.Prelude.{◌≡◌};
+ghost use Rattle.rv_cmd.specs.Commands.Synth.{IsSynthesis, rows_method, synth_report};
 
 use crate::making::OneInput;
 use crate::product::Product;
 use rv_faults::Refusal;
 use rv_perm::{PermReader, PermSpec};
 use rv_tbs::{Method, synth};
+use rv_words::Synthesis;
 use std::alloc::Global;
 
 /// A circuit that computes a permutation.
@@ -29,5 +31,15 @@ impl OneInput for Synth {
             }
             Err(_) => Err(Refusal::OutOfMemory),
         }
+    }
+}
+
+/// The method of transformations that is asked for.
+pub(crate) fn rows_method(synthesis: Synthesis) -> Method
+    ensures { result ≡ rows_method synthesis }
+{
+    match synthesis {
+        Synthesis::Rows(method) => method,
+        Synthesis::SingleTargets => Method::Best,
     }
 }

@@ -46,6 +46,9 @@ compare-requires g c = names_read-by c.args.settings.now command.Compare c.requi
 pub resynth-requires : goal.resynth-requires
 resynth-requires g c = names_read-by c.args.settings.now command.Resynth c.requires.asked c.in-Resynth.is refl
 
+pub compute-requires : goal.compute-requires
+compute-requires g c = names_read-by c.args.settings.now command.Compute c.requires.asked c.in-Compute.is refl
+
 pub cost-requires : goal.cost-requires
 cost-requires g c = names_read-by c.args.settings.now command.Cost c.requires.asked c.in-Cost.is refl
 

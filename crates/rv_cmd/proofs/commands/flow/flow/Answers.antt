@@ -1,4 +1,5 @@
 use Rattle.std.proofs.Common.{sym, subst}
+use Rattle.rv_cmd.specs.Commands.Flow.{flow_synthesis}
 use Rattle.rv_cmd.specs.Names.{names_read}
 use Rattle.rv_cmd.specs.Row.{ReadsFirst}
 use Rattle.rv_cmd.specs.inside.Making.{Makes}
@@ -9,4 +10,4 @@ pub returns-in_default : goal.returns-in_default
 returns-in_default g c =
     let s = c.args.settings.now in
     let By : ReadsFirst → Type 0 = λ row. Makes row (names_read s) (g.F.Files.view c.args.files.now) (g.F.Files.view c.of_one-in_default.new.files) c.of_one-in_default.result in
-    subst By (sym (flow-of-table s.origin s.method s.simplify s.blocks s.aux c.in_default.not-Perm)) c.of_one-in_default.ensures
+    subst By (sym (flow-of-table s.origin (flow_synthesis s.method) s.simplify s.blocks s.aux c.in_default.not-Perm)) c.of_one-in_default.ensures
