@@ -1,6 +1,7 @@
 pub mod Cascade
 pub mod Check
 pub mod Compare
+pub mod Compute
 pub mod Decompose
 pub mod Demo
 pub mod Draw

@@ -1,4 +1,4 @@
--- A circuit compared with a circuit, a permutation or a table, on all words.
+-- A circuit compared with a circuit, a permutation, a table or a logic network, on all words.
 use Rattle.std.specs.Prelude.{◌≡◌, ◌≢◌, ℕ, ◌^◌, ◌<◌, ◌≤◌, ◌==◌, ◌⊎◌, if◌then◌else◌, Bool, true, false, List, length, replicate, Option, Some, None}
 use Rattle.rv_gate.specs.Circuit.{Cascade}
 use Rattle.rv_gate.specs.FirstAnswer.{first}
@@ -12,8 +12,11 @@ use Rattle.rv_perm.specs.Perm.{permuted}
 use Rattle.rv_pla.specs.FreeEntries.{IsAllowed, allows}
 use Rattle.rv_pla.specs.Pla.{TwoLevel, entry}
 use Rattle.rv_compare.specs.declared.comparison.TheConstants.{MOST_INPUTS}
+use Rattle.rv_blif.specs.Logic.{Logic, outputs_of}
 use Rattle.rv_compare.specs.declared.comparison.CompareFault.{CompareFault}
 use Rattle.rv_compare.specs.declared.comparison.CompareFault.TheVariants.{FirstInputs, SecondInputs}
+use Rattle.rv_compare.specs.declared.comparison.LogicFault.{LogicFault}
+use Rattle.rv_compare.specs.declared.comparison.LogicFault.TheVariants.{CircuitInputs, LogicInputs, Mem}
 use Rattle.rv_compare.specs.declared.comparison.Comparison.{Comparison}
 use Rattle.rv_compare.specs.declared.comparison.Comparison.TheVariants.{Same, Inputs, Outputs, Differs}
 
@@ -148,3 +151,28 @@ gives_allowed c pla x = all_below (λ output. allows (entry pla x output) (bit_o
 
 abbrev pub table_answer : Cascade → TwoLevel → Comparison
 table_answer c pla = answer_by (size_of c) (size_for pla) (gives_allowed c pla)
+
+-- ---- a circuit and a logic network
+
+-- the circuit gives the network's outputs
+abbrev pub GivesOutputs : Cascade → Logic → List Bool → Type 0
+GivesOutputs c logic x = function_of c x ≡ outputs_of logic x
+
+abbrev pub size_in : Logic → Size
+size_in logic = record { inputs = length logic.inputs; outputs = length logic.outputs }
+
+abbrev pub LogicAnswer : Cascade → Logic → Comparison → Type 0
+LogicAnswer c logic = IsAnswer (size_of c) (size_in logic) (GivesOutputs c logic)
+
+abbrev pub logic_answer : Cascade → Logic → Comparison
+logic_answer c logic = answer_by (size_of c) (size_in logic) (λ x. same_word (function_of c x) (outputs_of logic x))
+
+-- both have few enough inputs
+abbrev pub HaveFewInputs : Cascade → Logic → Type 0
+HaveFewInputs c logic = HasFewInputs c × (length logic.inputs ≤ MOST_INPUTS)
+
+-- the inputs of the circuit are too many, or else those of the network; or memory was wanting
+abbrev pub AreTooManyFor : Cascade → Logic → LogicFault → Type 0
+AreTooManyFor c logic (CircuitInputs n) = HasManyInputs c n
+AreTooManyFor c logic (LogicInputs n) = HasFewInputs c × (length logic.inputs ≡ n) × (MOST_INPUTS < n)
+AreTooManyFor c logic Mem = Unit {0}

@@ -18,15 +18,24 @@ impl Other for Circuit {
 
     ghost Agrees = { λ all other circuit. AreSame (asked all circuit) (asked all other) };
 
-    fn inputs(&self, all: bool) -> u8 {
-        input_count(self, all)
+    ghost room = { λ other. 0 };
+
+    fn inputs(&self, all: bool) -> u32 {
+        u32::from(input_count(self, all))
     }
 
-    fn outputs(&self, all: bool) -> u8 {
-        output_count(self, all)
+    fn outputs(&self, all: bool) -> u32 {
+        u32::from(output_count(self, all))
     }
 
-    fn first_apart(&self, circuit: &Circuit, all: bool, block: u32, count: u32) -> Option<u32> {
+    fn first_apart(
+        &self,
+        circuit: &Circuit,
+        all: bool,
+        block: u32,
+        count: u32,
+        _rows: &mut [Row],
+    ) -> Option<u32> {
         let mut room_a = [Row::ones(); MOST_LINES as usize];
         let mut room_b = [Row::ones(); MOST_LINES as usize];
         let rows_a = &mut room_a[..usize::from(circuit.line_count())];
@@ -56,5 +65,5 @@ pub fn compare_circuits(a: &Circuit, b: &Circuit, all: bool) -> Result<Compariso
     if inputs_b > MOST_INPUTS {
         return Err(CompareFault::SecondInputs(inputs_b));
     }
-    Ok(compare(a, b, all))
+    Ok(compare(a, b, all, &mut []))
 }

@@ -1,5 +1,6 @@
 // The marks of the lines, or none of them.
-ghost use Rattle.std.specs.Prelude.{◌≡◌, ◌≤◌, length};
+ghost use Rattle.std.specs.Prelude.{◌≡◌, ◌≤◌, length, replicate};
+ghost use Rattle.rv_gate.specs.declared.circuit.Mark.TheVariants.{Input};
 ghost use Rattle.rv_gate.specs.Marks.{input_count, output_count, takes_input};
 ghost use Rattle.rv_gate.specs.declared.word.TheConstants.{MOST_LINES};
 ghost use Rattle.rv_compare.specs.Compare.{asked, asked_perm, constants_asked, garbage_asked};
@@ -12,6 +13,14 @@ static INPUTS: [Mark; MOST_LINES as usize] = [Mark::Input; MOST_LINES as usize];
 
 // No line is garbage.
 static OUTPUTS: [bool; MOST_LINES as usize] = [false; MOST_LINES as usize];
+
+// So many lines that each take a bit of the input.
+pub(crate) fn inputs_of(count: usize) -> &'static [Mark]
+    requires { count ≤ MOST_LINES }
+    ensures { result.now ≡ replicate count Input }
+{
+    &INPUTS[..count]
+}
 
 // What is put in on each line; with `all` a bit of the input.
 fn constants_asked(all: bool, constants: &[Mark]) -> &[Mark]

@@ -64,17 +64,26 @@ impl Other for PermSpec {
 
     ghost Agrees = { λ all other circuit. GivesImage (asked all circuit) (asked_perm all other) };
 
-    fn inputs(&self, all: bool) -> u8 {
+    ghost room = { λ other. 0 };
+
+    fn inputs(&self, all: bool) -> u32 {
         self.recall_invariant();
-        inputs_in(perm_constants(self, all))
+        u32::from(inputs_in(perm_constants(self, all)))
     }
 
-    fn outputs(&self, all: bool) -> u8 {
+    fn outputs(&self, all: bool) -> u32 {
         self.recall_invariant();
-        outputs_in(perm_garbage(self, all))
+        u32::from(outputs_in(perm_garbage(self, all)))
     }
 
-    fn first_apart(&self, circuit: &Circuit, all: bool, block: u32, count: u32) -> Option<u32> {
+    fn first_apart(
+        &self,
+        circuit: &Circuit,
+        all: bool,
+        block: u32,
+        count: u32,
+        _rows: &mut [Row],
+    ) -> Option<u32> {
         self.recall_invariant();
         let mut room_a = [Row::ones(); MOST_LINES as usize];
         let mut room_b = [Row::ones(); MOST_PERM_LINES as usize];
@@ -101,5 +110,5 @@ pub fn compare_perm(circuit: &Circuit, spec: &PermSpec, all: bool) -> Comparison
 {
     circuit.recall_invariant();
     spec.recall_invariant();
-    compare(circuit, spec, all)
+    compare(circuit, spec, all, &mut [])
 }

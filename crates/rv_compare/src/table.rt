@@ -51,15 +51,24 @@ impl Other for Pla {
 
     ghost Agrees = { λ all other circuit. GivesAllowed (asked all circuit) other };
 
-    fn inputs(&self, _all: bool) -> u8 {
-        self.inputs()
+    ghost room = { λ other. 0 };
+
+    fn inputs(&self, _all: bool) -> u32 {
+        u32::from(self.inputs())
     }
 
-    fn outputs(&self, _all: bool) -> u8 {
-        self.outputs()
+    fn outputs(&self, _all: bool) -> u32 {
+        u32::from(self.outputs())
     }
 
-    fn first_apart(&self, circuit: &Circuit, all: bool, block: u32, count: u32) -> Option<u32> {
+    fn first_apart(
+        &self,
+        circuit: &Circuit,
+        all: bool,
+        block: u32,
+        count: u32,
+        _rows: &mut [Row],
+    ) -> Option<u32> {
         let mut room = [Row::ones(); MOST_LINES as usize];
         let rows = &mut room[..usize::from(circuit.line_count())];
         let kept = give_outputs(circuit, all, block, rows);
@@ -83,5 +92,5 @@ pub fn compare_table(circuit: &Circuit, pla: &Pla, all: bool) -> Comparison
     circuit.recall_invariant();
     // What it ensures tells what every table keeps.
     let _ = pla.inputs();
-    compare(circuit, pla, all)
+    compare(circuit, pla, all, &mut [])
 }

@@ -9,7 +9,7 @@ use Rattle.rv_faults.specs.declared.fault.Unmade.TheVariants as unmade
 use Rattle.rv_faults.specs.declared.fault.TextFormat.{TextFormat}
 use Rattle.rv_faults.specs.declared.fault.TextFormat.TheVariants.{Real, Permutation, Pla, Qasm, Blif, Words}
 use Rattle.rv_faults.specs.declared.fault.InputFault.{InputFault}
-use Rattle.rv_faults.specs.declared.fault.InputFault.TheVariants.{Text, WrongLength, OutOfRange, Repeated, Conflict, NotToffoli, NotIdentity, NotClassical, WideTemplate, LongTemplate, TooManyLines, TooManyInputs, TooManyGates, TooManyOps, LargeCoefficient}
+use Rattle.rv_faults.specs.declared.fault.InputFault.TheVariants.{Text, WrongLength, OutOfRange, Repeated, Conflict, NotToffoli, NotIdentity, NotClassical, WideTemplate, LongTemplate, TooManyLines, TooManyInputs, TooManyGates, MoreGates, TooManyOps, LargeCoefficient}
 use Rattle.rv_text.specs.declared.lines.TheConstants.{MOST_BYTES}
 use Rattle.rv_perm.specs.declared.perm.TheConstants.{MOST_PERM_LINES}
 use Rattle.rv_real.specs.Code as real
@@ -48,6 +48,7 @@ status_of_input (LongTemplate gates most) = 5
 status_of_input (TooManyLines count most) = 5
 status_of_input (TooManyInputs count most) = 5
 status_of_input (TooManyGates count most) = 5
+status_of_input (MoreGates most) = 5
 status_of_input (TooManyOps count most) = 5
 status_of_input (LargeCoefficient lines word place) = 5
 
@@ -108,6 +109,7 @@ said_of (LongTemplate gates most) = template_of gates (codes " gates is longer t
 said_of (TooManyLines count most) = counted_to count (codes " lines are more than ") most
 said_of (TooManyInputs count most) = counted_to count (codes " inputs are more than ") most
 said_of (TooManyGates count most) = counted_to count (codes " gates are more than ") most
+said_of (MoreGates most) = codes ": more than " ++ (decimal most ++ codes " gates")
 said_of (TooManyOps count most) = counted_to count (codes " operations are more than ") most
 said_of (LargeCoefficient lines word place) =
     codes ": coefficient too large at operation " ++ (decimal place ++ (codes " for word " ++ bits_of lines word))

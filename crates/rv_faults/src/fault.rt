@@ -150,6 +150,10 @@ pub enum InputFault {
         count: u32,
         most: u32,
     },
+    /// More gates are needed than this many.
+    MoreGates {
+        most: u32,
+    },
     /// So many operations are needed, more than a network has.
     TooManyOps {
         count: u32,
@@ -197,6 +201,7 @@ impl InputFault {
             | InputFault::TooManyLines { .. }
             | InputFault::TooManyInputs { .. }
             | InputFault::TooManyGates { .. }
+            | InputFault::MoreGates { .. }
             | InputFault::TooManyOps { .. }
             | InputFault::LargeCoefficient { .. } => 5,
         }

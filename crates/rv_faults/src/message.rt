@@ -103,6 +103,7 @@ fn put_refusal<E: Sink>(writer: &mut Writer, errs: &mut E, why: InputFault)
         InputFault::TooManyGates { count, most } => {
             put_counted(writer, errs, count, b" gates are more than ", most);
         }
+        InputFault::MoreGates { most } => put_more_gates(writer, errs, most),
         InputFault::TooManyOps { count, most } => {
             put_counted(writer, errs, count, b" operations are more than ", most);
         }
@@ -201,6 +202,14 @@ fn put_counted<E: Sink>(writer: &mut Writer, errs: &mut E, count: u32, what: &[u
     writer.put_number(errs, u128::from(count));
     writer.put(errs, what);
     writer.put_number(errs, u128::from(most));
+}
+
+fn put_more_gates<E: Sink>(writer: &mut Writer, errs: &mut E, most: u32)
+    ensures { Adds writer.old (E.view errs.old) (said_of (InputFault.MoreGates most)) writer.new (E.view errs.new) }
+{
+    writer.put(errs, b": more than ");
+    writer.put_number(errs, u128::from(most));
+    writer.put(errs, b" gates");
 }
 
 // A count of a template, and what it may be at most.

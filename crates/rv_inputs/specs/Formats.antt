@@ -15,7 +15,7 @@ use Rattle.rv_pla.specs.declared.fault.PlaFault.TheVariants as pla
 use Rattle.rv_qasm.specs.Reading.{Listing, qasm_of}
 use Rattle.rv_qasm.specs.declared.fault.QasmFault.{QasmFault}
 use Rattle.rv_qasm.specs.declared.fault.QasmFault.TheVariants as qasm
-use Rattle.rv_blif.specs.Logic.{LogicView}
+use Rattle.rv_blif.specs.Logic.{Logic}
 use Rattle.rv_blif.specs.Reading.{logic_of}
 use Rattle.rv_blif.specs.declared.fault.BlifFault.{BlifFault}
 use Rattle.rv_blif.specs.declared.fault.BlifFault.TheVariants as blif
@@ -80,7 +80,7 @@ abbrev pub program : Format Listing
 program = format qasm_of no_program
 
 -- BLIF
-abbrev pub logic : Format LogicView
+abbrev pub logic : Format Logic
 logic = format logic_of no_logic
 
 -- ---- the input of this number

@@ -1,22 +1,26 @@
--- `compare`: whether a circuit has the function of another circuit or of a permutation, or one that a table allows.
-use Rattle.std.specs.Prelude.{◌≡◌, ◌↔◌, ℕ, Bool, true, false, List, [], ◌∷◌, ◌++◌, ◌==◌, if◌then◌else◌, codes, decimal}
+-- `compare`: whether a circuit has the function of another circuit, a permutation or a logic network, or one that a table allows.
+use Rattle.std.specs.Prelude.{◌≡◌, ◌↔◌, ℕ, Bool, true, false, List, [], ◌∷◌, ◌++◌, ◌==◌, if◌then◌else◌, length, codes, decimal}
 use Rattle.rv_gate.specs.Circuit.{Cascade}
 use Rattle.rv_gate.specs.Marks.{input_count}
 use Rattle.rv_perm.specs.Marked.{Marked}
 use Rattle.rv_pla.specs.Pla.{TwoLevel}
-use Rattle.rv_compare.specs.Compare.{AreSame, GivesAllowed, GivesImage, HasFewInputs, IsAnswer, Size, asked, asked_perm, circuits_answer, perm_answer, size_by, size_for, size_of, table_answer}
+use Rattle.rv_blif.specs.Logic.{Logic}
+use Rattle.rv_compare.specs.Compare.{AreSame, GivesAllowed, GivesImage, GivesOutputs, HasFewInputs, IsAnswer, Size, asked, asked_perm}
+use Rattle.rv_compare.specs.Compare.{circuits_answer, logic_answer, perm_answer, size_by, size_for, size_in, size_of, table_answer}
 use Rattle.rv_compare.specs.declared.comparison.TheConstants.{MOST_INPUTS}
 use Rattle.rv_compare.specs.declared.comparison.CompareFault.{CompareFault}
 use Rattle.rv_compare.specs.declared.comparison.CompareFault.TheVariants.{FirstInputs, SecondInputs}
+use Rattle.rv_compare.specs.declared.comparison.LogicFault.{LogicFault}
+use Rattle.rv_compare.specs.declared.comparison.LogicFault.TheVariants.{CircuitInputs, LogicInputs, Mem}
 use Rattle.rv_compare.specs.declared.comparison.Comparison.{Comparison}
 use Rattle.rv_compare.specs.declared.comparison.Comparison.TheVariants.{Differs, Inputs, Outputs, Same}
 use Rattle.rv_faults.specs.Fault.{bits_of}
 use Rattle.rv_faults.specs.declared.fault.InputFault.TheVariants.{TooManyInputs}
 use Rattle.rv_faults.specs.declared.fault.Refusal.{Refusal}
-use Rattle.rv_faults.specs.declared.fault.Refusal.TheVariants.{Refused}
+use Rattle.rv_faults.specs.declared.fault.Refusal.TheVariants.{OutOfMemory, Refused}
 use Rattle.rv_words.specs.declared.command.Form.{Form}
 use Rattle.rv_words.specs.declared.command.Form.TheVariants as form
-use Rattle.rv_inputs.specs.Formats.{circuit, permutation, table}
+use Rattle.rv_inputs.specs.Formats.{circuit, logic, permutation, table}
 use Rattle.rv_cmd.specs.Limits.{Limit, LimitedText, at_most, unlimited}
 use Rattle.rv_cmd.specs.Row.{ReadsFirst, two}
 
@@ -30,6 +34,11 @@ of_inputs input c = at_most input (input_count c.constants) MOST_INPUTS (TooMany
 abbrev pub compare_limits : Cascade → Cascade → List Limit
 compare_limits a b = of_inputs 0 a ∷ of_inputs 1 b ∷ []
 
+-- the circuit's inputs, then the network's
+abbrev pub logic_limits : Cascade → Logic → List Limit
+logic_limits c network =
+    of_inputs 0 c ∷ at_most 1 (length network.inputs) MOST_INPUTS (TooManyInputs (length network.inputs) MOST_INPUTS) ∷ []
+
 -- By `LimitsInTerms` these limits are kept exactly if:
 pub record CanBeCompared (a b : Cascade) : Type 0 where
   pub first : HasFewInputs a
@@ -39,6 +48,11 @@ pub record CanBeCompared (a b : Cascade) : Type 0 where
 abbrev pub no_answer : CompareFault → Refusal
 no_answer (FirstInputs count) = Refused 0 (TooManyInputs count MOST_INPUTS)
 no_answer (SecondInputs count) = Refused 1 (TooManyInputs count MOST_INPUTS)
+
+abbrev pub no_logic_answer : LogicFault → Refusal
+no_logic_answer (CircuitInputs count) = Refused 0 (TooManyInputs count MOST_INPUTS)
+no_logic_answer (LogicInputs count) = Refused 1 (TooManyInputs count MOST_INPUTS)
+no_logic_answer Mem = OutOfMemory
 
 -- ---- the report
 
@@ -104,6 +118,18 @@ table_differs c pla = says_apart (table_answer c pla)
 abbrev pub TellsTable : Cascade → TwoLevel → List ℕ → Type 0
 TellsTable c pla = TellsComparison (size_of c) (size_for pla) (GivesAllowed c pla) (table_answer c pla)
 
+-- ---- a circuit and a logic network: the circuit gives the network's outputs
+
+abbrev pub logic_report : Cascade → Logic → LimitedText
+logic_report c network =
+    record { limits = logic_limits c network; text = comparison_text (input_count c.constants) (logic_answer c network) }
+
+abbrev pub logic_differs : Cascade → Logic → Bool
+logic_differs c network = says_apart (logic_answer c network)
+
+abbrev pub TellsLogic : Cascade → Logic → List ℕ → Type 0
+TellsLogic c network = TellsComparison (size_of c) (size_in network) (GivesOutputs c network) (logic_answer c network)
+
 -- ---- the row: both as they are compared, by their marks or on all lines
 
 -- what is said of a circuit and another side
@@ -116,6 +142,9 @@ with_perm said all c m = said (asked all c) (asked_perm all m)
 abbrev pub with_table : {X : Type 0} → (Cascade → TwoLevel → X) → Bool → Cascade → TwoLevel → X
 with_table said all c pla = said (asked all c) pla
 
+abbrev pub with_logic : {X : Type 0} → (Cascade → Logic → X) → Bool → Cascade → Logic → X
+with_logic said all c network = said (asked all c) network
+
 -- what the text means
 abbrev pub MeansCircuits : Bool → Cascade → Cascade → List ℕ → Type 0
 MeansCircuits all a b = TellsCircuits (asked all a) (asked all b)
@@ -126,8 +155,12 @@ MeansPerm all c m = TellsPerm (asked all c) (asked_perm all m)
 abbrev pub MeansTable : Bool → Cascade → TwoLevel → List ℕ → Type 0
 MeansTable all c pla = TellsTable (asked all c) pla
 
+abbrev pub MeansLogic : Bool → Cascade → Logic → List ℕ → Type 0
+MeansLogic all c network = TellsLogic (asked all c) network
+
 -- by the form of the second input
 abbrev pub compare_row : Form → Bool → ReadsFirst
 compare_row form.Pla all = two circuit table (with_table table_report all) (with_table table_differs all) (MeansTable all)
 compare_row form.Perm all = two circuit permutation (with_perm perm_report all) (with_perm perm_differs all) (MeansPerm all)
+compare_row form.Blif all = two circuit logic (with_logic logic_report all) (with_logic logic_differs all) (MeansLogic all)
 compare_row _ all = two circuit circuit (with_circuit circuits_report all) (with_circuit circuits_differ all) (MeansCircuits all)

@@ -1,7 +1,8 @@
 ghost use Rattle.std.specs.Prelude.{◌≡◌, length};
 ghost use Rattle.rv_io.specs.Sink.{Sends};
 ghost use Rattle.rv_io.specs.Writer.{Adds};
-ghost use Rattle.rv_cmd.specs.Commands.Compare.{MeansCircuits, MeansPerm, MeansTable, circuits_differ, circuits_report};
+ghost use Rattle.rv_cmd.specs.Commands.Compare.{MeansCircuits, MeansLogic, MeansPerm, MeansTable, circuits_differ};
+ghost use Rattle.rv_cmd.specs.Commands.Compare.{circuits_report, logic_differs, logic_report, no_logic_answer, with_logic};
 ghost use Rattle.rv_cmd.specs.Commands.Compare.{compare_row, comparison_said, comparison_text, counts_said};
 ghost use Rattle.rv_cmd.specs.Commands.Compare.{differs_said, no_answer, perm_differs, perm_report, says_apart};
 ghost use Rattle.rv_cmd.specs.Commands.Compare.{table_differs, table_report, with_circuit, with_perm, with_table};
@@ -10,9 +11,10 @@ ghost use Rattle.rv_cmd.specs.inside.Making.{Makes};
 
 use crate::making::{TwoInputs, of_two};
 use crate::product::{Made, Product};
+use rv_blif::{BlifReader, Logic};
 use rv_compare::{
-    CompareFault, Comparison, MOST_INPUTS, compare_circuits, compare_perm, compare_table,
-    input_count,
+    CompareFault, Comparison, LogicFault, MOST_INPUTS, compare_circuits, compare_logic,
+    compare_perm, compare_table, input_count,
 };
 use rv_faults::{InputFault, Refusal, Unmade, put_bits};
 use rv_gate::Circuit;
@@ -23,7 +25,8 @@ use rv_real::RealReader;
 use rv_words::{Form, Settings};
 use std::alloc::Global;
 
-/// Whether a circuit has the function of another circuit or of a permutation, or one that a table allows.
+/// Whether a circuit has the function of another circuit, a permutation or a logic network, or one that a table
+/// allows.
 pub(crate) fn compare<F: Files>(
     alloc: Global,
     settings: &Settings,
@@ -37,6 +40,7 @@ pub(crate) fn compare<F: Files>(
     match settings.origin {
         Form::Pla => of_two(alloc, settings, files, &WithTable { all }),
         Form::Perm => of_two(alloc, settings, files, &WithPerm { all }),
+        Form::Blif => of_two(alloc, settings, files, &WithLogic { all }),
         _ => of_two(alloc, settings, files, &WithCircuit { all }),
     }
 }
@@ -114,6 +118,30 @@ impl TwoInputs for WithTable {
     }
 }
 
+#[derive(Clone, Copy)]
+struct WithLogic {
+    all: bool,
+}
+
+impl TwoInputs for WithLogic {
+    type First = RealReader;
+
+    type Second = BlifReader;
+
+    ghost report = { λ command. with_logic logic_report command.all };
+
+    ghost differs = { λ command. with_logic logic_differs command.all };
+
+    ghost Means = { λ command. MeansLogic command.all };
+
+    fn make(&self, alloc: Global, circuit: &Circuit, network: &Logic) -> Result<Made, Refusal> {
+        match compare_logic(alloc, circuit, network, self.all) {
+            Ok(answer) => Ok(told(input_count(circuit, self.all), answer)),
+            Err(fault) => Err(no_logic_answer(fault)),
+        }
+    }
+}
+
 // The answer on a circuit with so many inputs, as it is to be written.
 fn told(inputs: u8, answer: Comparison) -> Made
     ensures product { result.product ≡ Product.Comparison inputs answer }
@@ -155,6 +183,26 @@ fn no_answer(fault: CompareFault) -> Refusal
                 most,
             },
         },
+    }
+}
+
+fn no_logic_answer(fault: LogicFault) -> Refusal
+    ensures { result ≡ no_logic_answer fault }
+{
+    let most = MOST_INPUTS;
+    match fault {
+        LogicFault::CircuitInputs(count) => Refusal::Refused {
+            input: 0,
+            why: InputFault::TooManyInputs {
+                count: u32::from(count),
+                most,
+            },
+        },
+        LogicFault::LogicInputs(count) => Refusal::Refused {
+            input: 1,
+            why: InputFault::TooManyInputs { count, most },
+        },
+        LogicFault::Mem => Refusal::OutOfMemory,
     }
 }
 
@@ -201,7 +249,7 @@ fn put_differs<O: Sink>(writer: &mut Writer, out: &mut O, inputs: u8, word: u32)
 }
 
 // Both counts.
-fn put_counts<O: Sink>(writer: &mut Writer, out: &mut O, what: &[u8], first: u8, second: u8)
+fn put_counts<O: Sink>(writer: &mut Writer, out: &mut O, what: &[u8], first: u32, second: u32)
     ensures { Adds writer.old (O.view out.old) (counts_said what.now first second) writer.new (O.view out.new) }
 {
     writer.put(out, what);

@@ -11,6 +11,8 @@ use Rattle.rv_gate.proofs.Words.{same_word-is, same_word-true}
 use Rattle.rv_perm.specs.Marked.{Marked}
 use Rattle.rv_pla.specs.FreeEntries.{allows}
 use Rattle.rv_pla.specs.Pla.{TwoLevel, entry}
+use Rattle.rv_blif.specs.Logic.{Logic, outputs_of}
+use Rattle.rv_compare.specs.Compare.{LogicAnswer, logic_answer, size_in}
 use Rattle.rv_compare.specs.Compare.{CircuitsAnswer, GivesAllowed, IsAnswer, PermAnswer, Size, TableAnswer, answer_by, circuits_answer, function_by, function_of, gives_allowed, of_failing, perm_answer, size_by, size_for, size_of, table_answer}
 use Rattle.rv_compare.specs.declared.comparison.Comparison.TheVariants.{Inputs, Outputs}
 use Rattle.rv_compare.proofs.inside.Least.{at_each_word}
@@ -85,3 +87,6 @@ perm_answer-is c m = answer_is (size_of c) (size_by m) _ _ (λ x. same_word-deci
 
 pub table_answer-is : (c : Cascade) (pla : TwoLevel) → TableAnswer c pla (table_answer c pla)
 table_answer-is c pla = answer_is (size_of c) (size_for pla) _ _ (allowed-decides c pla)
+
+pub logic_answer-is : (c : Cascade) (logic : Logic) → LogicAnswer c logic (logic_answer c logic)
+logic_answer-is c logic = answer_is (size_of c) (size_in logic) _ _ (λ x. same_word-decides (function_of c x) (outputs_of logic x))
