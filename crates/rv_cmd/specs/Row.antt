@@ -1,4 +1,4 @@
--- What a command does with the contents of its inputs: a row of one of four kinds.
+-- What a command does with the contents of its inputs: a row of one of five kinds.
 use Rattle.std.specs.Prelude.{◌≡◌, ℕ, Bool, false, List, [], if◌then◌else◌, Result, Ok, Err}
 use Rattle.rv_io.specs.Files.{FilesView}
 use Rattle.rv_reader.specs.Rules.{◌>>=◌}

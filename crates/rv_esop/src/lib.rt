@@ -11,4 +11,4 @@ mod lines;
 mod shared;
 
 pub use circuit::{EsopFault, cascade};
-pub use shared::shared_cascade;
+pub use shared::{is_no_dearer, shared_cascade};

@@ -29,7 +29,7 @@ pub compute-answers : (most : ℕ) (network : Logic) (circuit : Cascade) → IsC
 compute-answers most network circuit valid computed gives lines = record {
   kept = tt;
   is = refl;
-  means = record { circuit = circuit; read_back = read_back circuit valid; computed = computed; gives = gives; lines = lines };
+  means = record { circuit = circuit; is = refl; read_back = read_back circuit valid; computed = computed; gives = gives; lines = lines };
 }
 
 -- nothing is

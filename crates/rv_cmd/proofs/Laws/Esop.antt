@@ -157,21 +157,24 @@ no_worse-self goal cubes few = record { lighter = omega arith; few = few-self go
 
 -- the code found this circuit, on these lines, for this list
 pub found-cascade : (goal : Goal) (pla : TwoLevel) (list : Esop) (circuit : circuits.Cascade) → flip_count (reduced_list pla) ≤ MOST_GATES → IsFound goal pla list
-    → IsOnLines list.inputs list.outputs circuit → Adds list circuit → cost_of goal circuit.gates ≤ cost_of goal (cascade_of list).gates → circuits.IsCascade circuit
+    → IsOnLines list.inputs list.outputs circuit → Adds list circuit → cost_of goal circuit.gates ≤ cost_of goal (cascade_of list).gates
+    → cost_of goal circuit.gates ≤ cost_of goal (cascade_of (reduced_list pla)).gates → circuits.IsCascade circuit
     → IsProductOf (found_within (cascade_report (reduced_list pla)).limits (text_of circuit)) (IsFoundCascade goal pla) (Circuit circuit)
-found-cascade goal pla list circuit few found lines adds cheap valid =
+found-cascade goal pla list circuit few found lines adds cheap cheaper valid =
     let on : IsOnLines pla.inputs pla.outputs circuit = lines ∙ ap₂ (λ (i o : ℕ). record (esop_lines i o) { gates = circuit.gates }) found.inputs found.outputs in
     record {
       kept = (few, tt);
       is = refl;
       means = record {
         circuit = circuit;
+        is = refl;
         read_back = read_back circuit valid;
         lines = on;
         list = list;
         found = found;
         adds = adds;
         no_dearer = cheap;
+        no_dearer_than_reduced = cheaper;
         gives = subst (Gives pla) (sym on) (cascade-gives pla list circuit.gates found.inputs found.outputs found.right (subst (Adds list) on adds));
       };
     }
@@ -191,7 +194,8 @@ found-plain goal pla list circuit is right bounded few made adds valid =
     } in
     found-cascade goal pla list circuit (subst Few is few) (subst Found (sym is) found)
     (made ∙ ap (λ (c : circuits.Cascade). record (esop_lines list.inputs list.outputs) { gates = c.gates }) (sym made)) adds
-    (omega (arith, ap (λ (c : circuits.Cascade). cost_of goal c.gates) made)) valid
+    (omega (arith, ap (λ (c : circuits.Cascade). cost_of goal c.gates) made))
+    (omega (arith, ap (λ (c : circuits.Cascade). cost_of goal c.gates) made, ap (λ (e : Esop). cost_of goal (cascade_of e).gates) is)) valid
 
 -- the code found this list
 pub found-list : (goal : Goal) (pla : TwoLevel) (list : Esop) → IsFound goal pla list → IsEsop list
@@ -205,6 +209,7 @@ found-list goal pla list found valid =
       is = refl;
       means = record {
         list = list;
+        is = refl;
         found = found;
         back = b.back;
         read_back = b.is;

@@ -17,5 +17,5 @@ reduce-answers listing net reduced own reduction =
     let Reduction : Network → Type 0 = λ n. IsReductionOf n reduced in record {
       kept = tt;
       is = refl;
-      means = record { net = reduced; read_back = read-back reduced reduction.keeps.valid; reduction = subst Reduction own reduction };
+      means = record { net = reduced; is = refl; read_back = read-back reduced reduction.keeps.valid; reduction = subst Reduction own reduction };
     }

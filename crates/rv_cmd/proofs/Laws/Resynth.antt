@@ -18,7 +18,7 @@ pub resynth-answers : (goal : Goal) (c new : Cascade) → IsCascade new → IsRe
 resynth-answers goal c new valid resynthesis = record {
   kept = tt;
   is = refl;
-  means = record { new = new; read_back = read_back new valid; resynthesis = resynthesis };
+  means = record { new = new; is = refl; read_back = read_back new valid; resynthesis = resynthesis };
 }
 
 -- by the marks there are few inputs
@@ -27,5 +27,5 @@ pub marks-answers : (goal : Goal) (c new : Cascade) → IsCascade new → input_
 marks-answers goal c new valid few resynthesis = record {
   kept = (few, tt);
   is = refl;
-  means = record { new = new; read_back = read_back new valid; resynthesis = resynthesis };
+  means = record { new = new; is = refl; read_back = read_back new valid; resynthesis = resynthesis };
 }

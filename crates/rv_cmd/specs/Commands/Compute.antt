@@ -8,6 +8,7 @@ use Rattle.rv_compute.specs.Computed.{Gives, IsComputed}
 use Rattle.rv_compute.specs.declared.circuit.ComputeFault.{ComputeFault}
 use Rattle.rv_compute.specs.declared.circuit.ComputeFault.TheVariants as fault
 use Rattle.rv_real.specs.Reading.{real_of}
+use Rattle.rv_real.specs.Text.{text_of}
 use Rattle.rv_faults.specs.declared.fault.InputFault.{InputFault}
 use Rattle.rv_faults.specs.declared.fault.InputFault.TheVariants.{MoreGates, TooManyLines}
 use Rattle.rv_faults.specs.declared.fault.Refusal.{Refusal}
@@ -43,6 +44,7 @@ EndsInVain most network OutOfMemory = ⊥
 -- each input word.
 pub record IsComputation (most : ℕ) (network : Logic) (text : List ℕ) : Type 0 where
   pub circuit : Cascade
+  pub is : text ≡ text_of circuit
   pub read_back : real_of text ≡ Ok circuit
   pub computed : IsComputed network circuit
   pub gives : Gives network circuit

@@ -2,7 +2,7 @@
 use Rattle.std.specs.Prelude.{◌≡◌, ◌==◌, ℕ, Bool, List, Option, Some, if◌then◌else◌}
 use Rattle.rv_gate.specs.Circuit.{Cascade}
 use Rattle.rv_gate.specs.Gate.{run}
-use Rattle.rv_gate.specs.declared.circuit.TheConstants.{MOST_GATES}
+use Rattle.rv_net.specs.declared.net.TheConstants.{MOST_OPS}
 use Rattle.rv_net.specs.declared.op.Op.{Op}
 use Rattle.rv_qasm.specs.Reading.{Listing}
 use Rattle.rv_draw.specs.declared.symbol.Symbol.{Symbol}
@@ -23,9 +23,9 @@ use Rattle.rv_inputs.specs.Formats.{circuit, program}
 use Rattle.rv_cmd.specs.Limits.{LimitedText, unlimited}
 use Rattle.rv_cmd.specs.Row.{ReadsFirst, one}
 
--- how many gates a block has at the most; by 0 all gates stand in one
+-- how many gates or operations a block has at the most; by 0 all stand in one
 abbrev pub per_block : ℕ → ℕ
-per_block wrap = if wrap == 0 then MOST_GATES else wrap
+per_block wrap = if wrap == 0 then MOST_OPS else wrap
 
 -- the text of a picture in a form, of gates that draw these symbols on a circuit's lines
 abbrev pub picture_text : {G : Type 0} → PictureForm → (G → ℕ → Symbol) → ℕ → Cascade → List G → List ℕ
@@ -59,16 +59,14 @@ network_report picture wrap listing =
     unlimited (network_text picture wrap (network_lines listing.net.lines) listing.net.ops)
 
 -- Read column by column, the text shows the circuit: its labels, constants and garbage, and its gates (a swap's lines
--- from the top),
--- which do the same to every word.
+-- from the top), which do the same to every word.
 pub record IsDrawing (picture : PictureForm) (wrap : ℕ) (c : Cascade) (text : List ℕ) : Type 0 where
   pub shows : shown_in picture gate_of text ≡ Some (picture_of c)
   pub same : (word : List Bool) → run (picture_of c).gates word ≡ run c.gates word
   pub laid_out : StandsInRows picture wrap text
 
 -- Read column by column, the text shows the network: its operations in their order, one a column (lines that may be
--- exchanged from the
--- top).
+-- exchanged from the top).
 pub record IsNetworkDrawing (picture : PictureForm) (wrap : ℕ) (listing : Listing) (text : List ℕ) : Type 0 where
   pub shows : shown_in picture op_of text ≡ Some (network_picture (network_lines listing.net.lines) listing.net.ops)
   pub laid_out : StandsInRows picture wrap text

@@ -88,20 +88,23 @@ found_limits _ pla = (cascade_report (reduced_list pla)).limits
 
 -- Read back, the text is a circuit on the lines of the cascade. It keeps the inputs and adds the value of a list of cubes, which is no
 -- worse by the goal than the reduced list, and whose value has the bit of each entry that isn't free. So the circuit gives what the PLA
--- asks. By the goal it costs no more than the cascade of that list.
+-- asks. By the goal it costs no more than the cascade of that list, and no more than that of the reduced one.
 pub record IsFoundCascade (goal : Goal) (pla : TwoLevel) (text : List ℕ) : Type 0 where
   pub circuit : Cascade
+  pub is : text ≡ text_of circuit
   pub read_back : real_of text ≡ Ok circuit
   pub lines : IsOnLines pla.inputs pla.outputs circuit
   pub list : Esop
   pub found : IsFound goal pla list
   pub adds : Adds list circuit
   pub no_dearer : cost_of goal circuit.gates ≤ cost_of goal (cascade_of list).gates
+  pub no_dearer_than_reduced : cost_of goal circuit.gates ≤ cost_of goal (cascade_of (reduced_list pla)).gates
   pub gives : Gives pla circuit
 
 -- Read back, the text is a PLA of type esop with the cubes of such a list. Its function has the bit of each entry that isn't free.
 pub record IsFoundList (goal : Goal) (pla : TwoLevel) (text : List ℕ) : Type 0 where
   pub list : Esop
+  pub is : text ≡ esop_text list.inputs list.outputs list.cubes
   pub found : IsFound goal pla list
   pub back : TwoLevel
   pub read_back : pla_of text ≡ Ok back

@@ -3,6 +3,7 @@ use Rattle.std.specs.Prelude.{◌≡◌, ℕ, List, [], Ok}
 use Rattle.rv_net.specs.Op.{Network}
 use Rattle.rv_reduce.specs.Reduced.{IsReductionOf}
 use Rattle.rv_qasm.specs.Reading.{Listing, in_register_q, qasm_of}
+use Rattle.rv_qasm.specs.Text.{text_of}
 use Rattle.rv_inputs.specs.Formats.{program}
 use Rattle.rv_cmd.specs.Limits.{Limit}
 use Rattle.rv_cmd.specs.Row.{ReadsFirst, always, finds}
@@ -16,6 +17,7 @@ reduce_limits listing = []
 -- carried still is.
 pub record IsReduced (listing : Listing) (text : List ℕ) : Type 0 where
   pub net : Network
+  pub is : text ≡ text_of net
   pub read_back : qasm_of text ≡ Ok (in_register_q net)
   pub reduction : IsReductionOf listing.net net
 

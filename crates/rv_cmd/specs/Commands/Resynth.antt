@@ -7,6 +7,7 @@ use Rattle.rv_resynth.specs.declared.goal.Goal.TheVariants.{Gates, Quantum, T}
 use Rattle.rv_words.specs.declared.command.Goal.TheVariants as wish
 use Rattle.rv_words.specs.declared.command.Goal as wishes
 use Rattle.rv_real.specs.Reading.{real_of}
+use Rattle.rv_real.specs.Text.{text_of}
 use Rattle.rv_inputs.specs.Formats.{circuit}
 use Rattle.rv_cmd.specs.Commands.Compare.{of_inputs}
 use Rattle.rv_cmd.specs.Limits.{Limit}
@@ -29,12 +30,14 @@ resynth_limits false c = []
 -- goal counts no more of it.
 pub record IsResynthesized (goal : Goal) (c : Cascade) (text : List ℕ) : Type 0 where
   pub new : Cascade
+  pub is : text ≡ text_of new
   pub read_back : real_of text ≡ Ok new
   pub resynthesis : IsResynthesis goal c new
 
 -- By the marks it gives the same at each word of the inputs: with constants put in, and garbage left out.
 pub record IsResynthesizedByMarks (goal : Goal) (c : Cascade) (text : List ℕ) : Type 0 where
   pub new : Cascade
+  pub is : text ≡ text_of new
   pub read_back : real_of text ≡ Ok new
   pub resynthesis : IsResynthesisByMarks goal c new
 

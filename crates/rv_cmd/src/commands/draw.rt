@@ -15,10 +15,10 @@ use crate::names::name_of;
 use crate::product::{Made, Product};
 use rv_draw::{write_drawing, write_network};
 use rv_faults::{Refusal, Unmade};
-use rv_gate::{Circuit, MOST_GATES};
+use rv_gate::Circuit;
 use rv_inputs::read_one;
 use rv_io::{Files, Sink, WriteFault};
-use rv_net::Net;
+use rv_net::{MOST_OPS, Net};
 use rv_picture::{latex_circuit, latex_network, network_lines, svg_circuit, svg_network};
 use rv_qasm::{Program, QasmReader};
 use rv_real::RealReader;
@@ -126,7 +126,7 @@ fn per_block(wrap: u16) -> usize
     ensures some { 1 ≤ result }
 {
     if wrap == 0 {
-        MOST_GATES
+        MOST_OPS
     } else {
         usize::from(wrap)
     }

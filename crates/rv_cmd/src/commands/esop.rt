@@ -13,7 +13,7 @@ use crate::making::{OneInput, OneSearch, found_of_one, of_one};
 use crate::product::{Made, Product};
 use crate::refusals::too_many_gates;
 use rv_cube::CubeList;
-use rv_esop::{EsopFault, cascade, shared_cascade};
+use rv_esop::{EsopFault, cascade, is_no_dearer, shared_cascade};
 use rv_exorlink::{Goal, found_list};
 use rv_faults::{Refusal, Unmade};
 use rv_io::Files;
@@ -127,7 +127,7 @@ impl Found {
     }
 
     // The circuit of that list. The cascade of the reduced list has to have few gates enough, and is taken if the other
-    // has too many.
+    // has too many or is dearer.
     fn circuit(&self, alloc: Global, pla: &Pla) -> Result<Product, Refusal>
         ensures made { IfOk result
             (λ product. IsProductOf (found_within (cascade_report (reduced_list pla.now)).limits (product_text product))
@@ -150,8 +150,13 @@ impl Found {
         };
         match shared_cascade(alloc, &list, self.goal, self.effort, self.seed) {
             Ok(circuit) => {
-                circuit.recall_invariant();
-                Ok(Product::Circuit(circuit))
+                if is_no_dearer(&circuit, &reduced, self.goal) {
+                    circuit.recall_invariant();
+                    Ok(Product::Circuit(circuit))
+                } else {
+                    plain.recall_invariant();
+                    Ok(Product::Circuit(plain))
+                }
             }
             Err(EsopFault::TooManyGates(_)) => {
                 plain.recall_invariant();
