@@ -1,16 +1,17 @@
 # fish completion for rev: copy this file to ~/.config/fish/completions/
 # >>> fish
-set -l commands embed esop synth single templates resynth decompose route compare simulate draw map fold reduce check toreal cost flow demo
+set -l commands embed esop compute synth single templates resynth decompose route compare simulate draw map fold reduce check toreal cost flow demo
 complete -c rev -n "not __fish_seen_subcommand_from $commands" -f
 complete -c rev -n "not __fish_seen_subcommand_from $commands" -a embed -d 'a permutation that gives a function, on few lines'
 complete -c rev -n "not __fish_seen_subcommand_from $commands" -a esop -d 'a cascade that adds a function, or its sum of products'
+complete -c rev -n "not __fish_seen_subcommand_from $commands" -a compute -d 'a circuit for a logic network, found by a search'
 complete -c rev -n "not __fish_seen_subcommand_from $commands" -a synth -d 'a circuit that computes a permutation'
 complete -c rev -n "not __fish_seen_subcommand_from $commands" -a single -d 'a circuit of single-target gates that computes a permutation'
 complete -c rev -n "not __fish_seen_subcommand_from $commands" -a templates -d 'a circuit simplified by pairs and templates'
 complete -c rev -n "not __fish_seen_subcommand_from $commands" -a resynth -d 'a circuit that does the same and is no dearer, found by a search'
 complete -c rev -n "not __fish_seen_subcommand_from $commands" -a decompose -d 'a circuit of NOT, CNOT and Toffoli gates that does the same'
 complete -c rev -n "not __fish_seen_subcommand_from $commands" -a route -d 'a circuit that does the same, by gates on neighbouring lines'
-complete -c rev -n "not __fish_seen_subcommand_from $commands" -a compare -d 'whether a circuit gives what another, a table or a permutation asks'
+complete -c rev -n "not __fish_seen_subcommand_from $commands" -a compare -d 'whether a circuit gives what another, a table, a permutation or a logic network asks'
 complete -c rev -n "not __fish_seen_subcommand_from $commands" -a simulate -d 'what a circuit makes of words'
 complete -c rev -n "not __fish_seen_subcommand_from $commands" -a draw -d 'a circuit or a network drawn as text, SVG or LaTeX'
 complete -c rev -n "not __fish_seen_subcommand_from $commands" -a map -d 'the network of a circuit, with exact amplitudes'
@@ -23,9 +24,10 @@ complete -c rev -n "not __fish_seen_subcommand_from $commands" -a flow -d 'the n
 complete -c rev -n "not __fish_seen_subcommand_from $commands" -a demo -d 'what each step makes of a generated permutation'
 complete -c rev -n '__fish_seen_subcommand_from cost draw' -l from -x -a 'real qasm' -d 'the form that is read'
 complete -c rev -n '__fish_seen_subcommand_from flow' -l from -x -a 'pla perm' -d 'the form that is read'
-complete -c rev -n '__fish_seen_subcommand_from compare' -l from -x -a 'real pla perm' -d 'the form of the second input'
+complete -c rev -n '__fish_seen_subcommand_from compare' -l from -x -a 'real pla perm blif' -d 'the form of the second input'
 complete -c rev -n '__fish_seen_subcommand_from esop' -l to -x -a 'real pla' -d 'the form that is written'
-complete -c rev -n '__fish_seen_subcommand_from synth flow' -l method -x -a 'best out both' -d 'how the gates are found'
+complete -c rev -n '__fish_seen_subcommand_from synth' -l method -x -a 'best out both' -d 'how the gates are found'
+complete -c rev -n '__fish_seen_subcommand_from flow' -l method -x -a 'best out both single' -d 'how the circuit is found: by transformations, or by single-target gates'
 complete -c rev -n '__fish_seen_subcommand_from templates' -l library -r -F -d 'a circuit that is one more template, after the built-in ones'
 complete -c rev -n '__fish_seen_subcommand_from flow' -l simplify -d 'the circuit is simplified by pairs and the built-in templates before it is decomposed'
 complete -c rev -n '__fish_seen_subcommand_from map flow' -l blocks -x -a 'exact relative toffoli' -d 'blocks of their own for each gate, blocks whose phases cancel, or the Toffoli gates themselves'
@@ -33,6 +35,7 @@ complete -c rev -n '__fish_seen_subcommand_from decompose map flow' -l aux -x -a
 complete -c rev -n '__fish_seen_subcommand_from simulate compare' -l all -d 'all lines are inputs and outputs, whatever their marks'
 complete -c rev -n '__fish_seen_subcommand_from draw' -l as -x -a 'text svg latex' -d 'the form of the drawing'
 complete -c rev -n '__fish_seen_subcommand_from draw' -l wrap -x -d 'how many gates a block of the drawing has, 1 to 65535, or 0 for one block of all'
+complete -c rev -n '__fish_seen_subcommand_from compute' -l lines -x -d 'how many lines the circuit may have, 1 to 64'
 complete -c rev -n '__fish_seen_subcommand_from demo' -l lines -x -d 'how many lines the permutation has, 1 to 8'
 complete -c rev -n '__fish_seen_subcommand_from esop' -l goal -x -a 'cubes gates quantum t' -d 'what a search is to make small; without it there is no search'
 complete -c rev -n '__fish_seen_subcommand_from resynth' -l goal -x -a 'quantum t gates' -d 'what the search is to make small'
