@@ -1,7 +1,7 @@
 -- The column that a gate draws shows the gate.
-use Rattle.std.proofs.Common.{◌≡◌, ◌≢◌, ℕ, ◌<◌, ◌≤◌, Bool, true, false, ◌||◌, List, [], ◌∷◌, map, nat_eq, Some, refl}
+use Rattle.std.proofs.Common.{◌≡◌, ◌≢◌, ℕ, zero, suc, ◌+◌, ◌<◌, ◌≤◌, Bool, if◌then◌else◌, true, false, ◌||◌, List, [], ◌∷◌, map, nat_eq, Some, refl}
 use Rattle.std.proofs.Common.{sym, ap, ◌∙◌, inl, inr, arith, ne_eqb, true≢false}
-use Rattle.std.specs.List.{range_with_len}
+use Rattle.std.specs.List.{list_all, range_with_len}
 use Rattle.std.proofs.lemmas.Bool.{cases_Bool, cases_lt, eqb-true, le-ltb, lt-ltb, or_left}
 use Rattle.rv_gate.specs.Word.{has}
 use Rattle.rv_gate.specs.Gate.{FitsIn, IsGate, touched}
@@ -10,10 +10,10 @@ use Rattle.rv_gate.specs.declared.gate.Shape.TheVariants.{Flip, Swap, Peres}
 use Rattle.rv_gate.proofs.inside.GateLemmas.{has-touched, fits_flip, fits_swap_a, fits_swap_b, fits_peres_a}
 use Rattle.rv_gate.proofs.inside.GateLemmas.{fits_peres_b, fits_peres_c}
 use Rattle.rv_draw.specs.declared.symbol.Symbol.{Symbol}
-use Rattle.rv_draw.specs.declared.symbol.Symbol.TheVariants.{Target, Exchanged}
+use Rattle.rv_draw.specs.declared.symbol.Symbol.TheVariants.{Wire, Crossing, Positive, Negative, Target, Exchanged, Middle}
 use Rattle.rv_draw.specs.Symbols.{is_between, symbol_on}
 use Rattle.rv_draw.specs.Reading.{gate_with, gate_of, from_top, peres_from, places, lines_with, is_control, is_positive}
-use Rattle.rv_draw.specs.Reading.{is_target, is_exchanged, is_middle, is_touched, are_right}
+use Rattle.rv_draw.specs.Reading.{is_target, is_exchanged, is_middle, is_of_gate, is_touched, are_right}
 use Rattle.rv_draw.proofs.SymbolKinds.{own_kind, other_kind, control_kind, positive_kind, peres_control, peres_positive}
 use Rattle.rv_draw.proofs.SymbolKinds.{peres_exchanged, peres_middle, peres_target}
 use Rattle.rv_draw.proofs.Crossings.{right_drawn, touched_drawn}
@@ -28,11 +28,40 @@ column_of n gate = map (symbol_on gate) (range_with_len 0 n)
 apart_from : (set a line : ℕ) → has set a ≡ false → nat_eq line a ≡ true → has set line ≡ false
 apart_from set a line free is = ap (has set) (eqb-true line a is) ∙ free
 
+-- ---- a gate draws no symbol of another kind
+
+of_gate-kind : (own : Symbol) → is_of_gate own ≡ true → (here asked wanted between : Bool)
+    → is_of_gate (if here then own else (if asked then (if wanted then Positive else Negative) else (if between then Crossing else Wire))) ≡ true
+of_gate-kind own is true asked wanted between = is
+of_gate-kind own is false true true between = refl
+of_gate-kind own is false true false between = refl
+of_gate-kind own is false false wanted true = refl
+of_gate-kind own is false false wanted false = refl
+
+of_gate-peres : (a b c between : Bool)
+    → is_of_gate (if a then Positive else (if b then Middle else (if c then Target else (if between then Crossing else Wire)))) ≡ true
+of_gate-peres true b c between = refl
+of_gate-peres false true c between = refl
+of_gate-peres false false true between = refl
+of_gate-peres false false false true = refl
+of_gate-peres false false false false = refl
+
+of_gate : (gate : Shape) (line : ℕ) → is_of_gate (symbol_on gate line) ≡ true
+of_gate (Flip care want t) line =
+    of_gate-kind Target refl (nat_eq line t) (has care line) (has want line) (is_between (touched (Flip care want t)) line)
+of_gate (Swap care want a b) line =
+    of_gate-kind Exchanged refl (nat_eq line a || nat_eq line b) (has care line) (has want line) (is_between (touched (Swap care want a b)) line)
+of_gate (Peres a b c) line = of_gate-peres (nat_eq line a) (nat_eq line b) (nat_eq line c) (is_between (touched (Peres a b c)) line)
+
+all_of_gate : (gate : Shape) (line n : ℕ) → list_all is_of_gate (map (symbol_on gate) (range_with_len line n)) ≡ true
+all_of_gate gate line zero = refl
+all_of_gate gate line (suc n) = rw (of_gate gate line, all_of_gate gate (line + 1) n) refl
+
 -- from the places and the sets to the gate
-gate_from : (column : List Symbol) (targets exchanged middles : List ℕ) → are_right (lines_with is_touched column) 0 column ≡ true
+gate_from : (column : List Symbol) (targets exchanged middles : List ℕ) → list_all is_of_gate column ≡ true → are_right (lines_with is_touched column) 0 column ≡ true
     → places is_target 0 column ≡ targets → places is_exchanged 0 column ≡ exchanged → places is_middle 0 column ≡ middles
     → gate_of column ≡ gate_with column targets exchanged middles
-gate_from column targets exchanged middles r t e m = rw (r, t, e, m) refl
+gate_from column targets exchanged middles k r t e m = rw (k, r, t, e, m) refl
 
 -- a column in which the touched lines are those of the gate, and `┼` stands on the lines that it passes
 right_from : (gate : Shape) (n : ℕ) → FitsIn gate n → are_right (lines_with is_touched (column_of n gate)) 0 (column_of n gate) ≡ true
@@ -61,7 +90,7 @@ flip_back care want t n is fits =
     let cares = lines_with_back is_control f care n (λ i. control_kind Target refl (on i) (has care i) (has want i) (over i) (apart_from care t i is.1)) above in
     let wants = lines_with_back is_positive f want n (λ i. positive_kind Target refl (on i) (has care i) (has want i) (over i) (apart_from care t i is.1) (is.2 i)) above_want in
     let right = right_from (Flip care want t) n fits in
-    gate_from (column_of n (Flip care want t)) (t ∷ []) [] [] right targets exchanged middles
+    gate_from (column_of n (Flip care want t)) (t ∷ []) [] [] (all_of_gate (Flip care want t) 0 n) right targets exchanged middles
     ∙ ap (λ (set : ℕ). Some (Flip set (lines_with is_positive (column_of n (Flip care want t))) t)) cares
     ∙ ap (λ (set : ℕ). Some (Flip care set t)) wants
 
@@ -95,11 +124,11 @@ swap_back care want a b n is fits =
     λ x y. ap (λ (set : ℕ). Some (Swap set (lines_with is_positive column) x y)) cares ∙ ap (λ (set : ℕ). Some (Swap care set x y)) wants in
     elim (cases_lt a b) [
       | inl less ↦
-          gate_from column [] (a ∷ b ∷ []) [] right targets (places_two is_exchanged f a b 0 n has_pair (omega arith) less (omega (arith, lt_b))) middles
+          gate_from column [] (a ∷ b ∷ []) [] (all_of_gate (Swap care want a b) 0 n) right targets (places_two is_exchanged f a b 0 n has_pair (omega arith) less (omega (arith, lt_b))) middles
           ∙ sets a b ∙ rw (lt-ltb a b less) refl
       | inr ge ↦
           (let more : b < a = (let differ = is.2 in omega arith) in
-          gate_from column [] (b ∷ a ∷ []) [] right targets (places_two is_exchanged f b a 0 n (λ i. has_pair i ∙ or_comm (nat_eq i a) (nat_eq i b)) (omega arith) more (omega (arith, lt_a))) middles
+          gate_from column [] (b ∷ a ∷ []) [] (all_of_gate (Swap care want a b) 0 n) right targets (places_two is_exchanged f b a 0 n (λ i. has_pair i ∙ or_comm (nat_eq i a) (nat_eq i b)) (omega arith) more (omega (arith, lt_a))) middles
           ∙ sets b a ∙ rw (le-ltb a b ge) refl)
     ]
 
@@ -120,7 +149,7 @@ peres_back a b c n is fits =
     let positives = places_one is_positive f a 0 n (λ i. peres_positive (nat_eq i a) (nat_eq i b) (nat_eq i c) (over i)) (omega arith) (omega (arith, lt_a)) in
     let controls = places_one is_control f a 0 n (λ i. peres_control (nat_eq i a) (nat_eq i b) (nat_eq i c) (over i)) (omega arith) (omega (arith, lt_a)) in
     let right = right_from (Peres a b c) n fits in
-    gate_from column (c ∷ []) [] (b ∷ []) right targets exchanged middles
+    gate_from column (c ∷ []) [] (b ∷ []) (all_of_gate (Peres a b c) 0 n) right targets exchanged middles
     ∙ ap (λ (lines : List ℕ). peres_from lines (places is_control 0 column) b c) positives
     ∙ ap (λ (lines : List ℕ). peres_from (a ∷ []) lines b c) controls
 

@@ -189,11 +189,22 @@ are_right touched line [] = true
 are_right touched line (symbol ∷ column) =
     is_right (is_between touched line) symbol && are_right touched (line + 1) column
 
+-- what a gate may draw on a line
+abbrev pub is_of_gate : Symbol → Bool
+is_of_gate Wire = true
+is_of_gate Crossing = true
+is_of_gate Positive = true
+is_of_gate Negative = true
+is_of_gate Target = true
+is_of_gate Exchanged = true
+is_of_gate Middle = true
+is_of_gate other = false
+
 -- the gate that a column shows: one `⊕` is a flip, two `✕` are a swap, and `◉` and `⊕` a Peres gate; `●` and `○` are
--- the controls, and `┼` stands on the lines between those that are touched
+-- the controls, and `┼` stands on the lines between those that are touched; no other symbol is in it
 abbrev pub gate_of : List Symbol → Option Shape
 gate_of column =
-    if are_right (lines_with is_touched column) 0 column
+    if list_all is_of_gate column && are_right (lines_with is_touched column) 0 column
     then gate_with column (places is_target 0 column) (places is_exchanged 0 column) (places is_middle 0 column)
     else None
 
