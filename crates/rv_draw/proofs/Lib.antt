@@ -6,6 +6,7 @@ pub mod ColumnsBack
 pub mod Passing
 pub mod Crossings
 pub mod Meaning
+pub mod NetworkMeaning
 pub mod Examples
 pub mod inside
 pub mod OperationsShown

@@ -12,6 +12,7 @@ use Rattle.rv_draw.specs.Networks.{op_from_top, op_of}
 use Rattle.rv_draw.specs.Reading.{from_top, gate_of, picture_on}
 use Rattle.rv_draw.specs.Symbols.{op_symbol_on, symbol_on}
 use Rattle.rv_draw.proofs.Meaning.{same_run}
+use Rattle.rv_draw.proofs.NetworkMeaning.{same_amplitude}
 use Rattle.rv_draw.proofs.OperationsShown.{ops_read}
 use Rattle.rv_draw.proofs.inside.CircuitBack.{gates_read}
 use Rattle.rv_draw.proofs.inside.LaidOut.{laid_out}
@@ -76,6 +77,7 @@ network-drawing picture wrap listing given =
       means = record {
         shows = text-shows picture op_symbol_on op_of op_from_top wrap lines net.ops is (omega (arith, bounded))
             (subst (λ (n : ℕ). AreRead op_symbol_on op_of op_from_top n net.ops) same (ops_read net.lines net.ops given.few given.fitting));
+        same = λ x y. same_amplitude net.ops net.lines x y given.fitting;
         laid_out = text-stands picture op_symbol_on wrap lines net.ops is;
       };
     }

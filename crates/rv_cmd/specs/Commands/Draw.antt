@@ -2,6 +2,7 @@
 use Rattle.std.specs.Prelude.{◌≡◌, ◌==◌, ℕ, Bool, List, Option, Some, if◌then◌else◌}
 use Rattle.rv_gate.specs.Circuit.{Cascade}
 use Rattle.rv_gate.specs.Gate.{run}
+use Rattle.rv_net.specs.Amplitude.{amplitude}
 use Rattle.rv_net.specs.declared.net.TheConstants.{MOST_OPS}
 use Rattle.rv_net.specs.declared.op.Op.{Op}
 use Rattle.rv_qasm.specs.Reading.{Listing}
@@ -66,9 +67,10 @@ pub record IsDrawing (picture : PictureForm) (wrap : ℕ) (c : Cascade) (text : 
   pub laid_out : StandsInRows picture wrap text
 
 -- Read column by column, the text shows the network: its operations in their order, one a column (lines that may be
--- exchanged from the top).
+-- exchanged from the top), which have the same amplitudes.
 pub record IsNetworkDrawing (picture : PictureForm) (wrap : ℕ) (listing : Listing) (text : List ℕ) : Type 0 where
   pub shows : shown_in picture op_of text ≡ Some (network_picture (network_lines listing.net.lines) listing.net.ops)
+  pub same : (x y : List Bool) → amplitude (network_picture (network_lines listing.net.lines) listing.net.ops).gates x y ≡ amplitude listing.net.ops x y
   pub laid_out : StandsInRows picture wrap text
 
 -- by the form of the input
