@@ -148,6 +148,7 @@ mod blocks;
 mod check;
 mod circuits;
 mod compare;
+mod compute;
 mod cuts;
 mod draw;
 mod failures;

@@ -192,3 +192,43 @@ fn all_lines_are_compared_without_marks(rt: HostRuntime) -> Result<(), Fail> {
     )?;
     expect_compares(&rt, alloc, "compare --from pla --all c.real other", &TABLES)
 }
+
+// A full adder as a logic network, and as circuits.
+#[test]
+fn a_circuit_is_compared_with_a_logic_network(rt: HostRuntime) -> Result<(), Fail> {
+    const ADDER: &str = concat!(
+        ".inputs a b c\n.outputs s m\n.names a b c s\n100 1\n010 1\n001 1\n111 1\n",
+        ".names a b c m\n11- 1\n1-1 1\n-11 1\n.end\n"
+    );
+    const SUMS: &str = written!(
+        5,
+        "a b c s m",
+        "---00",
+        "111--",
+        "t3 a b m\nt2 a b\nt3 b c m\nt2 a b\nt2 a s\nt2 b s\nt2 c s\n"
+    );
+    const EXCHANGED: &str = written!(
+        5,
+        "a b c m s",
+        "---00",
+        "111--",
+        "t3 a b m\nt2 a b\nt3 b c m\nt2 a b\nt2 a s\nt2 b s\nt2 c s\n"
+    );
+    const CASES: [(&str, &str, u8, &str); 9] = [
+        (SUMS, ADDER, 0, "same\n"),
+        (EXCHANGED, ADDER, 1, "differs at word 001\n"),
+        (COPY, ADDER, 1, "differs in inputs 1 and 3\n"),
+        (typed!(3, "a b c", ""), ADDER, 1, "differs in outputs 3 and 2\n"),
+        (COPY, ".inputs a\n.outputs a\n", 0, "same\n"),
+        (COPY, ".inputs a\n.outputs b\n.names a b\n0 1\n", 1, "differs at word 0\n"),
+        (WIDE, ADDER, 5, "c.real: 25 inputs are more than 24"),
+        (
+            COPY,
+            ".inputs a b c d e f g h i j k l m n o p q r s t u v w x y\n.outputs a\n",
+            5,
+            "other: 25 inputs are more than 24",
+        ),
+        (COPY, ".inputs a\n.outputs b\n", 3, "other:2: never driven"),
+    ];
+    expect_compares(&rt, rt.alloc(), "compare --from blif c.real other", &CASES)
+}

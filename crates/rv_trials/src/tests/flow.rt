@@ -42,6 +42,17 @@ fn a_truth_table_becomes_the_network_of_its_circuit(rt: HostRuntime) -> Result<(
     expect_on(&rt, alloc, "cost --from qasm", flow.bytes(), want)
 }
 
+// The same in two steps.
+#[test]
+fn single_targets_take_the_place_of_transformations(rt: HostRuntime) -> Result<(), Fail> {
+    const CYCLE: &[u8] = b"1 2 3 4 5 6 7 0";
+    let alloc = rt.alloc();
+    let circuit = output_of(&rt, alloc, "single", CYCLE)?;
+    let network = output_of(&rt, alloc, "map", circuit.bytes())?;
+    let same = writes(network.bytes());
+    expect_on(&rt, alloc, "flow --from perm --method single", CYCLE, same)
+}
+
 #[test]
 fn a_permutation_becomes_a_network(rt: HostRuntime) -> Result<(), Fail> {
     const NETWORK: &str = network!(1, "x q[0];\n");

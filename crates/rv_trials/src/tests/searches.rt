@@ -63,6 +63,19 @@ fn a_search_finds_the_least_circuit(rt: HostRuntime) -> Result<(), Fail> {
     expect_each(&rt, rt.alloc(), &CASES)
 }
 
+// By each goal a search finds the one CNOT that four gates come to.
+#[test]
+fn each_goal_is_searched_for(rt: HostRuntime) -> Result<(), Fail> {
+    const TWICE: &str = typed!(3, "a b c", "t3 a b c\nt2 a b\nt3 a b c\nt2 a b\n");
+    const ONCE: &str = written!(3, "a b c", "---", "---", "t2 a c\n");
+    const CASES: [(&str, &str, u8, &str); 3] = [
+        ("resynth --goal t", TWICE, 0, ONCE),
+        ("resynth --goal gates", TWICE, 0, ONCE),
+        ("resynth --goal quantum", TWICE, 0, ONCE),
+    ];
+    expect_each(&rt, rt.alloc(), &CASES)
+}
+
 // What a search takes has to be asked for.
 #[test]
 fn what_no_search_takes_is_refused(rt: HostRuntime) -> Result<(), Fail> {

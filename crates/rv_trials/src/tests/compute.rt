@@ -1,0 +1,129 @@
+// Circuits for logic networks: what a text denotes, what is written of it, and what is refused.
+use super::*;
+use std::test::Fail;
+
+// A network with these outputs and nodes over a, b and c.
+macro_rules! over {
+    ($outputs:literal, $nodes:literal) => {
+        concat!(".model m\n.inputs a b c\n.outputs ", $outputs, "\n", $nodes, ".end\n")
+    };
+}
+
+// A circuit on lines for a, b, c and one output s, by its gates.
+macro_rules! summed {
+    ($gates:literal) => {
+        concat!(
+            ".version 2.0\n.numvars 4\n.variables x0 x1 x2 y0\n.inputs a b c y0\n",
+            ".outputs x0 x1 x2 s\n.constants ---0\n.garbage 111-\n.begin\n",
+            $gates,
+            ".end\n"
+        )
+    };
+}
+
+// Of each there is one circuit with the fewest gates, and with few controls.
+#[test]
+fn a_node_is_added_to_its_output(rt: HostRuntime) -> Result<(), Fail> {
+    const CASES: [(&str, &str, u8, &str); 7] = [
+        (
+            "compute",
+            over!("s", ".names a b c s\n1-1 1\n"),
+            0,
+            summed!("t3 x0 x2 y0\n"),
+        ),
+        (
+            "compute",
+            over!("s", ".names a b c s\n0-1 1\n"),
+            0,
+            summed!("t3 -x0 x2 y0\n"),
+        ),
+        // Without rows it is 0, and with a row of no operands 1.
+        ("compute", over!("s", ".names s\n"), 0, summed!("")),
+        ("compute", over!("s", ".names s\n1\n"), 0, summed!("t1 y0\n")),
+        // A buffer and an inverter take no line.
+        (
+            "compute",
+            over!("s", ".names b n\n0 1\n.names n s\n0 1\n"),
+            0,
+            summed!("t2 x1 y0\n"),
+        ),
+        // Rows that end with 0 say where it is 0.
+        (
+            "compute",
+            over!("s", ".names a b c s\n0-- 0\n--0 0\n"),
+            0,
+            summed!("t3 x0 x2 y0\n"),
+        ),
+        // A line that ends with a backslash goes on, `#` begins a comment, and what Yosys remarks is dropped.
+        (
+            "compute",
+            over!("\\\n s # the sum", ".names a b \\\nc s\n.attrib src 1\n1-1 1\n"),
+            0,
+            summed!("t3 x0 x2 y0\n"),
+        ),
+    ];
+    expect_each(&rt, rt.alloc(), &CASES)
+}
+
+// The line is that of the first fault.
+#[test]
+fn a_text_that_denotes_no_network_is_refused(rt: HostRuntime) -> Result<(), Fail> {
+    const CASES: [(&str, &str, u8, &str); 23] = [
+        ("compute", over!("s", ".latch a s\n"), 3, "-:4: latch"),
+        ("compute", over!("s", ".mlatch a s\n"), 3, "-:4: latch"),
+        ("compute", over!("s", ".subckt m a=a\n"), 3, "-:4: not supported"),
+        ("compute", over!("s", ".gate and2 A=a\n"), 3, "-:4: not supported"),
+        ("compute", over!("s", ".exdc\n"), 3, "-:4: not supported"),
+        ("compute", over!("s", ".search f\n"), 3, "-:4: not supported"),
+        ("compute", over!("s", ".clock c\n"), 3, "-:4: unknown directive"),
+        ("compute", ".i 2\n", 3, "-:1: unknown directive"),
+        ("compute", over!("s", ".model n\n"), 3, "-:4: second model"),
+        ("compute", over!("s", ".names\n"), 3, "-:4: missing name"),
+        (
+            "compute",
+            over!("s", ".names a a a a a a a a a a a a a a a a a s\n"),
+            3,
+            "-:4: too many operands",
+        ),
+        ("compute", over!("s", ".names a b\n1 1\n"), 3, "-:4: driven twice"),
+        ("compute", over!("s", ".inputs b\n"), 3, "-:4: driven twice"),
+        (
+            "compute",
+            over!("s", ".names a s\n1 1\n.names b s\n1 1\n"),
+            3,
+            "-:6: driven twice",
+        ),
+        ("compute", over!("s s", ".names s\n"), 3, "-:3: repeated output"),
+        ("compute", over!("s", "11 1\n"), 3, "-:4: row out of place"),
+        ("compute", over!("s", ".names a b s\n111 1\n"), 3, "-:5: wrong row length"),
+        ("compute", over!("s", ".names a b s\n1x 1\n"), 3, "-:5: wrong character"),
+        ("compute", over!("s", ".names a b s\n11 -\n"), 3, "-:5: wrong character"),
+        ("compute", over!("s", ".names a b s\n11 1\n00 0\n"), 3, "-:6: mixed rows"),
+        ("compute", ".inputs a\n.names a b\n1 1\n.end\n", 3, "-:4: no outputs"),
+        ("compute", over!("s", ".names a d s\n11 1\n"), 3, "-:4: never driven"),
+        (
+            "compute",
+            over!("s", ".names a t s\n11 1\n.names s t\n1 1\n"),
+            3,
+            "-:4: cycle",
+        ),
+    ];
+    expect_each(&rt, rt.alloc(), &CASES)
+}
+
+// Three inputs and two outputs take five lines, and each line in between one more.
+#[test]
+fn a_network_that_does_not_fit_is_refused(rt: HostRuntime) -> Result<(), Fail> {
+    const ADDER: &str = over!(
+        "s m",
+        ".names a b h\n10 1\n01 1\n.names h c s\n10 1\n01 1\n.names a b h c m\n11-- 1\n--11 1\n"
+    );
+    const CASES: [(&str, &str, u8, &str); 5] = [
+        ("compute --lines 4", ADDER, 5, "-: 5 lines are more than 4"),
+        ("compute --lines 1", over!("a", ""), 5, "-: 4 lines are more than 1"),
+        ("compute --lines 0", ADDER, 2, "bad value for --lines"),
+        ("compute --lines 65", ADDER, 2, "bad value for --lines"),
+        ("compute --seed 1", ADDER, 2, "option --seed not used by compute"),
+    ];
+    expect_each(&rt, rt.alloc(), &CASES)
+}
