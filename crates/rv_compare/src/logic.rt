@@ -33,7 +33,7 @@ fn give_values(logic: &Logic, block: u32, rows: &mut [Row])
 
 // The places at which the rows of the circuit are those of the outputs.
 fn agreement_with(outputs: &[Output], rows: &[Row], values: &[Row]) -> Row
-    requires { length outputs.now ≡ length rows.now }
+    requires rows { length outputs.now ≡ length rows.now }
     requires signals { All (λ output. output.signal < length values.now) outputs.now }
     ensures { (j : ℕ) → j < MOST_WORDS → Decides (row_bit result j)
         (column rows.now j ≡ map (λ output. bit_of (column values.now j) output.signal) outputs.now) }
