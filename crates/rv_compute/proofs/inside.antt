@@ -1,0 +1,6 @@
+pub mod Asking
+pub mod Adding
+pub mod Summing
+pub mod Signals
+pub mod Placing
+pub mod Standing

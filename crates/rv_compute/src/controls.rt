@@ -2,7 +2,7 @@
 ghost use Rattle.std.specs.Prelude.{◌≡◌, ◌<◌, ◌≤◌, length};
 ghost use Rattle.rv_gate.specs.declared.word.TheConstants.{MOST_LINES};
 ghost use Rattle.rv_blif.specs.declared.product.TheConstants.{MOST_OPERANDS};
-ghost use Rattle.rv_compute.specs.inside.Blocks.{AreControls, IsWithLine, IsWithOperand};
+ghost use Rattle.rv_compute.specs.inside.Blocks.{AreControls, IsWithLine, IsWithPlace};
 
 use crate::place::Place;
 use rv_blif::{MOST_OPERANDS, Product};
@@ -36,27 +36,20 @@ fn with_line(care: LineSet, want: LineSet, line: u8, bit: bool) -> Controls
     }
 }
 
-// An operand more is asked for, which is to have this bit.
-fn with_operand(
-    lines: u8,
-    care: LineSet,
-    want: LineSet,
-    place: Option<Place>,
-    bit: bool,
-) -> Controls
+// What is read at a place is asked for, and is to be this bit.
+fn with_place(lines: u8, care: LineSet, want: LineSet, place: Place, bit: bool) -> Controls
     requires { lines ≤ MOST_LINES }
-    ensures { IsWithOperand lines care want place bit result }
+    ensures { IsWithPlace lines care want place bit result }
 {
     match place {
-        None => Controls::Missing,
-        Some(Place::Constant(value)) => {
+        Place::Constant(value) => {
             if value == bit {
                 Controls::Held { care, want }
             } else {
                 Controls::Never
             }
         }
-        Some(Place::Line { line, on }) => {
+        Place::Line { line, on } => {
             if line < lines {
                 with_line(care, want, line, bit == on)
             } else {
@@ -76,12 +69,16 @@ pub(crate) fn controls_of(lines: u8, product: Product, places: &[Option<Place>])
     for i in 0..places.len() {
         if has(u64::from(product.care), i as u8) {
             let bit = has(u64::from(product.want), i as u8);
-            match with_operand(lines, care, want, places[i], bit) {
+            let Some(place) = places[i] else {
+                return Controls::Missing;
+            };
+            match with_place(lines, care, want, place, bit) {
                 Controls::Held { care: c, want: w } => {
                     care = c;
                     want = w;
                 }
-                other => return other,
+                Controls::Never => return Controls::Never,
+                Controls::Missing => return Controls::Missing,
             }
         }
     }

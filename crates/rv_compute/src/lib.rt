@@ -8,6 +8,10 @@
 mod block;
 mod circuit;
 mod controls;
+mod held;
 mod place;
+mod start;
+mod step;
+mod sum;
 
 pub use circuit::{ComputeFault, compute};

@@ -8,7 +8,7 @@ use Rattle.rv_compute.specs.declared.controls.Controls.{Controls}
 use Rattle.rv_compute.specs.declared.controls.Controls.TheVariants.{Held, Never, Missing}
 use Rattle.rv_compute.specs.declared.place.Place.{Place}
 use Rattle.rv_compute.specs.inside.Sums.{sum_of}
-use Rattle.rv_compute.specs.inside.Places.{AreRead, IsRead}
+use Rattle.rv_compute.specs.inside.Places.{place_value, AreRead}
 
 -- the controls hold of a word of so many lines where a product holds of the bits that are read there; they can't where
 -- it never does
@@ -30,15 +30,14 @@ IsWithLine care want line bit Never =
     (word : List Bool) → line < length word → (same (bit_of word line) bit && holds care want word) ≡ false
 IsWithLine care want line bit Missing = Unit {0}
 
--- an operand of this value is asked for, and is to have this bit
-abbrev pub IsWithOperand : ℕ → ℕ → ℕ → Option Place → Bool → Controls → Type 0
-IsWithOperand lines care want place bit (Held new_care new_want) =
-    (word : List Bool) (value : Bool) → length word ≡ lines → IsRead word place value
-    → holds new_care new_want word ≡ (same value bit && holds care want word)
-IsWithOperand lines care want place bit Never =
-    (word : List Bool) (value : Bool) → length word ≡ lines → IsRead word place value
-    → (same value bit && holds care want word) ≡ false
-IsWithOperand lines care want place bit Missing = Unit {0}
+-- what is read at a place is asked for, and is to be this bit
+abbrev pub IsWithPlace : ℕ → ℕ → ℕ → Place → Bool → Controls → Type 0
+IsWithPlace lines care want place bit (Held new_care new_want) =
+    (word : List Bool) → length word ≡ lines
+    → holds new_care new_want word ≡ (same (place_value word place) bit && holds care want word)
+IsWithPlace lines care want place bit Never =
+    (word : List Bool) → length word ≡ lines → (same (place_value word place) bit && holds care want word) ≡ false
+IsWithPlace lines care want place bit Missing = Unit {0}
 
 -- the gates add the products to a line of so many, and keep the others
 pub record Adds (lines : ℕ) (places : List (Option Place)) (target : ℕ) (products : List Product) (gates : List Shape)

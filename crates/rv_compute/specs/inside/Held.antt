@@ -1,11 +1,15 @@
 -- What stands on the lines while a circuit is made.
-use Rattle.std.specs.Prelude.{ℕ, ◌≡◌, ◌≢◌, ◌+◌, ◌-◌, ◌<◌, ◌≤◌, ◌⊎◌, Bool, false, List, ◌++◌, length, replicate, slice_index, slice_index_or, Option, Some, None, if◌then◌else◌, nat_lt, map}
+use Rattle.std.specs.Prelude.{ℕ, ◌≡◌, ◌≢◌, ◌+◌, ◌-◌, ◌<◌, ◌≤◌, ◌⊎◌, Bool, true, false, List, ◌++◌, length, replicate, slice_get, slice_index, slice_index_or, Option, Some, None, if◌then◌else◌, nat_lt, map, slice_set}
+use Rattle.std.specs.Option.{option_map}
 use Rattle.rv_gate.specs.Word.{bit_of}
 use Rattle.rv_gate.specs.Gate.{run, xor}
 use Rattle.rv_gate.specs.declared.gate.Shape.{Shape}
 use Rattle.rv_blif.specs.Logic.{Logic, values}
 use Rattle.rv_compute.specs.declared.place.Place.{Place}
-use Rattle.rv_compute.specs.inside.Places.{place_value, place_at}
+use Rattle.rv_blif.specs.declared.product.Product.{Product}
+use Rattle.rv_compute.specs.inside.Sums.{sum_of}
+use Rattle.rv_compute.specs.inside.Blocks.{Adds}
+use Rattle.rv_compute.specs.inside.Places.{place_value, place_at, IsBeside}
 
 -- what a line holds beside what it began with: nothing, or a signal
 abbrev pub held_value : List Bool → Option ℕ → Bool
@@ -34,22 +38,82 @@ pub record Stands (logic : Logic) (work : ℕ) (held : List (Option ℕ)) (gates
 abbrev pub IsFree : Logic → ℕ → Type 0
 IsFree logic line = (line < length logic.inputs) ⊎ (length logic.inputs + length logic.outputs ≤ line)
 
--- at a place a signal is read, in each word that has on its lines what is told
-abbrev pub IsPlaceOf : Logic → List (Option ℕ) → ℕ → Place → Type 0
-IsPlaceOf logic held signal place =
-    (x word : List Bool) → length x ≡ length logic.inputs
-    → ((line : ℕ) → line < length held → IsFree logic line
-    → bit_of word line ≡ held_value (values logic x) (held_at held line))
-    → place_value word place ≡ bit_of (values logic x) signal
+-- the signal stands on a line that isn't an output's
+pub record StandsFree (logic : Logic) (held : List (Option ℕ)) (signal line : ℕ) : Type 0 where
+  pub there : line < length held
+  pub free : IsFree logic line
+  pub holds : held_at held line ≡ Some signal
 
-abbrev pub ArePlacesOf : Logic → List (Option ℕ) → List ℕ → List (Option Place) → Type 0
-ArePlacesOf logic held signals places =
-    (operand : ℕ) (place : Place) → place_at places operand ≡ Some place
-    → IsPlaceOf logic held (slice_index signals operand) place
+-- a signal is another, or nothing, changed or not
+pub record IsSource (logic : Logic) (signal : ℕ) (changed : Bool) (source : Option ℕ) : Type 0 where
+  pub value : (x : List Bool) → length x ≡ length logic.inputs
+      → bit_of (values logic x) signal ≡ xor (held_value (values logic x) source) changed
+
+-- a word has on the lines that aren't outputs what is told of them
+abbrev pub Tells : Logic → List (Option ℕ) → List Bool → List Bool → Type 0
+Tells logic held x word =
+    (line : ℕ) → line < length held → IsFree logic line
+    → bit_of word line ≡ held_value (values logic x) (held_at held line)
+
+-- a place beside a line, at which a signal is read in each word that has on its lines what is told
+pub record IsPlaceFor (logic : Logic) (held : List (Option ℕ)) (target signal : ℕ) (place : Place) : Type 0 where
+  pub beside : IsBeside (length held) target place
+  pub value : (x word : List Bool) → length x ≡ length logic.inputs → Tells logic held x word
+      → place_value word place ≡ bit_of (values logic x) signal
+
+-- that, if there is one
+pub record IsPlaceIf (logic : Logic) (held : List (Option ℕ)) (target signal : ℕ) (place : Option Place) : Type 0 where
+  pub each : (there : Place) → place ≡ Some there → IsPlaceFor logic held target signal there
+
+pub record ArePlacesFor (logic : Logic) (held : List (Option ℕ)) (target : ℕ) (signals : List ℕ)
+    (places : List (Option Place)) : Type 0 where
+  pub count : length places ≡ length signals
+  pub each : (operand : ℕ) (place : Place) → place_at places operand ≡ Some place
+      → IsPlaceFor logic held target (slice_index signals operand) place
 
 -- what a line is to hold at the end
 abbrev pub due : Logic → ℕ → Option ℕ
 due logic line =
     if nat_lt line (length logic.inputs) then Some line
-    else (if nat_lt line (length logic.inputs + length logic.outputs)
-    then Some (slice_index (map (λ output. output.signal) logic.outputs) (line - length logic.inputs)) else None)
+    else option_map (λ output. output.signal) (slice_get logic.outputs (line - length logic.inputs))
+
+abbrev pub IsDone : Logic → List (Option ℕ) → Type 0
+IsDone logic held = (line : ℕ) → line < length held → held_at held line ≡ due logic line
+
+-- one of the two stands for the other
+abbrev pub IsExchanged : Option ℕ → Option ℕ → Option ℕ → Option ℕ → Type 0
+IsExchanged held one other next = ((held ≡ one) × (next ≡ other)) ⊎ ((held ≡ other) × (next ≡ one))
+
+-- a signal, or nothing, is another, or nothing, and a sum of products of signals together
+pub record IsChange (logic : Logic) (signals : List ℕ) (products : List Product) (old new : Option ℕ) : Type 0 where
+  pub value : (x : List Bool) → length x ≡ length logic.inputs
+      → held_value (values logic x) new
+      ≡ xor (held_value (values logic x) old) (sum_of products (map (bit_of (values logic x)) signals))
+
+-- products have been added to a line, which now holds something else; or nothing was done
+pub record PutsIn (places : List (Option Place)) (line : ℕ) (products : List Product) (next : Option ℕ)
+    (old_held : List (Option ℕ)) (old_gates : List Shape) (held : List (Option ℕ)) (gates : List Shape) : Type 0 where
+  pub block : List Shape
+  pub adds : Adds (length old_held) places line products block
+  pub held_is : held ≡ slice_set old_held line next
+  pub gates_are : gates ≡ old_gates ++ block
+
+abbrev pub IsPut : List (Option Place) → ℕ → List Product → Option ℕ → List (Option ℕ) → List Shape → List (Option ℕ)
+    → List Shape → Bool → Type 0
+IsPut places line products next old_held old_gates held gates false = (held ≡ old_held) × (gates ≡ old_gates)
+IsPut places line products next old_held old_gates held gates true =
+    PutsIn places line products next old_held old_gates held gates
+
+-- products of signals have been added to a line, which now holds something else; or nothing was done
+pub record PutsFor (logic : Logic) (signals : List ℕ) (line : ℕ) (products : List Product) (next : Option ℕ)
+    (old_held : List (Option ℕ)) (old_gates : List Shape) (held : List (Option ℕ)) (gates : List Shape) : Type 0 where
+  pub places : List (Option Place)
+  pub are : ArePlacesFor logic old_held line signals places
+  pub puts : PutsIn places line products next old_held old_gates held gates
+
+abbrev pub IsPutFor : Logic → List ℕ → ℕ → List Product → Option ℕ → List (Option ℕ) → List Shape → List (Option ℕ)
+    → List Shape → Bool → Type 0
+IsPutFor logic signals line products next old_held old_gates held gates false =
+    (held ≡ old_held) × (gates ≡ old_gates)
+IsPutFor logic signals line products next old_held old_gates held gates true =
+    PutsFor logic signals line products next old_held old_gates held gates

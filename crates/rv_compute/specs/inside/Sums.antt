@@ -1,5 +1,5 @@
 -- Exclusive sums of products over a node's operands.
-use Rattle.std.specs.Prelude.{ℕ, ◌≡◌, ◌^◌, ◌<◌, Bool, true, false, List, [], ◌∷◌, length, Option, Some, None, All}
+use Rattle.std.specs.Prelude.{ℕ, ◌≡◌, ◌^◌, ◌<◌, Bool, true, false, List, [], ◌∷◌, length, slice_index, Option, Some, None, All}
 use Rattle.rv_gate.specs.Word.{bit_of}
 use Rattle.rv_gate.specs.Gate.{holds, same, xor}
 use Rattle.rv_blif.specs.Logic.{Node, any_holds}
@@ -27,3 +27,13 @@ pub record IsSum (node : Node) (start : Option ℕ) (products : List Product) : 
 -- the products ask for operands of so many
 abbrev pub AreWithin : ℕ → List Product → Type 0
 AreWithin count products = All (λ product. product.care < 2 ^ count) products
+
+-- a node passes on an operand, or nothing, changed or not
+pub record PassesOn (node : Node) (start : Option ℕ) (changed : Bool) : Type 0 where
+  pub value : (word : List Bool) → length word ≡ length node.operands
+      → cover_value node word ≡ xor (start_value start word) changed
+
+-- the signal of an operand, or none
+abbrev pub IsStart : List ℕ → Option ℕ → Option ℕ → Type 0
+IsStart operands None source = source ≡ None
+IsStart operands (Some operand) source = (operand < length operands) × (source ≡ Some (slice_index operands operand))
