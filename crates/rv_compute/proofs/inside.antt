@@ -4,3 +4,4 @@ pub mod Summing
 pub mod Signals
 pub mod Placing
 pub mod Standing
+pub mod Ends

@@ -1,5 +1,5 @@
 -- What the circuit of a logic network does.
-use Rattle.std.specs.Prelude.{ℕ, ◌≡◌, Bool, false, List, [], ◌∷◌, ◌++◌, length, replicate}
+use Rattle.std.specs.Prelude.{ℕ, ◌≡◌, ◌≤◌, Bool, false, List, [], ◌∷◌, ◌++◌, length, replicate}
 use Rattle.rv_gate.specs.Gate.{run, xor}
 use Rattle.rv_gate.specs.Circuit.{Cascade}
 use Rattle.rv_gate.specs.Marks.{with_constants, without_garbage}
@@ -25,3 +25,8 @@ abbrev pub Gives : Logic → Cascade → Type 0
 Gives logic c =
     (x : List Bool) → length x ≡ length logic.inputs
     → without_garbage c.garbage (run c.gates (with_constants c.constants x)) ≡ outputs_of logic x
+
+-- the same, on at most so many lines
+pub record IsComputedWithin (logic : Logic) (lines : ℕ) (c : Cascade) : Type 0 where
+  pub computed : IsComputed logic c
+  pub few : length c.names ≤ lines

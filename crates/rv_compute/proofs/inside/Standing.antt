@@ -1,6 +1,6 @@
 -- Steps keep what is told of the lines true.
 use Rattle.std.proofs.Common.{◌≡◌, ◌≢◌, ℕ, zero, suc, ◌+◌, ◌-◌, ◌<◌, ◌≤◌, Bool, true, false, cond, ◌&&◌, eqb, List, [], ◌∷◌, ◌++◌, length, map, replicate, set, get_or, refl, sym, subst, ◌∙◌, ap, inl, inr, arith, length-append, get_or-set_same, get_or-set_other}
-use Rattle.std.specs.Prelude.{Option, Some, None, ◌⊎◌, Result, Ok, Err, IfOk, IfSome}
+use Rattle.std.specs.Prelude.{Option, Some, None, ◌⊎◌, Result, Ok, Err, IfOk, IfSome, is_some}
 use Rattle.std.proofs.lemmas.Bool.{cases_eq, cases_lt}
 use Rattle.std.proofs.lemmas.List.{length-replicate, length-map, get_or-map, get_or-replicate, get_or_append_left, get_or-append_right, get_or_past, length-set}
 use Rattle.rv_gate.specs.Word.{bit_of}
@@ -23,7 +23,7 @@ xor_self true false = refl
 xor_self false true = refl
 xor_self false false = refl
 
-none_xor : (b : Bool) → xor false b ≡ b
+pub none_xor : (b : Bool) → xor false b ≡ b
 none_xor true = refl
 none_xor false = refl
 
@@ -208,3 +208,7 @@ pub source_if : (logic : Logic) (signal k : ℕ) (node : Node) (start : Option �
 source_if logic signal k node start None changed valid es lt is pass begins = tt
 source_if logic signal k node start (Some source) changed valid es lt is pass begins =
     source_is logic signal k node start source changed valid es lt is begins pass
+
+pub is_none : (o : Option ℕ) → is_some o ≡ false → o ≡ None
+is_none None e = refl
+is_none (Some x) e = cc
