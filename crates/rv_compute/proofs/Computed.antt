@@ -1,5 +1,6 @@
 -- The circuit that was made is one of the network.
-use Rattle.std.proofs.Common.{◌≡◌, ℕ, ◌+◌, ◌≤◌, List, length, get_or, refl, sym, subst, ◌∙◌, ap, arith}
+use Rattle.std.proofs.Common.{◌≡◌, ℕ, ◌+◌, ◌<◌, ◌≤◌, List, length, get_or, sym, subst, ◌∙◌, ap, inl, inr, arith}
+use Rattle.std.proofs.lemmas.Bool.{cases_lt}
 use Rattle.std.specs.Prelude.{Option, All}
 use Rattle.rv_gate.specs.Gate.{FitsIn, IsGate}
 use Rattle.rv_gate.specs.Circuit.{Cascade}
@@ -10,6 +11,7 @@ use Rattle.rv_compute.specs.Computed.{IsComputed, IsComputedWithin}
 use Rattle.rv_compute.specs.inside.Held.{line_count, Stands, IsDone, AreGates}
 use Rattle.rv_compute.proofs.Marks.{length-line_names}
 use Rattle.rv_compute.proofs.inside.Ends.{ends}
+use Rattle.rv_compute.proofs.inside.Standing.{by_default}
 
 abbrev with_gates : Cascade → List Shape → Cascade
 with_gates c gates = record c { gates = gates }
@@ -44,3 +46,30 @@ pub fit_gates : (lines names : ℕ) (gates : List Shape) → lines ≡ names →
     → All (λ gate. FitsIn gate names) gates
 fit_gates lines names gates same are k d lt =
     let P : ℕ → Type 0 = λ n. FitsIn (get_or gates k d) n in subst P same (are k d lt).1
+
+-- the first gates fit
+pub record FitBelow (lines : ℕ) (gates : List Shape) (count : ℕ) : Type 0 where
+  pub each : (k : ℕ) (d : Shape) → k < count → IsGate (get_or gates k d) × FitsIn (get_or gates k d) lines
+
+pub fit_none : (lines : ℕ) (gates : List Shape) → FitBelow lines gates 0
+fit_none lines gates = record { each = λ k d lt. absurd (omega arith) }
+
+pub fit_more : (lines : ℕ) (gates : List Shape) (count : ℕ) (gate : Shape) → FitBelow lines gates count
+    → count < length gates → gate ≡ get_or gates count gate → IsGate gate → FitsIn gate lines
+    → FitBelow lines gates (count + 1)
+fit_more lines gates count gate so_far here is valid fits = record {
+  each = λ k d lt.
+      elim (cases_lt k count) [
+        | inl below ↦ so_far.each k d below
+        | inr le ↦
+            (let same : k ≡ count = omega arith in
+            let at : gate ≡ get_or gates k d =
+            is ∙ by_default gates count gate d here ∙ ap (λ i. get_or gates i d) (sym same) in
+            let P : Shape → Type 0 = λ g. IsGate g × FitsIn g lines in
+            subst P at (valid, fits))
+      ];
+}
+
+pub fit_all : (lines : ℕ) (gates : List Shape) (count : ℕ) → length gates ≤ count → FitBelow lines gates count
+    → AreGates lines gates
+fit_all lines gates count le h k d lt = h.each k d (omega arith)

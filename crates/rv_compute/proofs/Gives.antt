@@ -1,5 +1,6 @@
 -- A circuit that adds the outputs of a network gives them by its marks.
-use Rattle.std.proofs.Common.{◌≡◌, ℕ, zero, suc, ◌+◌, Bool, true, false, List, [], ◌∷◌, ◌++◌, length, replicate, refl, sym, ◌∙◌, ap, arith, append_assoc, append-nil, length-append}
+use Rattle.std.proofs.Common.{◌≡◌, ℕ, zero, suc, ◌+◌, Bool, true, false, List, [], ◌∷◌, ◌++◌, length, replicate, refl, sym, subst, ◌∙◌, ap, append_assoc, append-nil}
+use Rattle.std.specs.Prelude.{Option, Some, IfSome}
 use Rattle.std.proofs.lemmas.List.{length-replicate, replicate-append-replicate}
 use Rattle.rv_gate.specs.Gate.{run, xor}
 use Rattle.rv_gate.specs.Circuit.{Cascade}
@@ -7,7 +8,7 @@ use Rattle.rv_gate.specs.Marks.{with_constants, without_garbage}
 use Rattle.rv_gate.specs.declared.circuit.Mark.TheVariants.{Input, Zero}
 use Rattle.rv_gate.proofs.Marks.{input_count-inputs, with_constants-append, with_constants-inputs, with_constants-zeros, without_garbage-append, without_garbage-outputs, without_garbage-all}
 use Rattle.rv_blif.specs.Logic.{Logic, outputs_of}
-use Rattle.rv_compute.specs.Computed.{xor_each, IsComputed, Gives}
+use Rattle.rv_compute.specs.Computed.{xor_each, IsComputed, IsComputedWithin, Gives}
 use Rattle.rv_compute.proofs.inside.Ends.{length-outputs_of, length-xor_each}
 
 xor_zeros : (outs : List Bool) → xor_each (replicate (length outs) false) outs ≡ outs
@@ -60,3 +61,10 @@ gives logic c h x lx =
     ∙ left n o w x changed (replicate w false) lx (length-xor_each zeros outs ∙ lz) (length-replicate w false)
     ∙ ap (λ k. xor_each (replicate k false) outs) (sym lo)
     ∙ xor_zeros outs
+
+pub gives_found : (logic : Logic) (lines : ℕ) (found : Option Cascade) (c : Cascade) → found ≡ Some c
+    → IfSome found (IsComputedWithin logic lines) → Gives logic c
+gives_found logic lines found c is h =
+    let P : Option Cascade → Type 0 = λ o. IfSome o (IsComputedWithin logic lines) in
+    let within : IsComputedWithin logic lines c = subst P is h in
+    gives logic c within.computed
