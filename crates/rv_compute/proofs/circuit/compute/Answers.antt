@@ -1,0 +1,6 @@
+use Rattle.rv_compute.specs.inside.Held.{line_count}
+use Rattle.rv_compute.proofs.Gives.{gives_found}
+use Rattle.rv_compute.proofs.circuit.compute.Goals as goal
+
+pub returns-in-Some-clause-gives : goal.returns-in-Some-clause-gives
+returns-in-Some-clause-gives c = gives_found c.args.logic.now _ c.in_ok-circuit.field-0 c.in-Some.circuit c.in-Some.is c.in_ok-circuit.ensures

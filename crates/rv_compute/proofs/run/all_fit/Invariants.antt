@@ -1,0 +1,5 @@
+use Rattle.rv_compute.proofs.Computed.{FitBelow}
+use Rattle.rv_compute.proofs.run.all_fit.Given as goal
+
+abbrev pub invariant-loop-gate : goal.invariant-loop-gate
+invariant-loop-gate l = FitBelow l.lines l.gates l.gate-index

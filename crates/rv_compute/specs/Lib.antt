@@ -1,0 +1,4 @@
+pub mod Lines
+pub mod Computed
+pub mod Bounds
+pub mod inside

@@ -1,0 +1,106 @@
+// The circuit of a logic network.
+ghost use Rattle.std.specs.Prelude.{◌≡◌, ◌<◌, ◌≤◌, ℕ, length, IfOk, IfSome};
+ghost use Rattle.rv_gate.specs.declared.circuit.TheConstants.{MOST_GATES};
+ghost use Rattle.rv_gate.specs.declared.word.TheConstants.{MOST_LINES};
+ghost use Rattle.rv_compute.specs.Bounds.{line_bound, node_bound, gate_bound};
+ghost use Rattle.rv_compute.specs.Computed.{IsComputed, IsComputedWithin, Gives};
+ghost use Rattle.rv_compute.specs.inside.Held.{line_count};
+ghost use Rattle.rv_compute.specs.declared.circuit.ComputeFault.TheVariants.{Mem};
+
+use crate::net::net_of;
+use crate::run::certified;
+use crate::search::best_plan;
+use rv_blif::{Logic, Node};
+use rv_gate::{Circuit, MOST_GATES, MOST_LINES};
+use std::alloc::{AllocError, Global};
+use thiserror::Error;
+
+/// Why there is no circuit.
+#[derive(Clone, Copy, Debug, PartialEq, Eq, Error)]
+pub enum ComputeFault {
+    /// The best order of steps that was found takes so many lines, more than there may be.
+    #[error("{0} lines are too many")]
+    TooManyLines(u32),
+    /// The order of steps that was found takes more than [`MOST_GATES`] gates.
+    #[error("too many gates")]
+    TooManyGates,
+    #[error("out of memory")]
+    Mem,
+}
+
+impl From<AllocError> for ComputeFault {
+    ghost from_gives = { λ _ fault. fault ≡ Mem };
+
+    fn from(_: AllocError) -> Self {
+        ComputeFault::Mem
+    }
+}
+
+// More nodes than this are not looked at where there are lines for fewer.
+const MOST_NODES: usize = 1 << 16;
+
+// At most so many gates a node takes.
+fn node_enough(node: &Node) -> u64
+    ensures { result ≤ node_bound node.now }
+{
+    let count = node.operands().len();
+    if count < 32 { 2u64 << count } else { 0 }
+}
+
+// At most so many gates take the words of all nodes' operands, and the outputs.
+fn gates_enough(logic: &Logic) -> u64
+    ensures { result ≤ gate_bound logic.now }
+{
+    let mut gates = 0u64;
+    for node in logic.nodes() {
+        gates = gates.saturating_add(node_enough(node));
+    }
+    gates.saturating_add(u64::from(logic.output_count()))
+}
+
+// The circuit that was found, if there is one.
+fn found(alloc: Global, logic: &Logic, extra: u8) -> Result<Option<Circuit>, AllocError>
+    requires { line_count logic.now extra ≤ MOST_LINES }
+    ensures { IfOk result (λ o. IfSome o (IsComputedWithin logic.now (line_count logic.now extra))) }
+{
+    let net = net_of(alloc, logic)?;
+    match best_plan(alloc, &net, extra)? {
+        Some(plan) => certified(alloc, logic, &net, &plan),
+        None => Ok(None),
+    }
+}
+
+/// A circuit for a logic network, on at most so many lines.
+///
+/// Lines `x0`, `x1`, .. are the inputs, which stand as they were at the end and are garbage. Lines `y0`, `y1`, .. are the
+/// outputs, and lines `w0`, `w1`, .. are worked on; all these hold 0, and the work lines are garbage. Whatever the
+/// lines of the outputs hold, the circuit adds the outputs to them. The labels are the names of inputs and outputs,
+/// where these can be labels.
+pub fn compute(alloc: Global, logic: &Logic, most_lines: u8) -> Result<Circuit, ComputeFault>
+    requires { most_lines ≤ MOST_LINES }
+    ensures computed { IfOk result (IsComputed logic.now) }
+    ensures gives { IfOk result (Gives logic.now) }
+    ensures lines { IfOk result (λ c. length c.names ≤ most_lines) }
+    ensures too_many_lines { (found : ℕ) → result ≡ Err (ComputeFault.TooManyLines found)
+        → (most_lines < found) × (found ≤ line_bound logic.now) }
+    ensures too_many_gates { result ≡ Err ComputeFault.TooManyGates → MOST_GATES < gate_bound logic.now }
+{
+    let lines = logic.input_count() + logic.output_count();
+    if lines > u32::from(most_lines) {
+        return Err(ComputeFault::TooManyLines(lines));
+    }
+    let nodes = logic.nodes().len();
+    if nodes <= MOST_NODES {
+        let extra = most_lines - lines as u8;
+        if let Some(circuit) = found(alloc, logic, extra)? {
+            return Ok(circuit);
+        }
+    }
+    if lines + nodes as u32 > u32::from(most_lines) {
+        return Err(ComputeFault::TooManyLines(u32::from(most_lines) + 1));
+    }
+    if gates_enough(logic) > MOST_GATES as u64 {
+        return Err(ComputeFault::TooManyGates);
+    }
+    Err(ComputeFault::Mem)
+}

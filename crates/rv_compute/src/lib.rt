@@ -1,0 +1,24 @@
+//! Circuits for logic networks: the inputs stand as they were, the outputs are added to lines of their own, and the
+//! lines that were worked on hold 0 again.
+//!
+//! The search is free: in which order nodes are made, where they stand, which are taken back and made again. What is
+//! proved is that each step does to its line what the network says, and that no step is left undone at the end.
+#![tactic(auto)]
+
+mod block;
+mod circuit;
+mod controls;
+mod engine;
+mod esop;
+mod held;
+mod lines;
+mod net;
+mod place;
+mod plan;
+mod run;
+mod search;
+mod start;
+mod step;
+mod sum;
+
+pub use circuit::{ComputeFault, compute};
