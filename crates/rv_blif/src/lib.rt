@@ -20,6 +20,9 @@ mod port;
 mod product;
 mod row;
 
+#[cfg(test)]
+mod tests;
+
 pub use fault::BlifFault;
 pub use logic::{Logic, MOST_SIGNALS};
 pub use node::Node;

@@ -113,9 +113,7 @@ impl Logic {
         ensures { IfOk result (λ rows. (j : ℕ) → j < MOST_WORDS → column rows.items j ≡ outputs_of self.now (column inputs.now j)) }
     {
         let mut rows = vec![in alloc; Row::ones(); self.inputs.len() + self.nodes.len()]?;
-        for i in 0..inputs.len() {
-            rows[i] = inputs[i];
-        }
+        rows[..inputs.len()].copy_from_slice(inputs);
         self.set_nodes(&mut rows);
         let mut out = Vec::new(alloc);
         for output in &self.outputs {

@@ -117,7 +117,7 @@ impl Placing {
         ensures value { OnOk result (self.new ≡ rounds most covers.now self.old) }
         ensures room { OnOk result (self.new.inputs + length self.new.nodes + length self.new.left ≤ MOST_SIGNALS) }
     {
-        for _i in 0..most {
+        for count in 0..most {
             let before = self.nodes.len();
             self.pass(alloc, covers)?;
             self.pass(alloc, covers)?;
