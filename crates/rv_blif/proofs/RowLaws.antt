@@ -3,6 +3,7 @@ use Rattle.std.proofs.Common.{◌≡◌, ℕ, ◌+◌, ◌-◌, ◌*◌, ◌^◌
 use Rattle.std.proofs.lemmas.Bool.{cases_eq, cases_lt, or_left, or_right, true≢false}
 use Rattle.std.proofs.lemmas.Nat.{pow_below}
 use Rattle.std.proofs.lemmas.List.{length-drop, length-map, length-take-le, drop_all, get_or-map}
+use Rattle.std.proofs.Math.ListN.{get_or-eq_default}
 use Rattle.rv_gate.specs.Word.{has, ones_of, bit_of}
 use Rattle.rv_gate.specs.Gate.{WantsControls}
 use Rattle.rv_gate.proofs.inside.Ones.{has-ones_of, ones_of-lt}
@@ -49,11 +50,15 @@ few_from p row i set some short from =
 
 wanted : (row : List ℕ) → WantsControls (ones_of (map is_bit row)) (ones_of (map (λ c. nat_eq c 49) row))
 wanted row line on =
+    let asked : List Bool = map is_bit row in
+    let ones : List Bool = map (λ c. nat_eq c 49) row in
     elim (cases_lt line (length row)) [
       | inl lt ↦
-          (let w = sym (has-ones_of (map (λ c. nat_eq c 49) row) line ∙ get_or-map (λ c. nat_eq c 49) row line 0 false lt) ∙ on in
-          has-ones_of (map is_bit row) line ∙ get_or-map is_bit row line 0 false lt ∙ or_right (nat_eq (get_or row line 0) 48) _ w)
-      | inr ge ↦ ?
+          (let one = sym (has-ones_of ones line ∙ get_or-map (λ c. nat_eq c 49) row line 0 false lt) ∙ on in
+          has-ones_of asked line ∙ get_or-map is_bit row line 0 false lt ∙ or_right (nat_eq (get_or row line 0) 48) _ one)
+      | inr ge ↦
+          (let none : bit_of ones line ≡ false = get_or-eq_default ones false (omega (arith, length-map row (λ c. nat_eq c 49))) in
+          absurd (true≢false (sym on ∙ has-ones_of ones line ∙ none)))
     ]
 
 pub product_is : (row : List ℕ) → 1 ≤ length row → IsProduct (length row - 1) (product_of row)

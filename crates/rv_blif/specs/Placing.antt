@@ -79,17 +79,17 @@ abbrev pub with_inputs : ℕ → List (Option ℕ) → List ℕ → List (Option
 with_inputs signal signals [] = signals
 with_inputs signal signals (name ∷ rest) = with_inputs (signal + 1) (slice_set signals name (Some signal)) rest
 
--- the inputs are placed
-abbrev pub started : Netlist → Placing
-started netlist = record {
-  inputs = length netlist.inputs;
-  signals = with_inputs 0 (replicate (length netlist.names) None) netlist.inputs;
+-- of so many names these are inputs, and placed; so many covers are left
+abbrev pub started : ℕ → List ℕ → ℕ → Placing
+started names inputs covers = record {
+  inputs = length inputs;
+  signals = with_inputs 0 (replicate names None) inputs;
   nodes = [];
-  left = range_with_len 0 (length netlist.covers);
+  left = range_with_len 0 covers;
 }
 
-unfoldable pub placed : Netlist → Placing
-placed netlist = rounds (length netlist.covers + 1) netlist.covers (started netlist)
+abbrev pub placed : ℕ → List ℕ → List Cover → Placing
+placed names inputs covers = rounds (length covers + 1) covers (started names inputs (length covers))
 
 -- ---- the network
 
@@ -137,10 +137,10 @@ placed_network netlist p =
     (outputs_by netlist.names p.signals [] netlist.outputs >>= network_of netlist p)
 
 -- the network of a netlist in a text of so many lines, by which names are driven
-unfoldable pub ordered : ℕ → List Bool → Netlist → Result Logic TextFault
+abbrev pub ordered : ℕ → List Bool → Netlist → Result Logic TextFault
 ordered lines driven netlist =
     broken (length netlist.outputs == 0) (record { line = lines; code = code.NO_OUTPUTS })
-    (unless_on code.NEVER_DRIVEN (first_undriven driven netlist.covers) (placed_network netlist (placed netlist)))
+    (unless_on code.NEVER_DRIVEN (first_undriven driven netlist.covers) (placed_network netlist (placed (length netlist.names) netlist.inputs netlist.covers)))
 
 -- ---- what every placing keeps
 

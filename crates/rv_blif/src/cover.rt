@@ -1,4 +1,5 @@
-ghost use Rattle.std.specs.Prelude.{◌≡◌, ◌≤◌, ◌<◌, length, OnOk};
+ghost use Rattle.std.specs.Prelude.{◌≡◌, ◌≤◌, ◌<◌, length, slice_get, OnOk};
+ghost use Rattle.std.specs.Option.{option_copied};
 ghost use Rattle.rv_blif.specs.Logic.{IsCover, IsProduct};
 ghost use Rattle.rv_blif.specs.declared.product.TheConstants.{MOST_OPERANDS};
 ghost use Rattle.rv_blif.specs.Given.{empty_cover, with_row};
@@ -82,5 +83,16 @@ impl Cover {
         ensures { result ≡ self.now.node.on }
     {
         self.on
+    }
+}
+
+// The cover with a number, where there is one.
+pub(crate) fn cover_at(covers: &[Cover], k: usize) -> Option<&Cover>
+    ensures { option_copied result ≡ slice_get covers.now k }
+{
+    if k < covers.len() {
+        Some(&covers[k])
+    } else {
+        None
     }
 }

@@ -6,7 +6,7 @@ ghost use Rattle.rv_blif.specs.Reading.{end_of};
 use crate::fault::BlifFault;
 use crate::line::State;
 use crate::logic::Logic;
-use crate::network::ordered;
+use crate::network::network_of;
 use rv_reader::{Stop, Whole};
 use rv_text::TextFault;
 
@@ -25,7 +25,7 @@ pub(crate) fn end_of(whole: Whole<State>) -> Result<Logic, BlifFault>
         }
     }
     match state.close() {
-        Ok(()) => ordered(&state, lines),
+        Ok(()) => network_of(&state, lines),
         Err(_) => Err(BlifFault::Mem),
     }
 }

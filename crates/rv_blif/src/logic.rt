@@ -101,9 +101,10 @@ impl Logic {
         ensures words { (j : ℕ) → j < MOST_WORDS → column rows.new j
             ≡ values self.now (take (length self.now.inputs) (column rows.old j)) }
     {
-        let inputs = self.inputs.len();
-        for k in 0..self.nodes.len() {
-            rows[inputs + k] = node_row(&self.nodes[k], &rows[..inputs + k]);
+        let inputs = self.input_count() as usize;
+        let nodes = self.nodes();
+        for k in 0..nodes.len() {
+            rows[inputs + k] = node_row(&nodes[k], &rows[..inputs + k]);
         }
     }
 
@@ -112,11 +113,12 @@ impl Logic {
         requires { length inputs.now ≡ length self.now.inputs }
         ensures { IfOk result (λ rows. (j : ℕ) → j < MOST_WORDS → column rows.items j ≡ outputs_of self.now (column inputs.now j)) }
     {
-        let mut rows = vec![in alloc; Row::ones(); self.inputs.len() + self.nodes.len()]?;
+        let outputs = self.outputs();
+        let mut rows = vec![in alloc; Row::ones(); inputs.len() + self.nodes().len()]?;
         rows[..inputs.len()].copy_from_slice(inputs);
         self.set_nodes(&mut rows);
         let mut out = Vec::new(alloc);
-        for output in &self.outputs {
+        for output in outputs {
             out.push(rows[output.signal() as usize])?;
         }
         Ok(out)

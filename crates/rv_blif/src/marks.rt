@@ -7,8 +7,8 @@ pub(crate) fn is_set(marks: &[bool], place: usize) -> bool
     place < marks.len() && marks[place]
 }
 
-pub(crate) fn set(marks: &mut [bool], place: usize)
-    ensures { marks.new ≡ slice_set marks.old place true }
+pub(crate) fn set(marks: &mut Vec<bool>, place: usize)
+    ensures { marks.new.items ≡ slice_set marks.old.items place true }
 {
     if place < marks.len() {
         marks[place] = true;
@@ -25,8 +25,8 @@ pub(crate) fn signal_of(signals: &[Option<u32>], name: usize) -> Option<u32>
     }
 }
 
-pub(crate) fn set_signal(signals: &mut [Option<u32>], name: usize, signal: u32)
-    ensures { signals.new ≡ slice_set signals.old name (Some signal) }
+pub(crate) fn set_signal(signals: &mut Vec<Option<u32>>, name: usize, signal: u32)
+    ensures { signals.new.items ≡ slice_set signals.old.items name (Some signal) }
 {
     if name < signals.len() {
         signals[name] = Some(signal);

@@ -3,7 +3,7 @@ ghost use Rattle.std.specs.Prelude.{◌≡◌, ◌≤◌, ◌<◌, ◌+◌, ℕ,
 ghost use Rattle.rv_blif.specs.declared.logic.TheConstants.{MOST_SIGNALS};
 ghost use Rattle.rv_blif.specs.Placing.{all_placed, over_signals, pass, rounds, signal_of, signals_by, with_cover, with_covers, with_inputs};
 
-use crate::cover::Cover;
+use crate::cover::{Cover, cover_at};
 use crate::marks::{set_signal, signal_of};
 use crate::node::Node;
 use std::alloc::{AllocError, Global};
@@ -59,14 +59,23 @@ fn over_signals(alloc: Global, signals: &[Option<u32>], cover: &Cover) -> Result
 }
 
 impl Placing {
+    fn node_count(&self) -> usize
+        ensures { result ≡ length self.now.nodes }
+    {
+        self.nodes.len()
+    }
+
     // Places a cover after the others, or leaves it.
     fn add(&mut self, alloc: Global, k: usize, cover: &Cover) -> Result<(), AllocError>
         requires { self.old.inputs + length self.old.nodes < MOST_SIGNALS }
-        ensures { OnOk result (self.new ≡ with_cover self.old k cover.now) }
+        ensures value { OnOk result (self.new ≡ with_cover self.old k cover.now) }
+        ensures count { OnOk result (self.new.inputs + length self.new.nodes + length self.new.left
+            ≡ self.old.inputs + length self.old.nodes + length self.old.left + 1) }
+        ensures inputs { OnOk result (self.new.inputs ≡ self.old.inputs) }
     {
         if all_placed(&self.signals, cover.operands()) {
+            let signal = self.inputs + self.node_count() as u32;
             let node = over_signals(alloc, &self.signals, cover)?;
-            let signal = self.inputs + self.nodes.len() as u32;
             self.nodes.push(node)?;
             set_signal(&mut self.signals, cover.name(), signal);
         } else {
@@ -85,10 +94,12 @@ impl Placing {
         requires { self.old.inputs + length self.old.nodes + length self.old.left + length numbers.now ≤ MOST_SIGNALS }
         ensures value { OnOk result (self.new ≡ with_covers covers.now self.old numbers.now) }
         ensures room { OnOk result (self.new.inputs + length self.new.nodes + length self.new.left ≤ MOST_SIGNALS) }
+        ensures inputs { OnOk result (self.new.inputs ≡ self.old.inputs) }
     {
         for k in numbers {
-            if let Some(cover) = covers.get(*k) {
-                self.add(alloc, *k, cover)?;
+            match cover_at(covers, *k) {
+                Some(cover) => self.add(alloc, *k, cover)?,
+                None => {}
             }
         }
         Ok(())
@@ -99,6 +110,7 @@ impl Placing {
         requires { self.old.inputs + length self.old.nodes + length self.old.left ≤ MOST_SIGNALS }
         ensures value { OnOk result (self.new ≡ pass covers.now self.old) }
         ensures room { OnOk result (self.new.inputs + length self.new.nodes + length self.new.left ≤ MOST_SIGNALS) }
+        ensures inputs { OnOk result (self.new.inputs ≡ self.old.inputs) }
     {
         let left = replace(&mut self.left, Vec::new(alloc));
         self.add_all(alloc, covers, &left)?;
@@ -116,12 +128,13 @@ impl Placing {
         requires { self.old.inputs + length self.old.nodes + length self.old.left ≤ MOST_SIGNALS }
         ensures value { OnOk result (self.new ≡ rounds most covers.now self.old) }
         ensures room { OnOk result (self.new.inputs + length self.new.nodes + length self.new.left ≤ MOST_SIGNALS) }
+        ensures inputs { OnOk result (self.new.inputs ≡ self.old.inputs) }
     {
         for count in 0..most {
-            let before = self.nodes.len();
+            let before = self.node_count();
             self.pass(alloc, covers)?;
             self.pass(alloc, covers)?;
-            if self.nodes.len() == before {
+            if self.node_count() == before {
                 return Ok(());
             }
         }

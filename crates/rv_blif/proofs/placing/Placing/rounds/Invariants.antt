@@ -7,4 +7,5 @@ abbrev pub invariant-loop-count : goal.invariant-loop-count
 invariant-loop-count l = record {
   value : rounds (l.most - l.count) l.covers l.self ≡ rounds l.most l.covers l.initial.self;
   room : l.self.inputs + length l.self.nodes + length l.self.left ≤ MOST_SIGNALS;
+  inputs : l.self.inputs ≡ l.initial.self.inputs;
 }
