@@ -39,7 +39,7 @@ absent p xs none =
           (let lt = lt-ltb (prefix_len (λ x. not (p x)) xs) (length xs) (found p xs some) in
           let e : position p xs ≡ Some (prefix_len (λ x. not (p x)) xs) = rw lt refl in
           absurd cc)
-      | inr no ↦ no
+      | inr fails ↦ fails
     ]
 
 -- the names after an insertion

@@ -1,6 +1,6 @@
 -- Nodes on many words at once.
-use Rattle.std.proofs.Common.{◌≡◌, ℕ, zero, suc, ◌+◌, ◌<◌, ◌≤◌, Bool, true, false, cond, not, ◌&&◌, ◌||◌, List, [], ◌∷◌, ◌++◌, length, get_or, set, map, take, refl, sym, ap, ◌∙◌, inl, inr, arith, add-one, length-append, length-set}
-use Rattle.std.proofs.lemmas.List.{ext_get_or, get_or-map, length-map, take_more, take_more_set, take-map, take-set, length-take-le}
+use Rattle.std.proofs.Common.{◌≡◌, ℕ, zero, suc, ◌+◌, ◌<◌, ◌≤◌, Bool, true, false, cond, not, ◌&&◌, ◌||◌, List, [], ◌∷◌, ◌++◌, length, get_or, set, map, take, drop, refl, sym, ap, ◌∙◌, inl, inr, arith, add-one, length-append, length-set}
+use Rattle.std.proofs.lemmas.List.{ext_get_or, get_or-map, length-map, map-append, take-append-le, take_all, take_more, take_more_set, take-map, take-set, length-take-le}
 use Rattle.rv_gate.specs.Word.{has, bit_of}
 use Rattle.rv_gate.specs.Gate.{all_below, holds, same}
 use Rattle.rv_gate.proofs.Bits.{and_comm, or_assoc}
@@ -8,7 +8,7 @@ use Rattle.rv_many.specs.Column.{column, row_bit}
 use Rattle.rv_many.specs.declared.row.Row.{Row}
 use Rattle.rv_many.proofs.Columns.{bit_of-column, blank, column-set, length-column}
 use Rattle.rv_blif.specs.declared.product.Product.{Product}
-use Rattle.rv_blif.specs.Logic.{Node, any_holds, node_value, operand_word, with_nodes, AreNodes, IsNode}
+use Rattle.rv_blif.specs.Logic.{Node, Output, any_holds, node_value, operand_word, with_nodes, AreNodes, IsNode}
 
 -- ---- a product
 
@@ -128,3 +128,22 @@ AreNodes-at before [] k none are lt = absurd (omega arith)
 AreNodes-at before (node ∷ nodes) zero none are lt = rw (let e : before + 0 ≡ before = omega arith in e) are.0
 AreNodes-at before (node ∷ nodes) (suc k) none are lt =
     rw (let e : before + suc k ≡ before + 1 + k = omega arith in e) (AreNodes-at (before + 1) nodes k none are.1 (omega arith))
+
+-- ---- outputs
+
+pub picked_more : (rows made : List Row) (outputs : List Output) (i : ℕ) (output d : Output) (signal : ℕ) (e : Row) (j : ℕ) → i < length outputs
+    → get_or outputs i d ≡ output → output.signal < length rows → signal ≡ output.signal
+    → column made j ≡ map (λ o. bit_of (column rows j) o.signal) (take i outputs)
+    → column (made ++ get_or rows signal e ∷ []) j ≡ map (λ o. bit_of (column rows j) o.signal) (take (i + 1) outputs)
+picked_more rows made outputs i output d signal e j lt is within signal_is so_far =
+    let f : Output → Bool = λ o. bit_of (column rows j) o.signal in
+    let row : Row = get_or rows signal e in
+    let bit : row_bit row j ≡ f output = ap (λ k. row_bit (get_or rows k e) j) signal_is ∙ sym (bit_of-column rows output.signal j e within) in
+    map-append (λ r. row_bit r j) made (row ∷ [])
+    ∙ ap (λ l. l ++ row_bit row j ∷ []) so_far
+    ∙ ap (λ b. map f (take i outputs) ++ b ∷ []) (bit ∙ ap f (sym is))
+    ∙ sym (ap (map f) (take_more outputs i d lt) ∙ map-append f (take i outputs) (get_or outputs i d ∷ []))
+
+-- a list that is written back
+pub written_back : {A : Type 0} (old new : List A) (n : ℕ) → length new ≡ n → take n (new ++ drop (length new) old) ≡ new
+written_back old new n len = take-append-le n new (drop (length new) old) (omega (arith, len)) ∙ take_all n new (omega (arith, len))

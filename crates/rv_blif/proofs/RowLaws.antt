@@ -8,7 +8,7 @@ use Rattle.rv_gate.specs.Word.{has, ones_of, bit_of}
 use Rattle.rv_gate.specs.Gate.{WantsControls}
 use Rattle.rv_gate.proofs.inside.Ones.{has-ones_of, ones_of-lt}
 use Rattle.rv_blif.specs.Logic.{IsProduct}
-use Rattle.rv_blif.specs.Row.{input_part, is_bit, product_of}
+use Rattle.rv_blif.specs.Row.{is_bit, product_of}
 
 -- one character more in front
 pub ones_of-front : (p : ℕ → Bool) (row : List ℕ) (i : ℕ) → i < length row
@@ -61,11 +61,5 @@ wanted row line on =
           absurd (true≢false (sym on ∙ has-ones_of ones line ∙ none)))
     ]
 
-pub product_is : (row : List ℕ) → 1 ≤ length row → IsProduct (length row - 1) (product_of row)
-unfolding product_of
-product_is row some =
-    let short : length (input_part row) ≡ length row - 1 = length-take-le (length row - 1) row (omega arith) in
-    record {
-      within = rw (← short) (ones-lt is_bit (input_part row));
-      wanted = wanted (input_part row);
-    }
+pub product_is : (part : List ℕ) → IsProduct (length part) (product_of part)
+product_is part = record { within = ones-lt is_bit part; wanted = wanted part }

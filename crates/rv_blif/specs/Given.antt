@@ -13,7 +13,7 @@ use Rattle.rv_blif.specs.declared.product.TheConstants.{MOST_OPERANDS}
 use Rattle.rv_blif.specs.Logic.{Node}
 use Rattle.rv_blif.specs.declared.port.Port.{Port}
 use Rattle.rv_blif.specs.Netlist.{Netlist, Cover}
-use Rattle.rv_blif.specs.Row.{are_literals, product_of}
+use Rattle.rv_blif.specs.Row.{are_literals, input_part, product_of}
 use Rattle.rv_blif.specs.Line.{words_of, goes_on, before_next, is_dropped, is_latch, is_unsupported}
 
 pub record Given : Type 0 where
@@ -147,7 +147,7 @@ row_added cover row =
     broken (not (length row == length cover.node.operands + 1)) code.WRONG_ROW_LENGTH
     (broken (not (are_literals row)) code.WRONG_CHARACTER
     (broken (is_mixed cover (slice_index row (length row - 1) == 49)) code.MIXED_ROWS
-    (Ok (with_row cover (product_of row) (slice_index row (length row - 1) == 49)))))
+    (Ok (with_row cover (product_of (input_part row)) (slice_index row (length row - 1) == 49)))))
 
 abbrev pub row_of : Given → Option Cover → List ℕ → Result Given ℕ
 row_of given None row = Err code.ROW_OUT_OF_PLACE

@@ -16,9 +16,9 @@ is_literal c = is_bit c || c == 45
 abbrev pub input_part : List ℕ → List ℕ
 input_part row = take (length row - 1) row
 
-unfoldable pub are_literals : List ℕ → Bool
+abbrev pub are_literals : List ℕ → Bool
 are_literals row = list_all is_literal (input_part row) && is_bit (slice_index row (length row - 1))
 
--- an operand is asked for by `0` and `1`
-unfoldable pub product_of : List ℕ → Product
-product_of row = record { care = ones_of (map is_bit (input_part row)); want = ones_of (map (λ c. c == 49) (input_part row)) }
+-- the product of the characters of the operands: one is asked for by `0` and `1`
+abbrev pub product_of : List ℕ → Product
+product_of part = record { care = ones_of (map is_bit part); want = ones_of (map (λ c. c == 49) part) }

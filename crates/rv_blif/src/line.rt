@@ -1,4 +1,6 @@
-ghost use Rattle.std.specs.Prelude.{◌≡◌, ◌≤◌, ◌<◌, ◌+◌, ◌-◌, ◌++◌, [], ◌∷◌, ℕ, false, drop, length, take, slice_index, true, None, IfOk, OnOk};
+ghost use Rattle.std.specs.Prelude.{◌≡◌, ◌≤◌, ◌<◌, ◌+◌, ◌-◌, ◌==◌, [], false, drop, length, take, slice_index, true, None, IfOk, OnOk};
+ghost use Rattle.std.specs.List.{list_any};
+ghost use Rattle.rv_text.specs.Bytes.{hash};
 ghost use Rattle.rv_text.specs.Tokens.{joined, tokens_of};
 ghost use Rattle.rv_reader.specs.Gives.{StepGives};
 ghost use Rattle.rv_blif.specs.inside.Denotes.{denotes, finds};
@@ -60,6 +62,7 @@ impl State {
     fn number_of(&mut self, name: &[u8]) -> Result<usize, AllocError>
         ensures number { IfOk result (λ number. number ≡ number_of self.old name.now) }
         ensures known { OnOk result (self.new ≡ with_name self.old name.now) }
+        ensures last { OnOk result (self.new.last ≡ self.old.last) }
     {
         match self.names.find(name) {
             Some(number) => Ok(number),
@@ -148,7 +151,8 @@ impl State {
     fn numbers_of(&mut self, line: &[u8], from: usize) -> Result<Vec<usize>, AllocError>
         requires from { from ≤ length line.now }
         requires closed { self.old.last ≡ None }
-        ensures { IfOk result (λ numbers. record { given = self.new; numbers = numbers.items } ≡ numbered self.old [] (tokens_of false [] (drop from line.now))) }
+        ensures closed { OnOk result (self.new.last ≡ None) }
+        ensures numbers { IfOk result (λ numbers. record { given = self.new; numbers = numbers.items } ≡ numbered self.old [] (tokens_of false [] (drop from line.now))) }
     {
         let mut numbers = Vec::new(self.alloc);
         let mut at = from;
@@ -296,7 +300,7 @@ fn add_row(cover: &mut Cover, row: &[u8]) -> Result<(), Stop>
     if !cover.products().is_empty() && on != cover.on() {
         return Err(Stop::Fault(MIXED_ROWS));
     }
-    cover.push(product_of(row), on)?;
+    cover.push(product_of(&row[..row.len() - 1]), on)?;
     Ok(())
 }
 
@@ -376,6 +380,12 @@ fn body_len(line: &[u8]) -> usize
     }
 }
 
+fn has_comment(line: &[u8]) -> bool
+    ensures { result ≡ list_any (λ b. b == hash) line.now }
+{
+    first_place(b'#', line).is_some()
+}
+
 // Whether a line goes on in the next one.
 #[tactic(auto, unfolding(crate::specs::Line::goes_on))]
 fn goes_on(line: &[u8]) -> bool
@@ -383,7 +393,7 @@ fn goes_on(line: &[u8]) -> bool
     ensures some { result ≡ true → 1 ≤ body_len line.now }
 {
     let len = body_len(line);
-    len > 0 && line[len - 1] == b'\\' && first_place(b'#', line).is_none()
+    len > 0 && line[len - 1] == b'\\' && !has_comment(line)
 }
 
 #[tactic(auto, unfolding(crate::specs::Line::is_dropped))]

@@ -1,4 +1,5 @@
-ghost use Rattle.std.specs.Prelude.{◌≡◌, ◌≤◌, ◌<◌, ◌+◌, ℕ, length, map, take, slice_get, Some, IfOk};
+ghost use Rattle.std.specs.Prelude.{◌≡◌, ◌≤◌, ◌<◌, ◌+◌, ℕ, length, map, take, slice_get, Some, All, IfOk};
+ghost use Rattle.rv_gate.specs.Word.{bit_of};
 ghost use Rattle.rv_blif.specs.Logic.{IsLogic, values, outputs_of};
 ghost use Rattle.rv_many.specs.Column.{column};
 ghost use Rattle.rv_many.specs.declared.words.TheConstants.{MOST_WORDS};
@@ -113,14 +114,35 @@ impl Logic {
         requires { length inputs.now ≡ length self.now.inputs }
         ensures { IfOk result (λ rows. (j : ℕ) → j < MOST_WORDS → column rows.items j ≡ outputs_of self.now (column inputs.now j)) }
     {
-        let outputs = self.outputs();
-        let mut rows = vec![in alloc; Row::ones(); inputs.len() + self.nodes().len()]?;
-        rows[..inputs.len()].copy_from_slice(inputs);
+        let mut rows = signal_rows(alloc, inputs, inputs.len() + self.nodes().len())?;
         self.set_nodes(&mut rows);
-        let mut out = Vec::new(alloc);
-        for output in outputs {
-            out.push(rows[output.signal() as usize])?;
-        }
-        Ok(out)
+        let outputs = self.outputs();
+        let picked = picked(alloc, outputs, &rows)?;
+        Ok(picked)
     }
+}
+
+// So many rows, the first of which are these.
+fn signal_rows(alloc: Global, inputs: &[Row], count: usize) -> Result<Vec<Row>, AllocError>
+    requires { length inputs.now ≤ count }
+    ensures count { IfOk result (λ rows. length rows.items ≡ count) }
+    ensures inputs { IfOk result (λ rows. take (length inputs.now) rows.items ≡ inputs.now) }
+{
+    let mut rows = Vec::from_slice(alloc, inputs)?;
+    while rows.len() < count {
+        rows.push(Row::ones())?;
+    }
+    Ok(rows)
+}
+
+// The rows of outputs, by those of all signals.
+fn picked(alloc: Global, outputs: &[Output], rows: &[Row]) -> Result<Vec<Row>, AllocError>
+    requires { All (λ output. output.signal < length rows.now) outputs.now }
+    ensures { IfOk result (λ picked. (j : ℕ) → column picked.items j ≡ map (λ output. bit_of (column rows.now j) output.signal) outputs.now) }
+{
+    let mut picked = Vec::new(alloc);
+    for output in outputs {
+        picked.push(rows[output.signal() as usize])?;
+    }
+    Ok(picked)
 }

@@ -24,3 +24,9 @@ abbrev pub Gathered : Result (Vec Output) BlifFault → Result (List Output) Tex
 Gathered (Ok v) want = want ≡ Ok v.items
 Gathered (Err (faults.Text fault)) want = want ≡ Err fault
 Gathered (Err faults.Mem) want = Unit {0}
+
+-- what was wanted is the state now, or memory was wanting
+abbrev pub IsRead : Result (Unit {0}) BlifFault → Given → Result Given TextFault → Type 0
+IsRead (Ok _) new want = want ≡ Ok new
+IsRead (Err (faults.Text fault)) new want = want ≡ Err fault
+IsRead (Err faults.Mem) new want = Unit {0}

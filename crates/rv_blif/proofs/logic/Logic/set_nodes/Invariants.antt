@@ -7,4 +7,4 @@ use Rattle.rv_blif.proofs.NodeLaws.{literal}
 use Rattle.rv_blif.proofs.logic.Logic.set_nodes.Given as goal
 
 abbrev pub invariant-loop-k : goal.invariant-loop-k
-invariant-loop-k l = (j : ℕ) → j < 256 → take (l.inputs + l.k) (column l.rows j) ≡ with_nodes (take l.k l.self.nodes) (take l.inputs (column l.initial.rows j))
+invariant-loop-k l = (j : ℕ) → j < 256 → take (l.inputs + l.k) (column l.rows j) ≡ with_nodes (take l.k l.nodes) (take l.inputs (column l.initial.rows j))
