@@ -1,0 +1,4 @@
+pub mod RowLaws
+pub mod NodeLaws
+pub mod NameLaws
+pub mod PlacingLaws

@@ -1,0 +1,10 @@
+use Rattle.std.proofs.Common.{◌≡◌, ℕ, ◌<◌, ◌+◌, not, length, take, get_or}
+use Rattle.rv_gate.specs.Gate.{all_below}
+use Rattle.rv_many.specs.Column.{column, row_bit}
+use Rattle.rv_many.proofs.Columns.{blank}
+use Rattle.rv_blif.specs.Logic.{any_holds, with_nodes}
+use Rattle.rv_blif.proofs.NodeLaws.{literal}
+use Rattle.rv_blif.proofs.evaluate.none_holds.Given as goal
+
+abbrev pub invariant-loop-product : goal.invariant-loop-product
+invariant-loop-product l = (j : ℕ) → j < 256 → row_bit l.none j ≡ not (any_holds (take l.product-index l.products) (column l.rows j))

@@ -1,0 +1,9 @@
+pub mod Code
+pub mod Given
+pub mod Line
+pub mod Logic
+pub mod Netlist
+pub mod Placing
+pub mod Reading
+pub mod Row
+pub mod inside
