@@ -49,11 +49,6 @@ left gate id line order = if touches gate line then record order { ids = without
 abbrev pub chain_order : List Shape → ℕ → List ℕ → Order
 chain_order gates line ids = record { room = length gates; ids = touching gates line ids }
 
--- a node with another gate
-unfoldable pub regated : ℕ → Shape → List Node → List Node
-regated id gate [] = []
-regated id gate (n ∷ rest) = if id == n.id then (record { id = n.id; gate = gate }) ∷ rest else n ∷ regated id gate rest
-
 -- the window from a node that may be missing
 abbrev pub finish : Option ℕ → ℕ → List Shape → List Node → List Node
 finish None count gates nodes = nodes
