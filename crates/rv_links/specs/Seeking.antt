@@ -17,3 +17,15 @@ abbrev pub Tells : List Node → Shape → ℕ → Sought → Type 0
 Tells nodes gate from Unknown = Unit {0}
 Tells nodes gate from Nowhere = (x : ℕ) → IsTrue (live x nodes) → from ≤ x → node_gate x nodes ≢ gate
 Tells nodes gate from (At b) = IsFirst nodes gate from b
+
+-- an answer that names a node names none after x; one that knows nothing tells nothing
+abbrev pub Reaches : Sought → ℕ → Type 0
+Reaches Unknown x = Unit {0}
+Reaches Nowhere x = ⊥
+Reaches (At b) x = b ≤ x
+
+-- an answer that names a node names one of the nodes, and none before a number
+abbrev pub Found : List Node → ℕ → Sought → Type 0
+Found nodes from Unknown = Unit {0}
+Found nodes from Nowhere = Unit {0}
+Found nodes from (At b) = IsTrue (live b nodes) × (from ≤ b)
