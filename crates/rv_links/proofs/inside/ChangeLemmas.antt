@@ -1,17 +1,17 @@
 -- Linked cascades through the numbers of their nodes: a node gets another gate, and a whole cascade is made.
-use Rattle.std.proofs.Common.{◌≡◌, ◌≢◌, ℕ, zero, suc, ◌+◌, ◌<◌, Bool, true, false, cond, ◌||◌, eqb, List, [], ◌∷◌, ◌++◌, length, get_or, set, take, drop, refl, sym, ◌∙◌, ap, inl, inr, arith, length-set, get_or-set_same, get_or-set_other, eq-eqb, ne_eqb}
+use Rattle.std.proofs.Common.{◌≡◌, ℕ, zero, suc, ◌+◌, ◌<◌, Bool, true, false, cond, ◌||◌, eqb, List, [], ◌∷◌, ◌++◌, length, get_or, set, take, drop, refl, sym, ◌∙◌, ap, inl, inr, arith, length-set, get_or-set_same, get_or-set_other, eq-eqb, ne_eqb}
 use Rattle.std.specs.List.{range_with_len}
 use Rattle.std.specs.Prelude.{All, filter}
 use Rattle.std.proofs.lemmas.List.{take_at, get_or-drop, drop-drop}
-use Rattle.std.proofs.lemmas.Bool.{cases_eq, cases_Bool, cond-true, cond-false, false≢true, false_from_ne_true}
+use Rattle.std.proofs.lemmas.Bool.{cases_eq, cond-true, cond-false, false≢true, false_from_ne_true}
 use Rattle.rv_gate.specs.declared.gate.Shape.{Shape}
 use Rattle.rv_gate.specs.Gate.{touches, FitsIn, IsGate}
 use Rattle.rv_links.specs.Order.{lists, NoTwice}
 use Rattle.rv_links.specs.inside.Ring.{Order, without}
 use Rattle.rv_links.specs.Nodes.{Node, ids_in, gates_in, regated}
-use Rattle.rv_links.specs.inside.Chains.{blank, gate_at, order_at, nodes_of, touching, IsLinked, left, chain_order}
-use Rattle.rv_links.proofs.inside.RingLemmas.{lists_here, lists_more, lists_cases, lists_not, differ_from, lists_without, kept_without, NoTwice-without, gone_without, lists_push, NoTwice-push}
-use Rattle.rv_links.proofs.inside.LinkedLemmas.{ids_of_nodes, gate_of_nodes, erased_nodes, lists_filter, filter_without, gate_read, left_ids, left_room, enter_not}
+use Rattle.rv_links.specs.inside.Chains.{blank, gate_at, order_at, nodes_of, touching, IsLinked, chain_order}
+use Rattle.rv_links.proofs.inside.RingLemmas.{lists_here, lists_more, lists_cases, lists_not, differ_from, gone_without, lists_push, NoTwice-push}
+use Rattle.rv_links.proofs.inside.LinkedLemmas.{ids_of_nodes, lists_filter, filter_without, gate_read, enter_not}
 
 -- ---- what the loops and branches need
 

@@ -1,18 +1,18 @@
 -- Numbers that are kept for their gates, and orders whose numbers rise.
-use Rattle.std.proofs.Common.{◌≡◌, ◌≢◌, ℕ, zero, suc, ◌+◌, ◌-◌, ◌<◌, ◌≤◌, true, false, List, [], ◌∷◌, ◌++◌, length, get_or, set, take, drop, refl, sym, subst, ◌∙◌, ap, inl, inr, arith, eqb, length-set, get_or-set_same, get_or-set_other}
+use Rattle.std.proofs.Common.{◌≡◌, ◌≢◌, ℕ, zero, suc, ◌+◌, ◌-◌, ◌<◌, ◌≤◌, true, List, [], ◌∷◌, ◌++◌, length, get_or, set, take, drop, sym, subst, ◌∙◌, ap, inl, inr, arith, eqb, length-set, get_or-set_same, get_or-set_other}
 use Rattle.std.specs.Prelude.{Option, Some, None, IfSome}
 use Rattle.std.specs.List.{range_with_len}
 use Rattle.std.proofs.lemmas.List.{take_at}
 use Rattle.std.proofs.lemmas.Bool.{cases_eq, cases_Bool, false≢true}
 use Rattle.rv_gate.specs.declared.gate.Shape.{Shape}
-use Rattle.rv_links.specs.Order.{lists, NoTwice, Rising}
+use Rattle.rv_links.specs.Order.{lists, Rising}
 use Rattle.rv_links.specs.Seeking.{Tells}
 use Rattle.rv_links.specs.declared.sought.Sought.{Sought}
 use Rattle.rv_links.specs.declared.index.TheConstants.{MOST_ASKED}
 use Rattle.rv_links.specs.inside.Ring.{Order, without}
 use Rattle.rv_links.specs.inside.Chains.{blank, gate_at, nodes_of}
 use Rattle.rv_links.specs.inside.Index.{hash_of, slot_of, asked, Kept, IsIndexed, AtMost, IsHere, IsSearchable, told}
-use Rattle.rv_links.proofs.inside.RingLemmas.{lists_cases, lists_here, lists_without}
+use Rattle.rv_links.proofs.inside.RingLemmas.{lists_cases, lists_without}
 use Rattle.rv_links.proofs.inside.LinkedLemmas.{ids_of_nodes, gate_of_nodes}
 
 -- ---- slots

@@ -1,10 +1,10 @@
 -- Which nodes stay, with their gates, when one is erased or a window is replaced.
 use Rattle.std.proofs.Common.{◌≡◌, ◌≢◌, ℕ, zero, suc, true, false, cond, ◌||◌, eqb, List, [], ◌∷◌, take, refl, sym, ◌∙◌, ap, inl, inr, eq-eqb, ne_eqb}
-use Rattle.std.proofs.lemmas.Bool.{cases_eq, cases_Bool, cond-true, cond-false, false≢true}
+use Rattle.std.proofs.lemmas.Bool.{cases_eq, cases_Bool, cond-false}
 use Rattle.rv_gate.specs.declared.gate.Shape.{Shape}
-use Rattle.rv_links.specs.Order.{lists, NoTwice}
+use Rattle.rv_links.specs.Order.{lists}
 use Rattle.rv_links.specs.Nodes.{Node, ids_in, live, node_gate, Stays, erased, with_gates, window_set, from_node, window_ids}
-use Rattle.rv_links.proofs.inside.RingLemmas.{lists_cases, lists_not, kept_without}
+use Rattle.rv_links.proofs.inside.RingLemmas.{lists_not, kept_without}
 use Rattle.rv_links.proofs.inside.WindowLemmas.{ids_erased}
 
 -- ---- a node is erased

@@ -22,7 +22,7 @@ use Rattle.rv_templ.specs.inside.Lookups.{Variant}
 use Rattle.rv_templ.specs.inside.Mates.{NoMate, Candidate, Joinless}
 use Rattle.rv_templ.specs.inside.Notes.{Apart}
 use Rattle.rv_templ.proofs.JoinLaws.{cond_some, lone_is, line_used, third_some}
-use Rattle.rv_templ.proofs.NodeLists.{apart, listed_at, gate_at_node, Stands, stands, later_than, sooner_than, is_after, Each, each_of}
+use Rattle.rv_templ.proofs.NodeLists.{apart, gate_at_node, Stands, stands, later_than, sooner_than, is_after, Each, each_of}
 use Rattle.rv_templ.proofs.inside.PartnerWalk.{none_among}
 
 -- ---- answers

@@ -2,7 +2,6 @@ use Rattle.std.proofs.Common.{◌≡◌, [], ◌∷◌, ap, sym, ◌∙◌, subs
 use Rattle.rv_gate.specs.declared.gate.Shape.{Shape}
 use Rattle.rv_gate.specs.declared.gate.Shape.TheVariants.{Flip}
 use Rattle.rv_links.specs.declared.sought.Sought.{Sought}
-use Rattle.rv_links.specs.Nodes.{node_gate}
 use Rattle.rv_templ.specs.Pairs.{paired}
 use Rattle.rv_templ.specs.inside.Lookups.{Partner}
 use Rattle.rv_templ.proofs.inside.LookupLaws.{partner_nowhere, partner_at}

@@ -1,6 +1,5 @@
-use Rattle.std.proofs.Common.{◌≡◌, ℕ, ◌<◌}
-use Rattle.std.specs.Prelude.{IsTrue, IsFalse}
-use Rattle.rv_links.specs.Nodes.{live, node_gate, noted}
+use Rattle.std.proofs.Common.{◌≡◌}
+use Rattle.std.specs.Prelude.{IsFalse}
 use Rattle.rv_templ.specs.inside.Lookups.{Loose}
 use Rattle.rv_templ.specs.inside.Notes.{Fewer}
 use Rattle.rv_templ.proofs.loosening.loosen.Given as goal

@@ -1,8 +1,7 @@
-use Rattle.std.proofs.Common.{◌≡◌, true, refl, sym, ◌∙◌, ap}
+use Rattle.std.proofs.Common.{◌≡◌, true, refl, ◌∙◌, ap}
 use Rattle.rv_gate.specs.Word.{has}
 use Rattle.rv_gate.specs.Gate.{controls, is_flip}
 use Rattle.rv_links.specs.Order.{lists}
-use Rattle.rv_links.specs.inside.Chains.{gate_at}
 use Rattle.rv_links.proofs.inside.LinkedLemmas.{on_by, gate_by}
 use Rattle.rv_links.proofs.inside.UsedLemmas.{controls_read}
 use Rattle.rv_links.proofs.linked.Linked.read_lines.Goals as goal
