@@ -7,8 +7,7 @@ ghost use Rattle.rv_gate.specs.declared.word.TheConstants.{MOST_LINES};
 ghost use Rattle.rv_gate.specs.declared.gate.Shape.{Shape};
 ghost use Rattle.rv_links.specs.Nodes.{live, node_gate};
 ghost use Rattle.rv_links.specs.Seeking.{Reaches, Found};
-ghost use Rattle.rv_templ.specs.Pairs.{paired};
-ghost use Rattle.rv_templ.specs.inside.Lookups.{Variant, Partner};
+ghost use Rattle.rv_templ.specs.inside.Lookups.{Partner, Seen, SeenOn, SeenAll};
 
 use crate::joining::{Joined, join};
 use rv_gate::{Gate, LineSet, MOST_LINES, Shape, has};
@@ -25,9 +24,12 @@ fn nearer(
 ) -> Sought
     ensures found { Found linked.now.nodes from best → Found linked.now.nodes from result }
     ensures best { (x : ℕ) → Reaches best x → Reaches result x }
-    ensures this { (x : ℕ) → IsTrue (live x linked.now.nodes) → from ≤ x → node_gate x linked.now.nodes ≡ Shape.Flip care want target → Reaches result x }
+    ensures this { Seen linked.now.nodes from result (Shape.Flip care want target) }
 {
     linked.recall_invariant();
+    if let Sought::Unknown = best {
+        return best;
+    }
     match Gate::flip(care, want, target) {
         None => best,
         Some(gate) => best.sooner(linked.sought(gate, from)),
@@ -48,7 +50,7 @@ fn nearer_on(
     requires { line < MOST_LINES }
     ensures found { Found linked.now.nodes from best → Found linked.now.nodes from result }
     ensures best { (x : ℕ) → Reaches best x → Reaches result x }
-    ensures this { has used line ≡ true → (x : ℕ) → IsTrue (live x linked.now.nodes) → from ≤ x → Variant care want target line (node_gate x linked.now.nodes) → Reaches result x }
+    ensures this { has used line ≡ true → SeenOn linked.now.nodes from result care want target line }
 {
     if !has(used, line) {
         return best;
@@ -63,7 +65,7 @@ fn nearer_on(
 fn first_joined(linked: &Linked, from: u32, care: LineSet, want: LineSet, target: u8) -> Sought
     requires { IsGate (Shape.Flip care want target) }
     ensures found { Found linked.now.nodes from result }
-    ensures least { (x : ℕ) → IsTrue (live x linked.now.nodes) → from ≤ x → (m : List Shape) → paired (Shape.Flip care want target) (node_gate x linked.now.nodes) ≡ Some m → Reaches result x }
+    ensures least { SeenAll linked.now.nodes from result (Shape.Flip care want target) }
 {
     linked.recall_invariant();
     let used = linked.read_lines() | care;

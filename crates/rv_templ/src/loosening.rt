@@ -1,12 +1,11 @@
 //! Notes that go because a gate comes, found by look-ups: those of the nodes before it whose gates join with it.
-ghost use Rattle.std.specs.Prelude.{◌≡◌, ◌⊎◌, ℕ, ◌<◌, List, true, IsTrue, IsFalse, None};
+ghost use Rattle.std.specs.Prelude.{◌≡◌, ◌<◌, true, IsTrue, IsFalse};
 ghost use Rattle.rv_gate.specs.Word.{has};
 ghost use Rattle.rv_gate.specs.Gate.{IsGate};
 ghost use Rattle.rv_gate.specs.declared.word.TheConstants.{MOST_LINES};
 ghost use Rattle.rv_gate.specs.declared.gate.Shape.{Shape};
-ghost use Rattle.rv_links.specs.Nodes.{live, node_gate, noted};
-ghost use Rattle.rv_templ.specs.Pairs.{paired};
-ghost use Rattle.rv_templ.specs.inside.Lookups.{Variant, Loose};
+ghost use Rattle.rv_links.specs.Nodes.{live, noted};
+ghost use Rattle.rv_templ.specs.inside.Lookups.{Loose, LooseOn, LooseAll};
 ghost use Rattle.rv_templ.specs.inside.Notes.{Fewer};
 
 use rv_gate::{Gate, LineSet, MOST_LINES, Shape, has};
@@ -111,7 +110,7 @@ fn loosen_on(
     ensures fewer { Fewer linked.old.notes linked.new.notes }
     ensures same { IsFalse result.gone → IsFalse so_far.gone × (linked.new.notes ≡ linked.old.notes) }
     ensures before { IsTrue result.all → IsTrue so_far.all }
-    ensures all { IsTrue result.all → has used line ≡ true → (x : ℕ) → IsTrue (live x linked.old.nodes) → x < b → Variant care want target line (node_gate x linked.old.nodes) → noted x linked.new.notes ≡ 0 }
+    ensures all { IsTrue result.all → has used line ≡ true → LooseOn linked.new.notes linked.old.nodes b care want target line }
 {
     if !has(used, line) {
         return so_far;
@@ -130,7 +129,7 @@ fn loosen_all(linked: &mut Linked, b: NodeId, care: LineSet, want: LineSet, targ
     ensures nodes { linked.new.nodes ≡ linked.old.nodes }
     ensures fewer { Fewer linked.old.notes linked.new.notes }
     ensures same { IsFalse result.gone → linked.new.notes ≡ linked.old.notes }
-    ensures all { IsTrue result.all → (x : ℕ) → IsTrue (live x linked.old.nodes) → x < b → (noted x linked.new.notes ≡ 0) ⊎ (paired (node_gate x linked.old.nodes) (Shape.Flip care want target) ≡ None) }
+    ensures all { IsTrue result.all → LooseAll linked.new.notes linked.old.nodes b (Shape.Flip care want target) }
 {
     linked.recall_invariant();
     let used = linked.read_lines() | care;
@@ -152,7 +151,7 @@ pub fn loosen_joined(linked: &mut Linked, b: NodeId, new: Gate) -> Loosened
     ensures nodes { linked.new.nodes ≡ linked.old.nodes }
     ensures fewer { Fewer linked.old.notes linked.new.notes }
     ensures same { IsFalse result.gone → linked.new.notes ≡ linked.old.notes }
-    ensures all { IsTrue result.all → (x : ℕ) → IsTrue (live x linked.old.nodes) → x < b → (noted x linked.new.notes ≡ 0) ⊎ (paired (node_gate x linked.old.nodes) new ≡ None) }
+    ensures all { IsTrue result.all → LooseAll linked.new.notes linked.old.nodes b new }
 {
     match new.shape() {
         Shape::Flip { care, want, target } => loosen_all(linked, b, care, want, target),

@@ -2,8 +2,7 @@ use Rattle.std.proofs.Common.{◌≡◌, ℕ, ◌<◌, true}
 use Rattle.std.specs.Prelude.{IsTrue, IsFalse}
 use Rattle.rv_gate.specs.Word.{has}
 use Rattle.rv_gate.specs.declared.gate.Shape.TheVariants.{Flip}
-use Rattle.rv_links.specs.Nodes.{live, node_gate, noted}
-use Rattle.rv_templ.specs.inside.Lookups.{Variant, Loose}
+use Rattle.rv_templ.specs.inside.Lookups.{Loose, LooseOn}
 use Rattle.rv_templ.specs.inside.Notes.{Fewer}
 use Rattle.rv_templ.proofs.loosening.loosen_all.Given as goal
 
@@ -14,5 +13,5 @@ invariant-loop-line l = record {
   fewer : Fewer l.fn.linked.notes l.linked.notes;
   same : IsFalse l.went.gone → l.linked.notes ≡ l.fn.linked.notes;
   itself : IsTrue l.went.all → Loose l.linked.notes l.fn.linked.nodes l.b (Flip l.care l.want l.target);
-  others : IsTrue l.went.all → (line : ℕ) → line < l.line → has l.used line ≡ true → (x : ℕ) → IsTrue (live x l.fn.linked.nodes) → x < l.b → Variant l.care l.want l.target line (node_gate x l.fn.linked.nodes) → noted x l.linked.notes ≡ 0;
+  others : IsTrue l.went.all → (line : ℕ) → line < l.line → has l.used line ≡ true → LooseOn l.linked.notes l.fn.linked.nodes l.b l.care l.want l.target line;
 }
