@@ -6,3 +6,4 @@ pub mod WindowLemmas
 pub mod StayLemmas
 pub mod UsedLemmas
 pub mod EnterLemmas
+pub mod IndexLemmas

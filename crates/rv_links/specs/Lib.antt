@@ -1,3 +1,4 @@
 pub mod Order
 pub mod Nodes
+pub mod Seeking
 pub mod inside

@@ -4,7 +4,7 @@ use Rattle.rv_gate.specs.declared.gate.Shape.{Shape}
 use Rattle.rv_gate.specs.declared.gate.Shape.TheVariants.{Flip}
 use Rattle.rv_gate.specs.Gate.{touches, touched}
 use Rattle.rv_gate.specs.Circuit.{Cascade, IsCascade}
-use Rattle.rv_links.specs.Order.{lists, NoTwice}
+use Rattle.rv_links.specs.Order.{lists, NoTwice, Rising}
 
 pub record Node : Type 0 where
   pub id : ℕ
@@ -34,6 +34,7 @@ circuit_of l = record l.frame { gates = gates_in l.nodes }
 pub record IsLinkage (l : Linkage) : Type 0 where
   pub circuit : IsCascade (circuit_of l)
   pub once : NoTwice (ids_in l.nodes)
+  pub rising : Rising (ids_in l.nodes)
 
 -- a number is that of a node
 abbrev pub live : ℕ → List Node → Bool
@@ -58,14 +59,10 @@ unfoldable pub erased : ℕ → List Node → List Node
 erased id [] = []
 erased id (n ∷ rest) = if id == n.id then rest else n ∷ erased id rest
 
--- a node put directly after another
-unfoldable pub placed_after : Node → ℕ → List Node → List Node
-placed_after n other [] = []
-placed_after n other (m ∷ rest) = if other == m.id then m ∷ n ∷ rest else m ∷ placed_after n other rest
-
--- a node of the list moved directly after another
-abbrev pub moved_after : ℕ → ℕ → List Node → List Node
-moved_after id other nodes = placed_after (record { id = id; gate = node_gate id nodes }) other (erased id nodes)
+-- a node with another gate
+unfoldable pub regated : ℕ → Shape → List Node → List Node
+regated id gate [] = []
+regated id gate (n ∷ rest) = if id == n.id then (record { id = n.id; gate = gate }) ∷ rest else n ∷ regated id gate rest
 
 -- the first count nodes get other gates, in order; those that get none go
 unfoldable pub with_gates : ℕ → List Shape → List Node → List Node

@@ -1,5 +1,5 @@
 -- Numbers in an order.
-use Rattle.std.specs.Prelude.{ℕ, Bool, ◌==◌, if◌then◌else◌, List, [], ◌∷◌, Option, Some, None, IsFalse}
+use Rattle.std.specs.Prelude.{ℕ, ◌<◌, Bool, ◌==◌, if◌then◌else◌, List, [], ◌∷◌, Option, Some, None, IsTrue, IsFalse}
 use Rattle.std.specs.List.{list_any}
 
 abbrev pub lists : ℕ → List ℕ → Bool
@@ -9,6 +9,11 @@ lists x ys = list_any (λ y. x == y) ys
 abbrev pub NoTwice : List ℕ → Type 0
 NoTwice [] = Unit {0}
 NoTwice (x ∷ xs) = IsFalse (lists x xs) × NoTwice xs
+
+-- each number is less than those after it
+abbrev pub Rising : List ℕ → Type 0
+Rising [] = Unit {0}
+Rising (x ∷ xs) = ((y : ℕ) → IsTrue (lists y xs) → x < y) × Rising xs
 
 abbrev pub head : List ℕ → Option ℕ
 head [] = None

@@ -1,3 +1,4 @@
 pub mod Ring
 pub mod Chains
 pub mod Used
+pub mod Index

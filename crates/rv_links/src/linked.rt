@@ -1,15 +1,17 @@
 ghost use Rattle.std.specs.Prelude.{◌≡◌, ◌≢◌, ℕ, ◌+◌, ◌-◌, ◌*◌, ◌^◌, ◌<◌, ◌≤◌, [], ◌∷◌, ◌++◌, length, drop, suc, ◌↔◌, All, IfSome, IfOk, true, IsTrue, IsFalse};
 ghost use Rattle.std.specs.List.{range_with_len};
-ghost use Rattle.rv_gate.specs.Gate.{touches, FitsIn, IsGate};
+ghost use Rattle.rv_gate.specs.Word.{has};
+ghost use Rattle.rv_gate.specs.Gate.{touches, controls, is_flip, FitsIn, IsGate};
 ghost use Rattle.rv_gate.specs.Commuting.{rule};
 ghost use Rattle.rv_gate.specs.declared.circuit.TheConstants.{MOST_GATES};
 ghost use Rattle.rv_links.specs.Order.{head, lists, next_in, prev_in};
-ghost use Rattle.rv_links.specs.Nodes.{IsLinkage, circuit_of, ids_in, gates_in, chain, live, node_gate, noted, Stays, erased, moved_after, window_set, incidences, window_gates, window_ids};
-ghost use Rattle.rv_links.specs.inside.Chains.{gate_at, regated, finish};
+ghost use Rattle.rv_links.specs.Seeking.{Tells};
+ghost use Rattle.rv_links.specs.Nodes.{IsLinkage, circuit_of, ids_in, gates_in, chain, live, node_gate, noted, Stays, erased, regated, window_set, incidences, window_gates, window_ids};
+ghost use Rattle.rv_links.specs.inside.Chains.{gate_at, finish};
 
 use crate::ring::Ring;
 use crate::used::{is_free, read_by, used};
-use crate::{NodeId, chains};
+use crate::{NodeId, Sought, chains, index};
 use rv_gate::{Circuit, Gate, LineSet};
 use std::alloc::{AllocError, Global};
 use std::marker::Model;
@@ -17,8 +19,8 @@ use std::marker::Model;
 /// A circuit whose gates are linked: each with the next and the previous one, and on each line that it touches with the
 /// next and the previous one that touch it.
 ///
-/// Once it is made no call takes memory, but [`to_circuit`](Linked::to_circuit). A gate takes 36 bytes and 8 for each
-/// line of the circuit and for the whole order, touched or not: 556 bytes on 64 lines, so 583 MB for the largest circuit.
+/// Once it is made no call takes memory, but [`to_circuit`](Linked::to_circuit). A gate takes 44 bytes and 8 for each
+/// line of the circuit and for the whole order, touched or not: 564 bytes on 64 lines, so 592 MB for the largest circuit.
 #[derive(Drop)]
 pub struct Linked {
     // The names, labels and marks, and no gates.
@@ -33,6 +35,9 @@ pub struct Linked {
     changed: LineSet,
     // By the numbers of the nodes.
     notes: Vec<u32>,
+    // Where gates are found by their hash, and how many were written there since it was made anew.
+    slots: Vec<u32>,
+    entered: u32,
 }
 
 impl Model for Linked {
@@ -40,12 +45,13 @@ impl Model for Linked {
     ghost use Rattle.rv_links.specs.Nodes.{Linkage};
     ghost use Rattle.rv_links.specs.inside.Chains.{nodes_of, IsLinked};
     ghost use Rattle.rv_links.specs.inside.Used.{UsesAll};
+    ghost use Rattle.rv_links.specs.inside.Index.{IsSearchable};
 
     ghost Value = { Linkage };
 
     ghost view = { λ l. record { frame = l.frame; nodes = nodes_of l.gates.items l.order.ids; notes = l.notes.items } };
 
-    ghost invariant = { λ l. IsLinked (length l.frame.names) l.gates.items l.order l.chains.items × UsesAll l.read l.changed l.gates.items × (length l.notes.items ≡ length l.gates.items) };
+    ghost invariant = { λ l. IsLinked (length l.frame.names) l.gates.items l.order l.chains.items × UsesAll l.read l.changed l.gates.items × (length l.notes.items ≡ length l.gates.items) × IsSearchable l.slots.items l.gates.items l.order.ids };
 }
 
 impl Linked {
@@ -65,6 +71,8 @@ impl Linked {
         chains::thread(&mut order, &mut chains, &gates);
         let (read, changed) = used(&gates);
         let notes = vec![in alloc; 0u32; gates.len()]?;
+        let mut slots = vec![in alloc; 0u32; 2 * gates.len() + 1]?;
+        index::renew(&mut slots, &gates, &order);
         let linked = Linked {
             frame,
             gates,
@@ -73,6 +81,8 @@ impl Linked {
             read,
             changed,
             notes,
+            slots,
+            entered: 0,
         };
         Ok(linked)
     }
@@ -205,6 +215,20 @@ impl Linked {
         is_free(gate, self.read, self.changed)
     }
 
+    /// The lines that gates have read so far, and so all controls of flips.
+    pub fn read_lines(&self) -> LineSet
+        ensures { (id line : ℕ) → IsTrue (live id self.now.nodes) → is_flip (node_gate id self.now.nodes) ≡ true → has (controls (node_gate id self.now.nodes)) line ≡ true → has result line ≡ true }
+    {
+        self.read
+    }
+
+    /// The first place from a number on that has the gate, looked up by the gate's hash.
+    pub fn sought(&self, gate: Gate, from: u32) -> Sought
+        ensures { Tells self.now.nodes gate from result }
+    {
+        index::sought(&self.slots, &self.gates, &self.order, gate, from)
+    }
+
     /// Takes the gate out.
     pub fn erase(&mut self, node: NodeId)
         requires { IsTrue (live node self.old.nodes) }
@@ -217,20 +241,26 @@ impl Linked {
         self.order.remove(node.id);
     }
 
-    /// Moves the gate of `node` directly after that of `other`.
-    pub fn move_after(&mut self, node: NodeId, other: NodeId)
+    /// Gives the place another gate.
+    pub fn set_gate(&mut self, node: NodeId, gate: Gate)
         requires live { IsTrue (live node self.old.nodes) }
-        requires other { IsTrue (live other self.old.nodes) }
-        requires apart { node ≢ other }
-        ensures list { self.new ≡ record self.old { nodes = moved_after node other self.old.nodes } }
-        // Every gate stays at its place.
-        ensures all { (id : ℕ) → IsTrue (live id self.old.nodes) → Stays id self.old.nodes self.new.nodes }
+        requires fits { FitsIn gate (length self.old.frame.names) }
+        ensures { self.new ≡ record self.old { nodes = regated node gate self.old.nodes } }
     {
-        let gate = self.gates[node.id as usize];
-        chains::leave(&mut self.chains, gate, node.id);
-        self.order.remove(node.id);
-        self.order.insert_after(node.id, other.id);
-        chains::enter(&mut self.chains, &self.gates, &self.order, node.id);
+        // Its shape is that of a gate.
+        gate.recall_invariant();
+        let old = self.gates[node.id as usize];
+        self.read |= read_by(gate);
+        self.changed |= gate.targets();
+        self.gates[node.id as usize] = gate;
+        chains::change(&mut self.chains, &self.gates, &self.order, node.id, old);
+        self.entered = index::keep(
+            &mut self.slots,
+            self.entered,
+            &self.gates,
+            &self.order,
+            node.id,
+        );
     }
 
     /// The `count` gates from `first` on, or as many as are left there, become these. The first places get one each, in
@@ -286,21 +316,6 @@ impl Linked {
         Ok(gates)
     }
 
-    // Gives a node another gate.
-    fn regate(&mut self, node: NodeId, gate: Gate)
-        requires live { IsTrue (live node self.old.nodes) }
-        requires fits { FitsIn gate (length self.old.frame.names) }
-        ensures { self.new ≡ record self.old { nodes = regated node gate self.old.nodes } }
-    {
-        // Its shape is that of a gate.
-        gate.recall_invariant();
-        let old = self.gates[node.id as usize];
-        self.read |= read_by(gate);
-        self.changed |= gate.targets();
-        self.gates[node.id as usize] = gate;
-        chains::change(&mut self.chains, &self.gates, &self.order, node.id, old);
-    }
-
     // Gives a node of a window the gate of this place, or takes it out where there is none. Answers the next node.
     fn place(&mut self, at: Option<NodeId>, gates: &[Gate], i: u32) -> Option<NodeId>
         requires live { IfSome at (λ a. IsTrue (live a self.old.nodes)) }
@@ -317,7 +332,7 @@ impl Linked {
                 let next = self.next(node);
                 if (i as usize) < gates.len() {
                     let gate = gates[i as usize];
-                    self.regate(node, gate);
+                    self.set_gate(node, gate);
                     next
                 } else {
                     self.erase(node);

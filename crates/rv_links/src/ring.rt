@@ -1,6 +1,6 @@
 ghost use Rattle.std.specs.Prelude.{◌≡◌, ◌+◌, ◌-◌, ◌*◌, ◌^◌, ◌<◌, ◌≤◌, [], ◌∷◌, ◌++◌, length, IfOk, IsTrue, IsFalse};
 ghost use Rattle.rv_links.specs.Order.{lists, head, next_in, prev_in};
-ghost use Rattle.rv_links.specs.inside.Ring.{without, put_after, put_before};
+ghost use Rattle.rv_links.specs.inside.Ring.{without, put_before};
 
 use std::alloc::{AllocError, Global};
 use std::marker::Model;
@@ -101,20 +101,6 @@ impl Ring {
         self.next[before as usize] = after;
         self.prev[after as usize] = before;
         self.next[x as usize] = x;
-    }
-
-    /// Puts a number directly after another.
-    pub fn insert_after(&mut self, x: u32, before: u32)
-        requires below { x < self.old.room }
-        requires fresh { IsFalse (lists x self.old.ids) }
-        requires there { IsTrue (lists before self.old.ids) }
-        ensures { self.new ≡ record self.old { ids = put_after x before self.old.ids } }
-    {
-        let after = self.next[before as usize];
-        self.next[x as usize] = after;
-        self.prev[x as usize] = before;
-        self.next[before as usize] = x;
-        self.prev[after as usize] = x;
     }
 
     /// Puts a number directly before another.

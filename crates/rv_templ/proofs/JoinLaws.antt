@@ -235,7 +235,7 @@ both_flips c w t n v f =
     }
 
 -- the line on which the cubes differ is a control of one
-line_used : (c w c2 w2 line : ℕ) → apart_on c w c2 w2 ≡ 2 ^ line
+pub line_used : (c w c2 w2 line : ℕ) → apart_on c w c2 w2 ≡ 2 ^ line
     → ((k : ℕ) → has w k ≡ true → has c k ≡ true) → ((k : ℕ) → has w2 k ≡ true → has c2 k ≡ true)
     → (has c line ≡ true) ⊎ (has c2 line ≡ true)
 line_used c w c2 w2 line e v v2 =
@@ -290,7 +290,7 @@ third_sound c w c2 w2 t n line v v2 f f2 e =
       );
     }
 
-third_some : (c w c2 w2 t : ℕ) (o : Option ℕ) (m : List Shape) → third_at c w c2 w2 t o ≡ Some m → (line : ℕ) × (o ≡ Some line) × (third_flip c w c2 w2 t line ∷ [] ≡ m)
+pub third_some : (c w c2 w2 t : ℕ) (o : Option ℕ) (m : List Shape) → third_at c w c2 w2 t o ≡ Some m → (line : ℕ) × (o ≡ Some line) × (third_flip c w c2 w2 t line ∷ [] ≡ m)
 third_some c w c2 w2 t None m e = absurd (none-some m e)
 third_some c w c2 w2 t (Some line) m e = (line, refl, same_Some _ m e)
 

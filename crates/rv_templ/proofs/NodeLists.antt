@@ -1,11 +1,11 @@
 -- Nodes that stand after others.
-use Rattle.std.proofs.Common.{◌≡◌, ℕ, true, false, ◌||◌, eqb, List, [], ◌∷◌, ◌++◌, refl, sym, ◌∙◌, ap, inl, inr, eq-eqb, ne_eqb}
+use Rattle.std.proofs.Common.{◌≡◌, ℕ, ◌<◌, true, false, ◌||◌, eqb, List, [], ◌∷◌, ◌++◌, refl, sym, subst, ◌∙◌, ap, inl, inr, arith, eq-eqb, ne_eqb, append_assoc}
 use Rattle.std.proofs.lemmas.Bool.{cases_eq, cond-true, cond-false, false≢true, or_cases, or_parts, or_left, or_right, eqb-true}
 use Rattle.std.specs.Prelude.{Some}
 use Rattle.std.proofs.lemmas.Option.{none-some, same_Some}
 use Rattle.rv_gate.specs.declared.gate.Shape.{Shape}
-use Rattle.rv_links.specs.Order.{lists, head, next_in, NoTwice}
-use Rattle.rv_links.specs.Nodes.{Node, ids_in, live, node_gate, from_node, erased, placed_after, with_gates, window_set}
+use Rattle.rv_links.specs.Order.{lists, head, next_in, NoTwice, Rising}
+use Rattle.rv_links.specs.Nodes.{Node, ids_in, live, node_gate, from_node, erased, regated, with_gates, window_set}
 
 pub apart : (before : List Node) (n : Node) (after : List Node) → NoTwice (ids_in (before ++ (n ∷ after))) → lists n.id (ids_in before) ≡ false
 apart [] n after d = refl
@@ -44,12 +44,12 @@ gone_at (m ∷ before) n after off =
     let p = or_parts (eqb n.id m.id) (lists n.id (ids_in before)) off in
     cond-false (eqb n.id m.id) _ _ p.0 ∙ ap (λ l. m ∷ l) (gone_at before n after p.1)
 
-pub placed_at : (before : List Node) (n x : Node) (after : List Node) → lists n.id (ids_in before) ≡ false → placed_after x n.id (before ++ (n ∷ after)) ≡ before ++ (n ∷ x ∷ after)
-unfolding placed_after
-placed_at [] n x after off = cond-true (eqb n.id n.id) _ _ (eq-eqb n.id n.id refl)
-placed_at (m ∷ before) n x after off =
+pub regated_at : (before : List Node) (n : Node) (after : List Node) (g : Shape) → lists n.id (ids_in before) ≡ false → regated n.id g (before ++ (n ∷ after)) ≡ before ++ ((record { id = n.id; gate = g }) ∷ after)
+unfolding regated
+regated_at [] n after g off = cond-true (eqb n.id n.id) _ _ (eq-eqb n.id n.id refl)
+regated_at (m ∷ before) n after g off =
     let p = or_parts (eqb n.id m.id) (lists n.id (ids_in before)) off in
-    cond-false (eqb n.id m.id) _ _ p.0 ∙ ap (λ l. m ∷ l) (placed_at before n x after p.1)
+    cond-false (eqb n.id m.id) _ _ p.0 ∙ ap (λ l. m ∷ l) (regated_at before n after g p.1)
 
 pub window_at_node : (before : List Node) (n : Node) (after : List Node) (c : ℕ) (gs : List Shape) → lists n.id (ids_in before) ≡ false → window_set n.id c gs (before ++ (n ∷ after)) ≡ before ++ with_gates c gs (n ∷ after)
 unfolding window_set
@@ -86,3 +86,42 @@ stands (n ∷ rest) a on =
           let s = stands rest a l in
           record { before = n ∷ s.before; node = s.node; after = s.after; split = ap (λ t. n ∷ t) s.split; is = s.is }
     ]
+
+-- ---- nodes whose numbers rise
+
+pub later_than : (before : List Node) (n : Node) (after : List Node) (y : ℕ) → Rising (ids_in (before ++ (n ∷ after))) → live y after ≡ true → n.id < y
+later_than [] n after y r on = r.0 y on
+later_than (m ∷ before) n after y r on = later_than before n after y r.1 on
+
+pub sooner_than : (before : List Node) (n : Node) (after : List Node) (x : ℕ) → Rising (ids_in (before ++ (n ∷ after))) → live x before ≡ true → x < n.id
+sooner_than [] n after x r on = absurd (false≢true on)
+sooner_than (m ∷ before) n after x r on =
+    elim (or_cases (eqb x m.id) (lists x (ids_in before)) on) [
+      | inl e ↦ let q = eqb-true x m.id e in let l = r.0 n.id (listed_at before n after) in omega (arith, q, l)
+      | inr l ↦ sooner_than before n after x r.1 l
+    ]
+
+-- a node with a greater number is after it
+pub is_after : (before : List Node) (n : Node) (after : List Node) (y : ℕ) → Rising (ids_in (before ++ (n ∷ after))) → live y (before ++ (n ∷ after)) ≡ true → n.id < y → live y after ≡ true
+is_after [] n after y r on lt = elim (or_cases (eqb y n.id) (lists y (ids_in after)) on) [ inl e ↦ (let q = eqb-true y n.id e in absurd (omega (arith, q, lt))) | inr l ↦ l ]
+is_after (m ∷ before) n after y r on lt =
+    elim (or_cases (eqb y m.id) (lists y (ids_in (before ++ (n ∷ after)))) on) [
+      | inl e ↦ let q = eqb-true y m.id e in let l = r.0 n.id (listed_at before n after) in absurd (omega (arith, q, l, lt))
+      | inr l ↦ is_after before n after y r.1 l lt
+    ]
+
+-- what holds of the gates of live nodes holds of each of some nodes
+unfoldable pub Each : (ℕ → Shape → Type 0) → List Node → Type 0
+Each P [] = Unit {0}
+Each P (n ∷ rest) = P n.id n.gate × Each P rest
+
+pub each_of : (P : ℕ → Shape → Type 0) (nodes front between back : List Node) → nodes ≡ front ++ (between ++ back) → NoTwice (ids_in nodes)
+    → ((x : ℕ) → live x between ≡ true → live x nodes ≡ true → P x (node_gate x nodes)) → Each P between
+unfolding Each
+each_of P nodes front [] back e d all = tt
+each_of P nodes front (m ∷ rest) back e d all =
+    let on : live m.id nodes ≡ true = ap (live m.id) e ∙ listed_at front m (rest ++ back) in
+    let is : node_gate m.id nodes ≡ m.gate = ap (node_gate m.id) e ∙ gate_at_node front m (rest ++ back) (apart front m (rest ++ back) (subst (λ (l : List Node). NoTwice (ids_in l)) e d)) in (
+      subst (λ (g : Shape). P m.id g) is (all m.id (listed_at [] m rest) on),
+      each_of P nodes (front ++ (m ∷ [])) rest back (e ∙ sym (append_assoc front (m ∷ []) (rest ++ back))) d (λ x l on2. all x (or_right (eqb x m.id) _ l) on2),
+    )

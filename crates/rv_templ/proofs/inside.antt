@@ -10,6 +10,7 @@ pub mod KeepingLaws
 pub mod ReplacementLemmas
 pub mod LinkedWindows
 pub mod PartnerWalk
+pub mod LookupLaws
 pub mod PairWalk
 pub mod LinkedPairs
 pub mod TemplateLaws

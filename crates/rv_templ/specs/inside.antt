@@ -5,6 +5,7 @@ pub mod Pruning
 pub mod Replaced
 pub mod Linking
 pub mod Mates
+pub mod Lookups
 pub mod Notes
 pub mod Clean
 pub mod Sizes

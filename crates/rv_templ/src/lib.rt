@@ -14,6 +14,8 @@ mod fault;
 mod image;
 mod joining;
 mod library;
+mod lookups;
+mod loosening;
 mod matching;
 mod notes;
 mod pairs;

@@ -19,6 +19,7 @@ ghost use Rattle.rv_templ.specs.inside.Notes.{Quiet, Noted, AllNoted, NoneNoted,
 use crate::along::{Cursor, back, front, gate_count, node_at};
 use crate::image::target_of;
 use crate::joining::{Joined, join};
+use crate::loosening::loosen_joined;
 use crate::pairs::Pair;
 use crate::passing::passes;
 use rv_gate::{Gate, MOST_GATES};
@@ -209,8 +210,9 @@ fn forget_if_joined(linked: &mut Linked, node: NodeId, new: Gate) -> bool
     }
 }
 
-// Forgets the notes of nodes before `b` that make a pair with the gate. They touch its target. Tells whether a note went.
-fn forget_joined(linked: &mut Linked, b: NodeId, new: Gate) -> bool
+// Forgets the notes of nodes before `b` that make a pair with the gate, looked for along the chain of its target, which they
+// touch. Tells whether a note went.
+fn forget_along(linked: &mut Linked, b: NodeId, new: Gate) -> bool
     requires { FitsIn new (length linked.old.frame.names) }
     ensures frame { linked.new.frame ≡ linked.old.frame }
     ensures nodes { linked.new.nodes ≡ linked.old.nodes }
@@ -233,9 +235,30 @@ fn forget_joined(linked: &mut Linked, b: NodeId, new: Gate) -> bool
     gone
 }
 
+// The same by look-ups, as far as these tell.
+#[tactic(auto, using(crate::proofs::inside::LookupLaws::apart_before, crate::proofs::inside::NoteLaws::fewer_on))]
+fn forget_joined(linked: &mut Linked, b: NodeId, new: Gate) -> bool
+    requires live { IsTrue (live b linked.old.nodes) }
+    requires fits { FitsIn new (length linked.old.frame.names) }
+    ensures frame { linked.new.frame ≡ linked.old.frame }
+    ensures nodes { linked.new.nodes ≡ linked.old.nodes }
+    ensures fewer { Fewer linked.old.notes linked.new.notes }
+    ensures same { IsFalse result → linked.new.notes ≡ linked.old.notes }
+    ensures apart { (n : Node) (xs ys : List Node) → n.id ≡ b → linked.old.nodes ≡ xs ++ (n ∷ ys) → Apart linked.new.notes (new ∷ []) xs }
+{
+    linked.recall_invariant();
+    let went = loosen_joined(linked, b, new);
+    if went.all {
+        return went.gone;
+    }
+    let also = forget_along(linked, b, new);
+    went.gone || also
+}
+
 // The same for what the pair comes to.
 fn forget_made(linked: &mut Linked, b: NodeId, made: &Joined) -> bool
-    requires { (gates : List Shape) → option_of made.now ≡ Some gates → All (λ g. FitsIn g (length linked.old.frame.names)) gates }
+    requires live { IsTrue (live b linked.old.nodes) }
+    requires fits { (gates : List Shape) → option_of made.now ≡ Some gates → All (λ g. FitsIn g (length linked.old.frame.names)) gates }
     ensures frame { linked.new.frame ≡ linked.old.frame }
     ensures nodes { linked.new.nodes ≡ linked.old.nodes }
     ensures fewer { Fewer linked.old.notes linked.new.notes }
@@ -280,7 +303,7 @@ pub fn forget_pair(linked: &mut Linked, pair: &Pair, here: Cursor, far: usize) -
     let first = linked.gate(a);
     let second = linked.gate(b);
     let made = join(first, second);
-    linked.set_note(a, 0);
+    linked.set_note(b, 0);
     let free = are_free(linked, first, second);
     if free {
         let gone = forget_made(linked, b, &made);

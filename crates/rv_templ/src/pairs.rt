@@ -6,14 +6,15 @@ ghost use Rattle.rv_links.specs.inside.Chains.{nodes_from};
 ghost use Rattle.rv_templ.specs.inside.Notes.{Noted, AllNoted, Others, coupled};
 ghost use Rattle.rv_templ.specs.inside.Linking.{IsCursor};
 ghost use Rattle.rv_templ.specs.Pairs.{pair_step};
-ghost use Rattle.rv_templ.specs.inside.Mates.{Mate, NoMate, Candidate, IsPairSpot, brought};
+ghost use Rattle.rv_templ.specs.inside.Mates.{Mate, NoMate, Candidate, IsPairSpot};
 
 use crate::along::{Cursor, node_at};
 use crate::image::target_of;
 use crate::joining::{Joined, join};
+use crate::lookups::look_up;
 use crate::notes::note_quiet;
 use crate::passing::passes;
-use rv_links::{Linked, NodeId};
+use rv_links::{Linked, NodeId, Sought};
 
 /// A pair, with the place of its first gate, counted from 0.
 #[derive(Clone, Copy)]
@@ -47,9 +48,9 @@ fn if_free(linked: &Linked, a: NodeId, b: NodeId) -> Option<NodeId>
     None
 }
 
-// The nearest node with which the node is a pair. A gate that joins with this one touches its target, so the chain of
-// that line is gone along.
-fn partner_of(linked: &Linked, node: NodeId) -> Option<NodeId>
+// The nearest node with which the node is a pair, looked for along the chain of its target, which a gate touches that joins
+// with this one.
+fn partner_along(linked: &Linked, node: NodeId) -> Option<NodeId>
     requires { IsTrue (live node linked.now.nodes) }
     ensures { MatchOption result (NoMate linked.now.nodes node) (λ b. Mate linked.now.nodes node b) }
 {
@@ -73,19 +74,20 @@ fn partner_of(linked: &Linked, node: NodeId) -> Option<NodeId>
     None
 }
 
-// Moves the node to stand directly before the other.
-fn bring(linked: &mut Linked, a: NodeId, b: NodeId)
-    requires { Mate linked.old.nodes a b }
-    ensures frame { linked.new.frame ≡ linked.old.frame }
-    ensures nodes { (m : Mate linked.old.nodes a b) → linked.new.nodes ≡ brought linked.old.nodes a b m }
-    ensures notes { linked.new.notes ≡ linked.old.notes }
+// The nearest node with which the node is a pair. Where its gate commutes with all, no gate of the chain would end the
+// walk, so the gates are looked up that join with it.
+fn partner_of(linked: &Linked, node: NodeId) -> Option<NodeId>
+    requires { IsTrue (live node linked.now.nodes) }
+    ensures { MatchOption result (NoMate linked.now.nodes node) (λ b. Mate linked.now.nodes node b) }
 {
-    linked.recall_invariant();
-    if let Some(near) = linked.prev(b) {
-        if near == a {
-            return;
-        }
-        linked.move_after(a, near);
+    let gate = linked.gate(node);
+    if !linked.commutes_with_all(gate) {
+        return partner_along(linked, node);
+    }
+    match look_up(linked, node, gate) {
+        Sought::Unknown => partner_along(linked, node),
+        Sought::Nowhere => None,
+        Sought::At(other) => if_free(linked, node, other),
     }
 }
 
@@ -101,13 +103,12 @@ pub fn make_pair(linked: &mut Linked, a: NodeId, b: NodeId)
     let second = linked.gate(b);
     match join(first, second) {
         Joined::Both => {
-            linked.erase(b);
             linked.erase(a);
+            linked.erase(b);
         }
         Joined::One(gate) => {
-            bring(linked, a, b);
-            linked.recall_invariant();
-            linked.replace_window(a, 2, &[gate]);
+            linked.erase(a);
+            linked.set_gate(b, gate);
         }
         Joined::Apart => unreachable!(),
     }

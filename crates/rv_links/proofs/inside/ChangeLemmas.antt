@@ -1,17 +1,17 @@
--- Linked cascades through the numbers of their nodes: a node is moved, or gets another gate, and a whole cascade is made.
-use Rattle.std.proofs.Common.{◌≡◌, ◌≢◌, ℕ, zero, suc, ◌+◌, ◌<◌, Bool, true, false, cond, ◌||◌, eqb, List, [], ◌∷◌, ◌++◌, length, get_or, set, take, drop, refl, sym, ◌∙◌, ap, inl, inr, arith, length-set, get_or-set_same, get_or-set_other, eq-eqb, ne_eqb}
+-- Linked cascades through the numbers of their nodes: a node gets another gate, and a whole cascade is made.
+use Rattle.std.proofs.Common.{◌≡◌, ℕ, zero, suc, ◌+◌, ◌<◌, Bool, true, false, cond, ◌||◌, eqb, List, [], ◌∷◌, ◌++◌, length, get_or, set, take, drop, refl, sym, ◌∙◌, ap, inl, inr, arith, length-set, get_or-set_same, get_or-set_other, eq-eqb, ne_eqb}
 use Rattle.std.specs.List.{range_with_len}
 use Rattle.std.specs.Prelude.{All, filter}
 use Rattle.std.proofs.lemmas.List.{take_at, get_or-drop, drop-drop}
-use Rattle.std.proofs.lemmas.Bool.{cases_eq, cases_Bool, cond-true, cond-false, false≢true, false_from_ne_true}
+use Rattle.std.proofs.lemmas.Bool.{cases_eq, cond-true, cond-false, false≢true, false_from_ne_true}
 use Rattle.rv_gate.specs.declared.gate.Shape.{Shape}
 use Rattle.rv_gate.specs.Gate.{touches, FitsIn, IsGate}
 use Rattle.rv_links.specs.Order.{lists, NoTwice}
-use Rattle.rv_links.specs.inside.Ring.{Order, without, put_after}
-use Rattle.rv_links.specs.Nodes.{Node, ids_in, gates_in, node_gate, erased, placed_after}
-use Rattle.rv_links.specs.inside.Chains.{blank, gate_at, order_at, nodes_of, touching, IsLinked, left, chain_order, regated}
-use Rattle.rv_links.proofs.inside.RingLemmas.{lists_here, lists_more, lists_cases, lists_not, differ_from, lists_without, kept_without, NoTwice-without, gone_without, lists_put_after, NoTwice-put_after, lists_push, NoTwice-push}
-use Rattle.rv_links.proofs.inside.LinkedLemmas.{ids_of_nodes, gate_of_nodes, erased_nodes, lists_filter, filter_without, gate_read, left_ids, left_room, enter_not}
+use Rattle.rv_links.specs.inside.Ring.{Order, without}
+use Rattle.rv_links.specs.Nodes.{Node, ids_in, gates_in, regated}
+use Rattle.rv_links.specs.inside.Chains.{blank, gate_at, order_at, nodes_of, touching, IsLinked, chain_order}
+use Rattle.rv_links.proofs.inside.RingLemmas.{lists_here, lists_more, lists_cases, lists_not, differ_from, gone_without, lists_push, NoTwice-push}
+use Rattle.rv_links.proofs.inside.LinkedLemmas.{ids_of_nodes, lists_filter, filter_without, gate_read, enter_not}
 
 -- ---- what the loops and branches need
 
@@ -21,32 +21,7 @@ touches_read gates q line g b lt e t = sym (t ∙ ap (λ h. touches h line) (gat
 pub part_is : (gates : List Shape) (line : ℕ) (a ids : List ℕ) (o : Order) → o ≡ (let v : Order = record { room = length gates; ids = a } in v) → a ≡ touching gates line ids → o ≡ chain_order gates line ids
 part_is gates line a ids o e same = e ∙ ap (λ l. let v : Order = record { room = length gates; ids = l } in v) same
 
--- ---- a node is moved
-
-without_put_after : (x b : ℕ) (zs : List ℕ) → lists x zs ≡ false → lists b zs ≡ true → without x (put_after x b zs) ≡ zs
-unfolding without put_after
-without_put_after x b [] nx on = absurd (false≢true on)
-without_put_after x b (w ∷ ws) nx on =
-    let o = lists_not x w ws nx in
-    elim (cases_eq b w) [
-      | inl e ↦ rw (eq-eqb b w e) (cond-false (eqb x w) _ _ (ne_eqb x w o.0) ∙ ap (λ l. w ∷ l) (cond-true (eqb x x) _ _ (eq-eqb x x refl)))
-      | inr ne ↦
-          rw (ne_eqb b w ne)
-          (elim (lists_cases b w ws on) [
-            | inl e ↦ absurd (ne e)
-            | inr l ↦ cond-false (eqb x w) _ _ (ne_eqb x w o.0) ∙ ap (λ l. w ∷ l) (without_put_after x b ws o.1 l)
-          ])
-    ]
-
-pub placed_nodes : (gates : List Shape) (x b : ℕ) (zs : List ℕ)
-    → nodes_of gates (put_after x b zs) ≡ placed_after (let n : Node = record { id = x; gate = gate_at gates x } in n) b (nodes_of gates zs)
-unfolding put_after placed_after
-placed_nodes gates x b [] = refl
-placed_nodes gates x b (w ∷ ws) =
-    elim (cases_Bool (eqb b w)) [
-      | inl t ↦ rw t refl
-      | inr f ↦ rw f (ap (λ l. let n : Node = record { id = w; gate = gate_at gates w } in n ∷ l) (placed_nodes gates x b ws))
-    ]
+-- ---- a number enters
 
 filter_same : (p q : ℕ → Bool) (ids : List ℕ) → ((x : ℕ) → lists x ids ≡ true → p x ≡ q x) → filter p ids ≡ filter q ids
 filter_same p q [] h = refl
@@ -80,56 +55,6 @@ same_order o room ids e f = ap (λ r. let v : Order = record { room = r; ids = o
 pub chain_part : (lines : ℕ) (gates : List Shape) (order : Order) (chains : List Order) (line : ℕ) → IsLinked lines gates order chains → line < lines
     → order_at chains line ≡ chain_order gates line order.ids
 chain_part lines gates order chains line k lt = same_order (order_at chains line) (length gates) _ (k.rooms line lt) (k.parts line lt)
-
--- what `move_after` has before it enters again
-pub record Moving (lines : ℕ) (gates : List Shape) (order : Order) (id other : ℕ) (again : Order) : Type 0 where
-  pub linked : (rest : List Order) → length rest ≡ lines → ((line : ℕ) → line < lines → order_at rest line ≡ chain_order gates line again.ids) → IsLinked lines gates again rest
-  pub here : lists id again.ids ≡ true
-  pub below : (x : ℕ) → lists x again.ids ≡ true → x < length gates
-  pub once : NoTwice again.ids
-  pub before : without id again.ids ≡ without id order.ids
-
-pub moving : (lines : ℕ) (gates : List Shape) (order : Order) (chains : List Order) (id other : ℕ) (gone again : Order)
-    → IsLinked lines gates order chains → lists id order.ids ≡ true → lists other order.ids ≡ true → id ≢ other
-    → gone ≡ (let o : Order = record { room = order.room; ids = without id order.ids } in o)
-    → again ≡ (let o : Order = record { room = gone.room; ids = put_after id other gone.ids } in o)
-    → Moving lines gates order id other again
-moving lines gates order chains id other gone again k on there ne eg ea =
-    let off = gone_without id order.ids k.once in
-    let left_there : lists other (without id order.ids) ≡ true = kept_without id other order.ids (λ e. ne (sym e)) there in
-    let ids : List ℕ = put_after id other (without id order.ids) in
-    let eq : again ≡ (let o : Order = record { room = order.room; ids = ids } in o) = ea ∙ ap (λ (g : Order). let o : Order = record { room = g.room; ids = put_after id other g.ids } in o) eg in
-    let d : NoTwice ids = NoTwice-put_after id other (without id order.ids) left_there off (NoTwice-without id order.ids k.once) in
-    let same : (y : ℕ) → lists y ids ≡ (eqb y id || lists y (without id order.ids)) = λ y. lists_put_after id other y (without id order.ids) left_there in
-    let within : (x : ℕ) → lists x ids ≡ true → x < length gates =
-    λ x l. elim (lists_cases x id (without id order.ids) (sym (same x) ∙ l)) [ inl e ↦ k.below x (ap (λ n. lists n order.ids) e ∙ on) | inr i ↦ k.below x (lists_without id x order.ids i) ] in
-    rw eq
-    (record {
-      linked = λ rest len each.
-          record {
-            few = k.few;
-            most = k.most;
-            room = k.room;
-            count = len;
-            once = d;
-            below = within;
-            fits = λ x l. elim (lists_cases x id (without id order.ids) (sym (same x) ∙ l)) [ inl e ↦ k.fits x (ap (λ n. lists n order.ids) e ∙ on) | inr i ↦ k.fits x (lists_without id x order.ids i) ];
-            valid = λ x l. elim (lists_cases x id (without id order.ids) (sym (same x) ∙ l)) [ inl e ↦ k.valid x (ap (λ n. lists n order.ids) e ∙ on) | inr i ↦ k.valid x (lists_without id x order.ids i) ];
-            rooms = λ line l. ap (λ (o : Order). o.room) (each line l);
-            parts = λ line l. ap (λ (o : Order). o.ids) (each line l);
-          };
-      here = same id ∙ ap (λ b. b || lists id (without id order.ids)) (eq-eqb id id refl);
-      below = within;
-      once = d;
-      before = without_put_after id other (without id order.ids) off left_there;
-    })
-
--- the chains that a gate left
-pub left_parts : (lines : ℕ) (gates : List Shape) (order : Order) (chains : List Order) (id : ℕ) (was rest : List Order) (g : Shape)
-    → IsLinked lines gates order chains → was ≡ chains → g ≡ gate_at gates id
-    → ((line : ℕ) → line < length was → order_at rest line ≡ left g id line (order_at was line))
-    → (line : ℕ) → line < lines → order_at rest line ≡ chain_order gates line (without id order.ids)
-left_parts lines gates order chains id was rest g k ew eg each line lt = grind (arith, same_order, order_at, left_room, gate_at, left_ids, filter_without)
 
 -- ---- a node gets another gate
 
@@ -230,11 +155,6 @@ with_list n new old h = take_at new (drop (length new) old) n h
 pub linked_with : (lines : ℕ) (gates : List Shape) (order : Order) (n : ℕ) (new old : List Order) → length new ≡ n → IsLinked lines gates order new
     → IsLinked lines gates order (take n (new ++ drop (length new) old))
 linked_with lines gates order n new old h k = rw (with_list n new old h) k
-
-pub moved_nodes : (gates : List Shape) (ids : List ℕ) (id other node after : ℕ) → lists id ids ≡ true → id ≡ node → other ≡ after
-    → nodes_of gates (put_after id other (without id ids))
-    ≡ placed_after (let n : Node = record { id = node; gate = node_gate node (nodes_of gates ids) } in n) after (erased node (nodes_of gates ids))
-moved_nodes gates ids id other node after on e1 e2 = grind (arith, placed_nodes, placed_after, gate_at, erased_nodes, nodes_of, gate_of_nodes)
 
 -- ---- a linked cascade is made
 

@@ -8,7 +8,7 @@ use Rattle.std.proofs.lemmas.List.{get_or_past, get_or_read, get_or_push, get_or
 use Rattle.std.proofs.lemmas.List.Elements.{recursion_from_All}
 use Rattle.std.proofs.lemmas.Map.Steps.{length-le_from_distinct_below}
 use Rattle.rv_links.specs.Order.{lists, head, next_in, prev_from, prev_in, NoTwice}
-use Rattle.rv_links.specs.inside.Ring.{Order, without, put_after, put_before, Joined, walk, IsChain, ids_of, IsRing}
+use Rattle.rv_links.specs.inside.Ring.{Order, without, put_before, Joined, walk, IsChain, ids_of, IsRing}
 
 -- ---- lists of numbers
 
@@ -174,57 +174,6 @@ pub record Put (N P M Q : ℕ → ℕ) (x b n : ℕ) : Type 0 where
   pub keeps_next : (k : ℕ) → k ≢ b → k ≢ x → M k ≡ N k
   pub keeps_prev : (k : ℕ) → k ≢ n → k ≢ x → Q k ≡ P k
 
--- x at the front
-pub put_first : (N P M Q : ℕ → ℕ) (x a : ℕ) → Put N P M Q x a (N a) → (zs : List ℕ) (z : ℕ) → Joined N P a zs z
-    → NoTwice zs → lists a zs ≡ false → lists z zs ≡ false → x ≢ z → lists x zs ≡ false → Joined M Q a (x ∷ zs) z
-put_first N P M Q x a p [] z j d na nz xz nx = (p.over, p.to, (p.from ∙ j.0, ap Q (sym j.0) ∙ p.back))
-put_first N P M Q x a p (w ∷ ws) z j d na nz xz nx =
-    let oz = lists_not z w ws nz in
-    let kn : (k : ℕ) → lists k (w ∷ ws) ≡ true → M k ≡ N k =
-    λ k l. p.keeps_next k (λ e. differ_from a k (w ∷ ws) na l (sym e)) (λ e. differ_from x k (w ∷ ws) nx l (sym e)) in
-    let link : (M x ≡ w) × (Q w ≡ x) = (p.from ∙ j.0, ap Q (sym j.0) ∙ p.back) in
-    let rest : Joined M Q w ws z =
-    frame N P M Q w ws z j.2 (kn w (lists_here w ws)) (λ k l. kn k (lists_more k w ws l))
-    (p.keeps_prev z (λ e. oz.0 (e ∙ j.0)) (λ e. xz (sym e)))
-    (λ k l. p.keeps_prev k (λ e. differ_from w k ws d.0 l (sym (e ∙ j.0))) (λ e. differ_from x k (w ∷ ws) nx (lists_more k w ws l) (sym e))) in
-    (p.over, p.to, (link.0, link.1, rest))
-
--- x directly after y
-pub put_mid : (N P M Q : ℕ → ℕ) (x y : ℕ) → Put N P M Q x y (N y) → (a : ℕ) (zs : List ℕ) (z : ℕ) → Joined N P a zs z
-    → NoTwice zs → lists a zs ≡ false → lists z zs ≡ false → x ≢ a → x ≢ z → lists x zs ≡ false → lists y zs ≡ true
-    → Joined M Q a (put_after x y zs) z
-unfolding put_after
-put_mid N P M Q x y p a [] z j d na nz xa xz nx on = absurd (false≢true on)
-put_mid N P M Q x y p a (w ∷ ws) z j d na nz xa xz nx on =
-    let oa = lists_not a w ws na in
-    let oz = lists_not z w ws nz in
-    let ox = lists_not x w ws nx in
-    elim (cases_eq y w) as (λ _. Joined M Q a (cond (eqb y w) (w ∷ x ∷ ws) (w ∷ put_after x y ws)) z) [
-      | inl e ↦
-          let wn : w ≢ N y =
-          elim (next_of_first N P w ws z j.2) [
-            | inl i ↦ (λ q. differ_from w (N w) ws d.0 i (q ∙ ap N e))
-            | inr i ↦ (λ q. oz.0 (sym (q ∙ ap N e ∙ i)))
-          ] in
-          let q = rw e at p in
-          rw (eq-eqb y w e) (
-            p.keeps_next a (λ q. oa.0 (q ∙ e)) (λ q. xa (sym q)) ∙ j.0,
-            p.keeps_prev w wn (λ q. ox.0 (sym q)) ∙ j.1,
-            put_first N P M Q x w q ws z j.2 d.1 d.0 oz.1 xz ox.1,
-          )
-      | inr ne ↦
-          rw (ne_eqb y w ne)
-          (elim (lists_cases y w ws on) [
-            | inl e ↦ absurd (ne e)
-            | inr l ↦
-                let wn : w ≢ N y = elim (next_within N P w ws z y j.2 l) [ inl i ↦ differ_from w (N y) ws d.0 i | inr i ↦ (λ e. oz.0 (sym (e ∙ i))) ] in (
-                  p.keeps_next a (differ_from a y ws oa.1 l) (λ q. xa (sym q)) ∙ j.0,
-                  p.keeps_prev w wn (λ q. ox.0 (sym q)) ∙ j.1,
-                  put_mid N P M Q x y p w ws z j.2 d.1 d.0 oz.1 ox.0 xz ox.1 l,
-                )
-          ])
-    ]
-
 last_within : (N P : ℕ → ℕ) (a : ℕ) (zs : List ℕ) (z : ℕ) → Joined N P a zs z → (P z ≡ a) ⊎ (lists (P z) zs ≡ true)
 last_within N P a [] z j = inl j.1
 last_within N P a (w ∷ ws) z j =
@@ -353,36 +302,6 @@ gone_without x (w ∷ ws) d =
 
 or_turn : (p q r : Bool) → (p || (q || r)) ≡ (q || (p || r))
 or_turn p q r = grind arith
-
-pub lists_put_after : (x b y : ℕ) (zs : List ℕ) → lists b zs ≡ true → lists y (put_after x b zs) ≡ (eqb y x || lists y zs)
-unfolding put_after
-lists_put_after x b y [] on = absurd (false≢true on)
-lists_put_after x b y (w ∷ ws) on =
-    elim (cases_eq b w) [
-      | inl e ↦ rw (eq-eqb b w e) (or_turn (eqb y w) (eqb y x) (lists y ws))
-      | inr ne ↦
-          rw (ne_eqb b w ne)
-          (elim (lists_cases b w ws on) [
-            | inl e ↦ absurd (ne e)
-            | inr l ↦ ap (λ r. eqb y w || r) (lists_put_after x b y ws l) ∙ or_turn (eqb y w) (eqb y x) (lists y ws)
-          ])
-    ]
-
-pub NoTwice-put_after : (x b : ℕ) (zs : List ℕ) → lists b zs ≡ true → lists x zs ≡ false → NoTwice zs → NoTwice (put_after x b zs)
-unfolding put_after
-NoTwice-put_after x b [] on nx d = absurd (false≢true on)
-NoTwice-put_after x b (w ∷ ws) on nx d =
-    let ox = lists_not x w ws nx in
-    elim (cases_eq b w) as (λ _. NoTwice (cond (eqb b w) (w ∷ x ∷ ws) (w ∷ put_after x b ws))) [
-      | inl e ↦ rw (eq-eqb b w e) (not_lists w x ws (λ q. ox.0 (sym q)) d.0, (ox.1, d.1))
-      | inr ne ↦
-          rw (ne_eqb b w ne)
-          (elim (lists_cases b w ws on) [
-            | inl e ↦ absurd (ne e)
-            | inr l ↦
-                (lists_put_after x b w ws l ∙ not_lists w x ws (λ q. ox.0 (sym q)) d.0, NoTwice-put_after x b ws l ox.1 d.1)
-          ])
-    ]
 
 pub lists_put_before : (x b y : ℕ) (zs : List ℕ) → lists b zs ≡ true → lists y (put_before x b zs) ≡ (eqb y x || lists y zs)
 unfolding put_before
@@ -549,19 +468,6 @@ put_chain next prev room ids x b n more k lx lb l_n nx there j d same =
           get_or-set_other (set next x n) b y x 0 yb ∙ get_or-set_other next x y n 0 o.0 ∙ k.absent y lt o.1;
     }
 
-pub insert_after_chain : (next prev : List ℕ) (room : ℕ) (ids : List ℕ) (x b : ℕ) → IsChain next prev room ids → x < room → lists x ids ≡ false → lists b ids ≡ true
-    → IsChain (set (set next x (get_or next b 0)) b x) (set (set prev x b) (get_or next b 0) x) room (put_after x b ids)
-insert_after_chain next prev room ids x b k lx nx on =
-    let n : ℕ = get_or next b 0 in
-    let xr : x ≢ room = λ e. omega arith in
-    let out = end_outside next prev room ids k in
-    let lb : b < room = k.below b on in
-    let xn : x ≢ n = elim (next_within (λ i. get_or next i 0) (λ i. get_or prev i 0) room ids room b k.joined on) [ inl i ↦ differ_from x n ids nx i | inr e ↦ (λ q. omega arith) ] in
-    let p = put_of next prev room x b n k.long_next k.long_prev lx (omega arith) (k.next_in_room b) (differ_from x b ids nx on) xn in
-    put_chain next prev room ids x b n (put_after x b ids) k lx (omega arith) (k.next_in_room b) nx (inr on)
-    (put_mid (λ i. get_or next i 0) (λ i. get_or prev i 0) _ _ x b p room ids room k.joined k.once out out xr xr nx on)
-    (NoTwice-put_after x b ids on nx k.once) (λ y. lists_put_after x b y ids on)
-
 pub insert_before_chain : (next prev : List ℕ) (room : ℕ) (ids : List ℕ) (x n : ℕ) → IsChain next prev room ids → x < room → lists x ids ≡ false → lists n ids ≡ true
     → IsChain (set (set next x n) (get_or prev n 0) x) (set (set prev x (get_or prev n 0)) n x) room (put_before x n ids)
 insert_before_chain next prev room ids x n k lx nx on =
@@ -643,12 +549,6 @@ pub remove_by : (next prev : List ℕ) (room : ℕ) (ids : List ℕ) (x p n : �
 remove_by next prev room ids x p n k on ep en =
     let lx = k.below x on in
     rw (read prev room x p k.long_prev (omega arith) ep, read next room x n k.long_next (omega arith) en) (remove_chain next prev room ids x k on)
-
-pub insert_after_by : (next prev : List ℕ) (room : ℕ) (ids : List ℕ) (x b n : ℕ) → IsChain next prev room ids → x < room → lists x ids ≡ false → lists b ids ≡ true
-    → n ≡ get_or next b n → IsChain (set (set next x n) b x) (set (set prev x b) n x) room (put_after x b ids)
-insert_after_by next prev room ids x b n k lx nx on e =
-    let lb = k.below b on in
-    rw (read next room b n k.long_next (omega arith) e) (insert_after_chain next prev room ids x b k lx nx on)
 
 pub insert_before_by : (next prev : List ℕ) (room : ℕ) (ids : List ℕ) (x n b : ℕ) → IsChain next prev room ids → x < room → lists x ids ≡ false → lists n ids ≡ true
     → b ≡ get_or prev n b → IsChain (set (set next x n) b x) (set (set prev x b) n x) room (put_before x n ids)

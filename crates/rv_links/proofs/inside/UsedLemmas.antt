@@ -66,3 +66,7 @@ free_rule g h read changed flip unread unchanged u =
           ]) in
           rw (flip, other) (and_from _ _ (no_meet (targets g) (touched h) reads2) (no_meet (targets h) (touched g) both))
     ])
+
+-- the controls of a flip are read
+pub controls_read : (read changed : ℕ) (g : Shape) (line : ℕ) → Uses read changed g → is_flip g ≡ true → has (controls g) line ≡ true → has read line ≡ true
+controls_read read changed g line u flip on = u.reads line (ap (λ s. has s line) (cond-true (is_flip g) (controls g) (touched g) flip) ∙ on)

@@ -7,10 +7,10 @@ use Rattle.std.proofs.lemmas.Bool.{cases_eq, cases_Bool, cond-true, cond-false, 
 use Rattle.rv_gate.specs.declared.gate.Shape.{Shape}
 use Rattle.rv_gate.specs.Gate.{FitsIn, IsGate}
 use Rattle.rv_gate.specs.Circuit.{Cascade, IsCascade}
-use Rattle.rv_links.specs.Order.{lists, head, next_in, NoTwice}
+use Rattle.rv_links.specs.Order.{lists, head, next_in, NoTwice, Rising}
 use Rattle.rv_links.specs.inside.Ring.{Order, without, rest_after}
-use Rattle.rv_links.specs.Nodes.{Node, Linkage, IsLinkage, ids_in, gates_in, live, node_gate, erased, with_gates, window_set, from_node, incidence, incidences, window_gates}
-use Rattle.rv_links.specs.inside.Chains.{blank, gate_at, nodes_of, IsLinked, regated, finish, nodes_from}
+use Rattle.rv_links.specs.Nodes.{Node, Linkage, IsLinkage, ids_in, gates_in, live, node_gate, erased, regated, with_gates, window_set, from_node, incidence, incidences, window_gates}
+use Rattle.rv_links.specs.inside.Chains.{blank, gate_at, nodes_of, IsLinked, finish, nodes_from}
 use Rattle.rv_links.proofs.inside.RingLemmas.{get_lists, lists_here, lists_cases, lists_not, differ_from, kept_without, ids_few}
 use Rattle.rv_links.proofs.inside.LinkedLemmas.{ids_of_nodes, after_step, head_listed, after_differs}
 
@@ -194,9 +194,9 @@ all_nodes P gates ids h =
     (All-map (λ (n : Node). P n.gate) (λ id. let n : Node = record { id = id; gate = gate_at gates id } in n) ids (λ j d lt. h (get_or ids j d) (get_lists ids j d lt)))
 
 -- what the fields of a linked cascade keep, as contracts see it
-pub linkage_is : {notes : List ℕ} → (frame : Cascade) (gates : List Shape) (order : Order) (chains : List Order) → IsLinked (length frame.names) gates order chains → IsCascade frame
+pub linkage_is : {notes : List ℕ} → (frame : Cascade) (gates : List Shape) (order : Order) (chains : List Order) → IsLinked (length frame.names) gates order chains → Rising order.ids → IsCascade frame
     → IsLinkage (record { frame = frame; nodes = nodes_of gates order.ids; notes = notes })
-linkage_is {notes = notes} frame gates order chains k f =
+linkage_is {notes = notes} frame gates order chains k r f =
     let a : length order.ids ≤ length gates = ids_few order.ids (length gates) k.once k.below in
     let b : length (gates_in (nodes_of gates order.ids)) ≡ length (nodes_of gates order.ids) = length-map (nodes_of gates order.ids) _ in
     let c : length (nodes_of gates order.ids) ≡ length order.ids = length-map order.ids _ in
@@ -213,6 +213,7 @@ linkage_is {notes = notes} frame gates order chains k f =
         fitting = all_nodes (λ g. FitsIn g (length frame.names)) gates order.ids k.fits;
       };
       once = rw (ids_of_nodes gates order.ids) k.once;
+      rising = rw (ids_of_nodes gates order.ids) r;
     }
 
 pub come_push : (done new goal : List Shape) (at next : Option ℕ) (nodes : List Node) (g : Shape) → new ≡ done ++ g ∷ [] → done ++ to_come at nodes ≡ goal

@@ -1,5 +1,5 @@
 -- The order of all nodes, and for each line the order of those that touch it.
-use Rattle.std.specs.Prelude.{◌≡◌, ℕ, ◌<◌, ◌≤◌, List, [], length, map, filter, if◌then◌else◌, slice_index_or, Option, Some, None, IsTrue, ◌==◌, ◌∷◌}
+use Rattle.std.specs.Prelude.{◌≡◌, ℕ, ◌<◌, ◌≤◌, List, [], length, map, filter, if◌then◌else◌, slice_index_or, Option, Some, None, IsTrue}
 use Rattle.rv_gate.specs.declared.gate.Shape.{Shape}
 use Rattle.rv_gate.specs.declared.gate.Shape.TheVariants.{Flip}
 use Rattle.rv_gate.specs.declared.word.TheConstants.{MOST_LINES}
@@ -48,11 +48,6 @@ left gate id line order = if touches gate line then record order { ids = without
 -- the chain of a line as it stands where the numbers are in order
 abbrev pub chain_order : List Shape → ℕ → List ℕ → Order
 chain_order gates line ids = record { room = length gates; ids = touching gates line ids }
-
--- a node with another gate
-unfoldable pub regated : ℕ → Shape → List Node → List Node
-regated id gate [] = []
-regated id gate (n ∷ rest) = if id == n.id then (record { id = n.id; gate = gate }) ∷ rest else n ∷ regated id gate rest
 
 -- the window from a node that may be missing
 abbrev pub finish : Option ℕ → ℕ → List Shape → List Node → List Node

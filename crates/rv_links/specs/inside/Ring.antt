@@ -11,11 +11,6 @@ unfoldable pub without : ℕ → List ℕ → List ℕ
 without x [] = []
 without x (y ∷ ys) = if x == y then ys else y ∷ without x ys
 
--- x directly after y
-unfoldable pub put_after : ℕ → ℕ → List ℕ → List ℕ
-put_after x y [] = []
-put_after x y (z ∷ zs) = if y == z then z ∷ x ∷ zs else z ∷ put_after x y zs
-
 -- x directly before y
 unfoldable pub put_before : ℕ → ℕ → List ℕ → List ℕ
 put_before x y [] = []

@@ -1,5 +1,5 @@
 -- The walks on which notes go.
-use Rattle.std.proofs.Common.{◌≡◌, ◌≢◌, ℕ, ◌+◌, ◌<◌, ◌≤◌, true, false, eqb, List, [], ◌∷◌, ◌++◌, length, take, drop, refl, sym, ◌∙◌, ap, inl, inr, arith, subst, append_assoc, take-append-drop, length-drop}
+use Rattle.std.proofs.Common.{◌≡◌, ◌≢◌, ℕ, ◌+◌, ◌-◌, ◌<◌, ◌≤◌, true, false, eqb, List, [], ◌∷◌, ◌++◌, length, take, drop, refl, sym, ◌∙◌, ap, inl, inr, arith, subst, append_assoc, length-append, take-append-drop, length-drop}
 use Rattle.std.specs.Prelude.{◌⊎◌, Option, Some, None}
 use Rattle.std.proofs.Math.Seq.{drop-append_seam, take-add}
 use Rattle.std.proofs.lemmas.Bool.{cond-true, or_parts, or_from}
@@ -14,11 +14,12 @@ use Rattle.rv_templ.specs.Pairs.{paired}
 use Rattle.rv_templ.specs.declared.joining.Joined.{Joined}
 use Rattle.rv_templ.specs.inside.Joins.{option_of}
 use Rattle.rv_templ.specs.inside.Linking.{coming}
-use Rattle.rv_templ.specs.inside.Mates.{Joinless}
+use Rattle.rv_templ.specs.inside.Mates.{Joinless, IsPairSpot}
 use Rattle.rv_templ.specs.inside.Notes.{Fewer, NoneNoted, Apart, Kept}
 use Rattle.rv_templ.proofs.inside.CursorLaws.{all_passed}
 use Rattle.rv_templ.proofs.inside.LinkedWindows.{shorter_next, head_at, node_more}
 use Rattle.rv_templ.proofs.NodeLists.{apart, listed_at, gate_at_node}
+use Rattle.rv_templ.proofs.inside.LinkedPairs.{place_is, second_here}
 use Rattle.rv_templ.proofs.inside.NoteLaws.{kept_split, kept_append, fewer_kept, fewer_apart, apart_append, apart_first, fewer_unknown, unknown_append}
 use Rattle.rv_templ.proofs.inside.NotesAfter.{drop_within}
 use Rattle.rv_templ.proofs.OffTarget.{joined_on}
@@ -197,6 +198,15 @@ place_off nodes low i a d e =
     let off = apart (take (low + i) nodes) p.0 tail (subst (λ (l : List Node). NoTwice (ids_in l)) whole d) in
     lists_first a (take low nodes) (take i (drop low nodes))
     (ap (λ l. lists a (ids_in l)) (sym (take-add low i nodes)) ∙ ap (λ x. lists x (ids_in (take (low + i) nodes))) (sym p.1) ∙ off)
+
+-- the second node of a pair is none of those before the first one's place
+pub second_off : (nodes : List Node) (low place a b : ℕ) (s : IsPairSpot nodes place a b) → NoTwice (ids_in nodes) → low ≤ place → lists b (ids_in (take low nodes)) ≡ false
+second_off nodes low place a b s d le =
+    let m = s.mate in
+    let xs : List Node = m.before ++ (m.first ∷ m.between) in
+    let far : ℕ = length xs - low in
+    let at : length xs ≡ low + far = omega (arith, le, place_is nodes place a b s, length-append m.before (m.first ∷ m.between)) in
+    place_off nodes low far b d (subst (λ (k : ℕ). Some b ≡ head (ids_in (drop k nodes))) at (second_here nodes a b m))
 
 pub none_ended : (notes : List ℕ) (nodes : List Node) (low i count : ℕ) (at : Option ℕ) → at ≡ None → at ≡ head (ids_in (drop (low + i) nodes)) → i ≤ count → NoneNoted notes (take i (drop low nodes)) → NoneNoted notes (take count (drop low nodes))
 none_ended notes nodes low i count at e h le none =

@@ -53,18 +53,18 @@ drop_within zero xs ys le = refl
 drop_within (suc k) [] ys le = absurd (omega arith)
 drop_within (suc k) (x ∷ xs) ys le = drop_within k xs ys (omega arith)
 
-pub pair_right : (nodes : List Node) (notes : List ℕ) (a b far low : ℕ) (m : Mate nodes a b) → low ≤ length m.before → (low ≡ 0) ⊎ (low + far ≤ length m.before) → noted a notes ≡ 0 → Noted notes nodes far
+pub pair_right : (nodes : List Node) (notes : List ℕ) (a b far low : ℕ) (m : Mate nodes a b) → low ≤ length m.before → (low ≡ 0) ⊎ (low + far ≤ length m.before) → noted b notes ≡ 0 → Noted notes nodes far
     → Kept notes m.first m.second m.gates (drop low (m.before ++ (m.first ∷ m.between))) → Noted notes (coupled nodes a b m) far
 pair_right nodes notes a b far low m le near z right kept =
     let ps : List Node = take low m.before in
     let ns : List Node = drop low m.before in
     let rest : List Node = m.first ∷ (m.between ++ (m.second ∷ m.after)) in
-    let now : List Node = m.between ++ (map (node_of a) m.gates ++ m.after) in
+    let now : List Node = m.between ++ (map (node_of b) m.gates ++ m.after) in
     let both : ps ++ ns ≡ m.before = take-append-drop low m.before in
     let k = kept_split notes m.first m.second m.gates ns (m.first ∷ m.between) (subst (λ (l : List Node). Kept notes m.first m.second m.gates l) (drop_within low m.before (m.first ∷ m.between) le) kept) in
     let whole : nodes ≡ ps ++ (ns ++ rest) = m.split ∙ ap (λ l. l ++ rest) (sym both) ∙ append_assoc ps ns rest in
     let old : Noted notes (ps ++ (ns ++ rest)) far = subst (λ (l : List Node). Noted notes l far) whole right in
-    let later : Noted notes (ns ++ now) far = kept_before notes a m.first m.second m.gates ns m.between m.after far (paired_short m.first.gate m.second.gate m.gates m.join) z k.0 k.1.1 (noted_last notes ps (ns ++ rest) far old) in
+    let later : Noted notes (ns ++ now) far = kept_before notes b m.first m.second m.gates ns m.between m.after far (paired_short m.first.gate m.second.gate m.gates m.join) z k.0 k.1.1 (noted_last notes ps (ns ++ rest) far old) in
     let new : ps ++ (ns ++ now) ≡ coupled nodes a b m = sym (append_assoc ps ns now) ∙ ap (λ l. l ++ now) both in
     elim near [
       | inl front ↦
@@ -82,7 +82,7 @@ free_passes nodes xs ys g d e all =
 
 pub free_right : (nodes : List Node) (notes : List ℕ) (a b far : ℕ) (m : Mate nodes a b) (g h : Shape) → NoTwice (ids_in nodes) → g ≡ node_gate a nodes → h ≡ node_gate b nodes
     → ((id : ℕ) → live id nodes ≡ true → rule g (node_gate id nodes) ≡ true) → ((id : ℕ) → live id nodes ≡ true → rule h (node_gate id nodes) ≡ true)
-    → noted a notes ≡ 0 → Noted notes nodes far → Apart notes m.gates (m.before ++ (m.first ∷ m.between)) → Noted notes (coupled nodes a b m) far
+    → noted b notes ≡ 0 → Noted notes nodes far → Apart notes m.gates (m.before ++ (m.first ∷ m.between)) → Noted notes (coupled nodes a b m) far
 free_right nodes notes a b far m g h d eg eh p q z right k =
     let xs : List Node = m.before ++ (m.first ∷ m.between) in
     let s = before_second nodes a b m in

@@ -40,7 +40,7 @@ none_after g (x ∷ xs) ys j e =
       | inr stop ↦ partner_none g x (xs ++ ys) j.0 stop
     ]
 
-none_among : (g : Shape) (xs : List Shape) → Joinless g xs → partner g xs ≡ None
+pub none_among : (g : Shape) (xs : List Shape) → Joinless g xs → partner g xs ≡ None
 none_among g [] j = partner_nil g
 none_among g (x ∷ xs) j =
     elim (cases_Bool (rule g x)) [

@@ -56,10 +56,6 @@ pub record Candidate (nodes : List Node) (a b : ℕ) : Type 0 where
 abbrev pub mated : (nodes : List Node) (a b : ℕ) → Mate nodes a b → List Shape
 mated nodes a b m = gates_in m.before ++ (gates_in m.between ++ (m.gates ++ gates_in m.after))
 
--- the nodes after the first was brought to the second
-abbrev pub brought : (nodes : List Node) (a b : ℕ) → Mate nodes a b → List Node
-brought nodes a b m = (m.before ++ m.between) ++ (m.first ∷ m.second ∷ m.after)
-
 -- the first pair is that of a, whose place this is, and b
 pub record IsPairSpot (nodes : List Node) (place a b : ℕ) : Type 0 where
   pub mate : Mate nodes a b

@@ -57,9 +57,9 @@ Kept notes first second gates (n ∷ rest) =
 abbrev pub node_of : ℕ → Shape → Node
 node_of a g = record { id = a; gate = g }
 
--- the nodes after a pair was made: what it comes to is a node of the first one's number
+-- the nodes after a pair was made: what it comes to is a node of the second one's number
 abbrev pub coupled : (nodes : List Node) (a b : ℕ) → Mate nodes a b → List Node
-coupled nodes a b m = m.before ++ (m.between ++ (map (node_of a) m.gates ++ m.after))
+coupled nodes a b m = m.before ++ (m.between ++ (map (node_of b) m.gates ++ m.after))
 
 -- the note of a gate without a partner, and on how many of the nodes after it that depends
 unfoldable pub stop_note : Shape → List Node → ℕ

@@ -6,6 +6,7 @@ use Rattle.rv_links.specs.inside.Ring.{Order}
 use Rattle.rv_links.specs.Nodes.{Linkage, erased}
 use Rattle.rv_links.specs.inside.Chains.{gate_at, nodes_of}
 use Rattle.rv_links.proofs.inside.LinkedLemmas.{on_by, chain_lists, gate_read, erase_by, erased_nodes, linkage}
+use Rattle.rv_links.proofs.inside.IndexLemmas.{searchable_erased}
 use Rattle.rv_links.proofs.inside.StayLemmas.{stays_erased}
 use Rattle.rv_links.proofs.linked.Linked.erase.Goals as goal
 
@@ -37,6 +38,7 @@ invariant_of-self c =
           (erase_by _ _ _ _ _ _ _ _ _ c.self.invariant.0 on c.deref_mut.ensures.value g len c.leave.ensures.each c.remove.ensures),
       c.self.invariant.1,
       c.self.invariant.2,
+      searchable_erased _ _ _ _ _ c.remove.ensures c.self.invariant.3,
     )
 
 pub returns-clause-list : goal.returns-clause-list

@@ -4,7 +4,7 @@ use Rattle.rv_links.specs.Nodes.{chain}
 use Rattle.rv_templ.specs.inside.Linking.{coming}
 use Rattle.rv_templ.specs.inside.Notes.{Fewer}
 use Rattle.rv_templ.proofs.inside.ForgetWalks.{OnLine}
-use Rattle.rv_templ.proofs.notes.forget_joined.Given as goal
+use Rattle.rv_templ.proofs.notes.forget_along.Given as goal
 
 abbrev pub invariant-loop-at : goal.invariant-loop-at
 invariant-loop-at l = record {

@@ -1,11 +1,13 @@
 use Rattle.std.proofs.Common.{◌≡◌, length, true, ap, sym, ◌∙◌, arith}
 use Rattle.std.proofs.lemmas.List.{length-set}
 use Rattle.rv_links.specs.Order.{lists}
-use Rattle.rv_links.specs.inside.Chains.{nodes_of, regated}
+use Rattle.rv_links.specs.Nodes.{regated}
+use Rattle.rv_links.specs.inside.Chains.{nodes_of}
 use Rattle.rv_links.proofs.inside.LinkedLemmas.{on_by, linkage}
 use Rattle.rv_links.proofs.inside.ChangeLemmas.{chains_before, linked_with, regated_nodes, regate_linked}
 use Rattle.rv_links.proofs.inside.UsedLemmas.{uses_set}
-use Rattle.rv_links.proofs.linked.Linked.regate.Goals as goal
+use Rattle.rv_links.proofs.inside.IndexLemmas.{searchable_with}
+use Rattle.rv_links.proofs.linked.Linked.set_gate.Goals as goal
 
 pub index-old-requires : goal.index-old-requires
 index-old-requires c =
@@ -28,6 +30,11 @@ change-requires-clause-before c line lt =
     chains_before _ _ _ _ _ _ _ _ _ _
     c.self.invariant.0 on c.index-old.ensures c.deref.ensures.value c.deref_mut.ensures.value (omega (arith, c.self.invariant.0.count, len))
 
+pub keep-self-inside-requires-clause-there : goal.keep-self-inside-requires-clause-there
+keep-self-inside-requires-clause-there c =
+    let lt = c.self.invariant.0.below _ (on_by _ _ c.self.view_is c.node.view_is c.requires.live) in
+    omega (arith, ap length c.deref-2.ensures.value, length-set c.self.inside.gates.items c.node.inside.id c.args.gate)
+
 pub invariant_of-self : goal.invariant_of-self
 invariant_of-self c =
     let on : lists c.node.inside.id c.self.inside.order.ids ≡ true = on_by _ _ c.self.view_is c.node.view_is c.requires.live in
@@ -40,6 +47,9 @@ invariant_of-self c =
           c.self.invariant.0 on (rw (← c.self.view_is) at c.requires.fits) c.recall_invariant.ensures (omega arith) (λ line lt. each line (omega arith))),
       uses_set _ _ _ _ c.self.inside.gates.items c.node.inside.id c.args.gate (c.self.invariant.0.below _ on) c.read_by.ensures c.targets.ensures c.self.invariant.1,
       c.self.invariant.2 ∙ sym (length-set c.self.inside.gates.items c.node.inside.id c.args.gate),
+      (let l : length c.keep-self-inside.new.slots ≡ length c.deref_mut-2.result.now = c.keep-self-inside.ensures.long in
+          searchable_with _ _ _ _ _ (omega (arith, l)) (omega (arith, l, ap length c.deref_mut-2.ensures.value, c.self.invariant.3.some))
+          (rw c.deref-2.ensures.value at c.keep-self-inside.ensures.indexed) c.self.invariant.3.rising),
     )
 
 pub returns : goal.returns

@@ -2,7 +2,7 @@ use Rattle.std.proofs.Common.{sym, ap, ◌∙◌}
 use Rattle.rv_gate.specs.Gate.{touches}
 use Rattle.rv_templ.proofs.OffTarget.{on_target}
 use Rattle.rv_templ.proofs.inside.PartnerWalk.{chain_start, chain_live, chain_touches, chain_shorter, chain_more, chain_found, chain_stop, chain_end}
-use Rattle.rv_templ.proofs.pairs.partner_of.Goals as goal
+use Rattle.rv_templ.proofs.pairs.partner_along.Goals as goal
 
 pub loop-at-init : goal.loop-at-init
 loop-at-init c =

@@ -6,7 +6,7 @@ use Rattle.rv_links.specs.Nodes.{live, node_gate, chain, ids_in}
 use Rattle.rv_templ.proofs.inside.ForgetWalks.{line_live, line_touches, line_more, line_shorter, line_found, line_end}
 use Rattle.rv_templ.proofs.inside.NoteLaws.{fewer_on}
 use Rattle.rv_templ.proofs.OffTarget.{on_target}
-use Rattle.rv_templ.proofs.notes.forget_joined.Goals as goal
+use Rattle.rv_templ.proofs.notes.forget_along.Goals as goal
 
 pub first_on-at-requires : goal.first_on-at-requires
 first_on-at-requires c = c.requires c.target_of-line.result (ap (touches c.args.new) c.target_of-line.ensures.value ∙ on_target c.args.new)
