@@ -1,6 +1,6 @@
 -- The circuit of a permutation: its gates fit, they compute the permutation, and they are not many.
-use Rattle.std.proofs.Common.{◌≡◌, ℕ, zero, suc, ◌+◌, ◌-◌, ◌*◌, ◌^◌, ◌≤◌, Bool, true, false, List, [], ◌∷◌, length, All, refl, sym, ◌∙◌, ap, arith}
-use Rattle.std.proofs.Math.Nat.{mul-le-mul_right}
+use Rattle.std.proofs.Common.{◌≡◌, ℕ, suc, ◌-◌, ◌*◌, ◌^◌, ◌≤◌, Bool, true, false, List, [], ◌∷◌, length, All, refl, sym, ◌∙◌, ap, arith, le_of_eq, le_trans}
+use Rattle.std.proofs.Math.Nat.{mul-le-mul_right, pow-suc}
 use Rattle.std.proofs.lemmas.List.Elements.{All-head, All-tail}
 use Rattle.rv_gate.specs.Gate.{IsFlip, run}
 use Rattle.rv_gate.specs.declared.gate.Shape.{Shape}
@@ -48,12 +48,15 @@ by-rows method spec is =
     record { good = fitting n gates s.flips; flips = all_flips n gates s.flips; few = s.few; computes = s.computes }
 
 -- 2n - 1 single-target gates of at most 2^(n - 1) flips each
+doubled : (n m : ℕ) → 2 * n * m ≡ n * (m * 2)
+doubled n m = omega arith
+
 singles-few : (n : ℕ) → 1 ≤ n → (2 * n - 1) * 2 ^ (n - 1) ≤ n * 2 ^ n
-singles-few zero some = absurd (omega arith)
-singles-few (suc k) some =
-    let m : ℕ = 2 ^ k in
-    let fewer : (2 * suc k - 1) * m ≤ (2 * suc k) * m = mul-le-mul_right m (omega arith) in
-    omega (arith, fewer)
+singles-few n some =
+    let m : ℕ = 2 ^ (n - 1) in
+    let fewer : (2 * n - 1) * m ≤ 2 * n * m = mul-le-mul_right m (omega arith) in
+    let back : suc (n - 1) ≡ n = omega (arith, some) in
+    le_trans fewer (le_of_eq (doubled n m ∙ ap (λ k. n * k) (sym (pow-suc 2 (n - 1)) ∙ ap (λ k. 2 ^ k) back)))
 
 flips_in : (gates : List Shape) → All IsFlip gates → Flips gates
 flips_in [] flips = tt
@@ -67,7 +70,7 @@ by-single-targets spec is =
     record {
       good = all_gates n gates s.flips.valid s.flips.fits;
       flips = flips_in gates s.flips.flips;
-      few = omega (arith, s.flips.few, singles-few n is.permutes.0);
+      few = le_trans s.flips.few (singles-few n is.permutes.0);
       computes = s.computes;
     }
 
