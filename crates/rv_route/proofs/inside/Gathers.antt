@@ -47,13 +47,15 @@ module _ (f : ℕ → Bool) where
   places k (line ∷ s) = cond (f line) (k ∷ places (k + 1) s) (places (k + 1) s)
 
   -- the positions that pass a test are those of the lines that do
-  pub places_are : (g : ℕ → Bool) (k : ℕ) (s : List ℕ) → ((i : ℕ) → g (k + i) ≡ f (get_or s i 0)) → filter g (range_with_len k (length s)) ≡ places k s
+  pub places_are : (g : ℕ → Bool) (k : ℕ) (s : List ℕ) → ((i : ℕ) → g (k + i) ≡ f (get_or s i 0))
+      → filter g (range_with_len k (length s)) ≡ places k s
   places_are g k [] same = refl
   places_are g k (line ∷ s) same =
       let here : k ≡ k + 0 = omega arith in
       let first : g k ≡ f line = ap g here ∙ same 0 in
       let next : (i : ℕ) → k + 1 + i ≡ k + suc i = λ i. omega arith in
-      let rest : filter g (range_with_len (k + 1) (length s)) ≡ places (k + 1) s = places_are g (k + 1) s (λ i. ap g (next i) ∙ same (suc i)) in
+      let rest : filter g (range_with_len (k + 1) (length s)) ≡ places (k + 1) s =
+      places_are g (k + 1) s (λ i. ap g (next i) ∙ same (suc i)) in
       ap (λ b. cond b (k ∷ filter g (range_with_len (k + 1) (length s))) (filter g (range_with_len (k + 1) (length s)))) first
       ∙ ap (λ l. cond (f line) (k ∷ l) l) rest
 
@@ -61,7 +63,8 @@ module _ (f : ℕ → Bool) where
   length-places k [] = refl
   length-places k (line ∷ s) = by_test (f line) (length-places (k + 1) s)
     where
-      by_test : (b : Bool) → length (places (k + 1) s) ≡ length (filter f s) → length (cond b (k ∷ places (k + 1) s) (places (k + 1) s)) ≡ length (cond b (line ∷ filter f s) (filter f s))
+      by_test : (b : Bool) → length (places (k + 1) s) ≡ length (filter f s)
+          → length (cond b (k ∷ places (k + 1) s) (places (k + 1) s)) ≡ length (cond b (line ∷ filter f s) (filter f s))
       by_test true rest = ap suc rest
       by_test false rest = rest
 
@@ -69,7 +72,8 @@ module _ (f : ℕ → Bool) where
   places_ascend k n [] e = tt
   places_ascend k n (line ∷ s) e = by_test (f line) (places_ascend (k + 1) n s (omega (arith, e)))
     where
-      by_test : (b : Bool) → AreAscending (k + 1) n (places (k + 1) s) → AreAscending k n (cond b (k ∷ places (k + 1) s) (places (k + 1) s))
+      by_test : (b : Bool) → AreAscending (k + 1) n (places (k + 1) s)
+          → AreAscending k n (cond b (k ∷ places (k + 1) s) (places (k + 1) s))
       by_test true rest = (omega arith, omega (arith, e), rest)
       by_test false rest = AreAscending-weaker k n (places (k + 1) s) rest
 
@@ -86,7 +90,8 @@ module _ (f : ℕ → Bool) where
   -- ---- up and down
 
   -- they gather at the end of a part of the row
-  gathered_up : (u a c : List ℕ) → Moves (moves_up (places (length a) u) (length a + length u)) (a ++ (u ++ c)) (a ++ (filter others u ++ (filter f u ++ c)))
+  gathered_up : (u a c : List ℕ)
+      → Moves (moves_up (places (length a) u) (length a + length u)) (a ++ (u ++ c)) (a ++ (filter others u ++ (filter f u ++ c)))
   unfolding moves_up
   gathered_up [] a c = stay (a ++ c)
   gathered_up (line ∷ u) a c =
@@ -101,17 +106,23 @@ module _ (f : ℕ → Bool) where
       far : length a + suc (length u) - suc (length (places (length a + 1) u)) - length a ≡ length (filter others u)
       far = omega (arith, length-places (length a + 1) u, length-filter_both f others (λ x. refl) u)
 
-      by_test : (b : Bool) → Moves (moves_up (places (length a + 1) u) (length a + suc (length u))) (a ++ line ∷ (u ++ c)) (a ++ line ∷ (filter others u ++ (filter f u ++ c)))
+      by_test : (b : Bool)
+          → Moves (moves_up (places (length a + 1) u) (length a + suc (length u))) (a ++ line ∷ (u ++ c))
+          (a ++ line ∷ (filter others u ++ (filter f u ++ c)))
           → Moves (moves_up (cond b (length a ∷ places (length a + 1) u) (places (length a + 1) u)) (length a + suc (length u)))
-          (a ++ line ∷ (u ++ c)) (a ++ (cond (not b) (line ∷ filter others u) (filter others u) ++ (cond b (line ∷ filter f u) (filter f u) ++ c)))
+          (a ++ line ∷ (u ++ c))
+          (a ++ (cond (not b) (line ∷ filter others u) (filter others u) ++ (cond b (line ∷ filter f u) (filter f u) ++ c)))
       by_test true rest =
-          Moves-append (moves_up (places (length a + 1) u) (length a + suc (length u))) (swaps_up (length a) (length a + suc (length u) - suc (length (places (length a + 1) u)))) _ _ _ rest
-          (Moves-same _ _ _ _ _ _ (ap (range_with_len (length a)) (sym far)) refl refl (rise a (filter others u) (filter f u ++ c) line))
+          Moves-append (moves_up (places (length a + 1) u) (length a + suc (length u)))
+          (swaps_up (length a) (length a + suc (length u) - suc (length (places (length a + 1) u)))) _ _ _ rest
+          (Moves-same _ _ _ _ _ _ (ap (range_with_len (length a)) (sym far)) refl refl
+          (rise a (filter others u) (filter f u ++ c) line))
       by_test false rest = rest
 
   -- they gather at the start of the rest of the row, where some that are not meant stand in front
   gathered_down : (u a kept : List ℕ) (bottom : ℕ) → bottom + 1 ≡ length a
-      → Moves (moves_down (places (length a + length kept) u) bottom) (a ++ (kept ++ u)) (a ++ (filter f u ++ (kept ++ filter others u)))
+      → Moves (moves_down (places (length a + length kept) u) bottom) (a ++ (kept ++ u))
+      (a ++ (filter f u ++ (kept ++ filter others u)))
   unfolding moves_down
   gathered_down [] a kept bottom e = stay (a ++ (kept ++ []))
   gathered_down (line ∷ u) a kept bottom e =
@@ -129,13 +140,21 @@ module _ (f : ℕ → Bool) where
       far : length a + length kept - (bottom + 1) ≡ length kept
       far = omega (arith, e)
 
-      by_test : (b : Bool) → Moves (moves_down (places (length a + length kept + 1) u) (bottom + 1)) (a ++ line ∷ (kept ++ u)) (a ++ line ∷ (filter f u ++ (kept ++ filter others u)))
-          → Moves (moves_down (places (length a + length kept + 1) u) bottom) (a ++ (kept ++ line ∷ u)) (a ++ (filter f u ++ (kept ++ line ∷ filter others u)))
-          → Moves (moves_down (cond b ((length a + length kept) ∷ places (length a + length kept + 1) u) (places (length a + length kept + 1) u)) bottom)
-          (a ++ (kept ++ line ∷ u)) (a ++ (cond b (line ∷ filter f u) (filter f u) ++ (kept ++ cond (not b) (line ∷ filter others u) (filter others u))))
+      by_test : (b : Bool)
+          → Moves (moves_down (places (length a + length kept + 1) u) (bottom + 1)) (a ++ line ∷ (kept ++ u))
+          (a ++ line ∷ (filter f u ++ (kept ++ filter others u)))
+          → Moves (moves_down (places (length a + length kept + 1) u) bottom) (a ++ (kept ++ line ∷ u))
+          (a ++ (filter f u ++ (kept ++ line ∷ filter others u)))
+          → Moves (moves_down (cond b ((length a + length kept) ∷ places (length a + length kept + 1) u)
+          (places (length a + length kept + 1) u)) bottom)
+          (a ++ (kept ++ line ∷ u))
+          (a ++ (cond b (line ∷ filter f u) (filter f u) ++ (kept ++ cond (not b) (line ∷ filter others u) (filter others u))))
       by_test true on off =
-          Moves-append (swaps_down (length a + length kept) (bottom + 1)) (moves_down (places (length a + length kept + 1) u) (bottom + 1)) _ _ _
-          (Moves-same _ _ _ _ _ _ (ap (λ k. reverse (range_with_len k (length kept))) (sym e) ∙ ap (λ d. reverse (range_with_len (bottom + 1) d)) (sym far)) refl refl
+          Moves-append (swaps_down (length a + length kept) (bottom + 1))
+          (moves_down (places (length a + length kept + 1) u) (bottom + 1)) _ _ _
+          (Moves-same _ _ _ _ _ _
+          (ap (λ k. reverse (range_with_len k (length kept))) (sym e)
+          ∙ ap (λ d. reverse (range_with_len (bottom + 1) d)) (sym far)) refl refl
           (fall a kept u line))
           on
       by_test false on off = off
@@ -167,8 +186,11 @@ module _ (f : ℕ → Bool) where
       next n = omega arith
 
       by_test : ((m : ℕ) → m < length (places (i + 1) s) → Cut (i + 1) s m (places (i + 1) s))
-          → (b : Bool) → f x ≡ b → (m : ℕ) → m < length (cond b (i ∷ places (i + 1) s) (places (i + 1) s)) → Cut i (x ∷ s) m (cond b (i ∷ places (i + 1) s) (places (i + 1) s))
-      by_test rest true e zero lt = record { before = []; line = x; behind = s; whole = refl; meant = e; first = refl; at = here; last = ap (λ n. places (n + 1) s) here }
+          → (b : Bool) → f x ≡ b → (m : ℕ) → m < length (cond b (i ∷ places (i + 1) s) (places (i + 1) s))
+          → Cut i (x ∷ s) m (cond b (i ∷ places (i + 1) s) (places (i + 1) s))
+      by_test rest true e zero lt =
+          let last : places (i + 1) s ≡ places (i + 0 + 1) s = ap (λ n. places (n + 1) s) here in
+          record { before = []; line = x; behind = s; whole = refl; meant = e; first = refl; at = here; last = last }
       by_test rest true e (suc m) lt =
           let c : Cut (i + 1) s m (places (i + 1) s) = rest m (omega (arith, lt)) in
           record {
@@ -223,19 +245,27 @@ module _ (f : ℕ → Bool) where
       let last : List ℕ = filter f c.behind in
       let above : List ℕ = filter others c.behind in
       let a : List ℕ = below ++ (first ++ c.line ∷ []) in
-      let all : length s ≡ length c.before + 1 + length c.behind = ap length c.whole ∙ (let e = length-append c.before (c.line ∷ c.behind) in omega (arith, e)) in
+      let all : length s ≡ length c.before + 1 + length c.behind = ap length c.whole
+      ∙ (let e = length-append c.before (c.line ∷ c.behind) in omega (arith, e)) in
       let at : get_or ps k 0 ≡ length c.before = (let e = c.at in omega (arith, e)) in
       let len : length c.before + 1 ≡ length a =
-      (let e = length-append below (first ++ c.line ∷ []) in let g = length-append first (c.line ∷ []) in let h = length-filter_both f others (λ x. refl) c.before in omega (arith, e, g, h)) in
+      (let e = length-append below (first ++ c.line ∷ []) in
+      let g = length-append first (c.line ∷ []) in
+      let h = length-filter_both f others (λ x. refl) c.before in
+      omega (arith, e, g, h)) in
       let from : length a + 0 ≡ 0 + length c.before + 1 = omega (arith, len) in
       let rest : drop (k + 1) ps ≡ places (0 + length c.before + 1) c.behind = ap (λ n. drop n ps) (add-one k) ∙ c.last in
       let same : 0 + length c.before + 1 ≡ length c.before + 1 = omega arith in
-      let up = Moves-same _ _ _ _ _ _ (ap (λ l. moves_up l (0 + length c.before)) (sym c.first) ∙ ap (moves_up (take k ps)) (sym c.at)) (sym c.whole) refl
+      let up = Moves-same _ _ _ _ _ _
+      (ap (λ l. moves_up l (0 + length c.before)) (sym c.first) ∙ ap (moves_up (take k ps)) (sym c.at)) (sym c.whole) refl
       (gathered_up c.before [] (c.line ∷ c.behind)) in
       let down = Moves-same _ _ _ _ _ _
-      (ap (λ n. moves_down (places n c.behind) (length c.before)) from ∙ ap (λ l. moves_down l (length c.before)) (sym rest) ∙ ap (moves_down (drop (k + 1) ps)) (sym at))
+      (ap (λ n. moves_down (places n c.behind) (length c.before)) from ∙ ap (λ l. moves_down l (length c.before)) (sym rest)
+      ∙ ap (moves_down (drop (k + 1) ps)) (sym at))
       (append_assoc below (first ++ c.line ∷ []) c.behind ∙ ap (λ l. below ++ l) (append_assoc first (c.line ∷ []) c.behind))
-      (append_assoc below (first ++ c.line ∷ []) (last ++ above) ∙ ap (λ l. below ++ l) (append_assoc first (c.line ∷ []) (last ++ above) ∙ sym (append_assoc first (c.line ∷ last) above)))
+      (append_assoc below (first ++ c.line ∷ []) (last ++ above)
+      ∙ ap (λ l. below ++ l)
+      (append_assoc first (c.line ∷ []) (last ++ above) ∙ sym (append_assoc first (c.line ∷ last) above)))
       (gathered_down c.behind a [] (length c.before) len) in
       let Below : ℕ → Type 0 = λ n. AreAscending 0 n (take k ps) in
       let Above : ℕ → Type 0 = λ n. AreAscending (n + 1) (length s) (drop (k + 1) ps) in
@@ -245,14 +275,17 @@ module _ (f : ℕ → Bool) where
         lt = lt;
         centre = omega (arith, at, all);
         below = subst Below (sym at) (subst P (sym c.first) (places_ascend 0 (length c.before) c.before (omega arith)));
-        above = subst Above (sym at) (subst Q (sym (rest ∙ ap (λ n. places n c.behind) same)) (places_ascend (length c.before + 1) (length s) c.behind (sym all)));
+        above = subst Above (sym at)
+            (subst Q (sym (rest ∙ ap (λ n. places n c.behind) same))
+            (places_ascend (length c.before + 1) (length s) c.behind (sym all)));
         few = omega (arith, AreAscending-room 0 (length s) ps (omega arith) (places_ascend 0 (length s) s (omega arith)));
         low = below;
         meant = first ++ c.line ∷ last;
         high = above;
         moves = Moves-append (moves_up (take k ps) (get_or ps k 0)) _ s _ _ up down;
         lows = filter_passes others c.before;
-        on = All-append (λ x. f x ≡ true) first (c.line ∷ last) (filter_passes f c.before) (All-cons (λ x. f x ≡ true) c.line last c.meant (filter_passes f c.behind));
+        on = All-append (λ x. f x ≡ true) first (c.line ∷ last) (filter_passes f c.before)
+            (All-cons (λ x. f x ≡ true) c.line last c.meant (filter_passes f c.behind));
         highs = filter_passes others c.behind;
       }
 
@@ -261,8 +294,10 @@ module _ (f : ℕ → Bool) where
   neither false off on = false≢true on
 
   -- between two that are meant there are such alone
-  pub together : (low meant high : List ℕ) (i j k : ℕ) → All (λ x. not (f x) ≡ true) low → All (λ x. f x ≡ true) meant → All (λ x. not (f x) ≡ true) high
-      → f (get_or (low ++ (meant ++ high)) i 0) ≡ true → f (get_or (low ++ (meant ++ high)) k 0) ≡ true → k < length (low ++ (meant ++ high)) → i ≤ j → j ≤ k
+  pub together : (low meant high : List ℕ) (i j k : ℕ) → All (λ x. not (f x) ≡ true) low → All (λ x. f x ≡ true) meant
+      → All (λ x. not (f x) ≡ true) high
+      → f (get_or (low ++ (meant ++ high)) i 0) ≡ true → f (get_or (low ++ (meant ++ high)) k 0) ≡ true
+      → k < length (low ++ (meant ++ high)) → i ≤ j → j ≤ k
       → f (get_or (low ++ (meant ++ high)) j 0) ≡ true
   together low meant high i j k lows on highs a b in_row ij jk =
       let len : length (low ++ (meant ++ high)) ≡ length low + (length meant + length high) =
@@ -277,7 +312,10 @@ module _ (f : ℕ → Bool) where
       let to : k < length low + length meant =
       elim (cases_lt k (length low + length meant)) [
         | inl lt ↦ lt
-        | inr ge ↦ absurd (neither (f (get_or high (k - length low - length meant) 0)) (highs (k - length low - length meant) 0 (omega (arith, in_row, len, ge)))
-            (ap f (sym (past k (omega (arith, ge)) ∙ get_or-append_right meant high (length meant) (k - length low) 0 refl (omega (arith, ge)))) ∙ b))
+        | inr ge ↦ absurd (neither (f (get_or high (k - length low - length meant) 0))
+            (highs (k - length low - length meant) 0 (omega (arith, in_row, len, ge)))
+            (ap f (sym (past k (omega (arith, ge))
+            ∙ get_or-append_right meant high (length meant) (k - length low) 0 refl (omega (arith, ge)))) ∙ b))
       ] in
-      ap f (past j (omega (arith, from, ij)) ∙ get_or_append_left meant high 0 (j - length low) (omega (arith, to, jk, from, ij))) ∙ on (j - length low) 0 (omega (arith, to, jk, from, ij))
+      ap f (past j (omega (arith, from, ij)) ∙ get_or_append_left meant high 0 (j - length low) (omega (arith, to, jk, from, ij)))
+      ∙ on (j - length low) 0 (omega (arith, to, jk, from, ij))

@@ -120,9 +120,12 @@ gathers n s g i fits =
     let ps : List ℕ = touched_positions s g in
     let o = touched_line g n fits in
     let w = i.stands o.0 o.2 in
-    let are : ps ≡ places f 0 s = places_are f (λ position. f (get_or s position 0)) 0 s (λ k. (let e : 0 + k ≡ k = omega arith in ap (λ q. f (get_or s q 0)) e)) in
+    let are : ps ≡ places f 0 s =
+    places_are f (λ position. f (get_or s position 0)) 0 s
+    (λ k. (let e : 0 + k ≡ k = omega arith in ap (λ q. f (get_or s q 0)) e)) in
     let P : List ℕ → Type 0 = Gathered f s in
-    let parts : Gathered f s ps = subst P (sym are) (gathered f s (some_place f 0 s (i.place o.0) (omega (arith, w.0, i.len)) (ap f w.1 ∙ o.1))) in
+    let parts : Gathered f s ps =
+    subst P (sym are) (gathered f s (some_place f 0 s (i.place o.0) (omega (arith, w.0, i.len)) (ap f w.1 ∙ o.1))) in
     let m = parts.moves in
     let Q : ℕ → Type 0 = λ k. All (IsSwap k) (gathering ps) in
     let within : All (IsSwap n) (gathering ps) = subst Q i.len m.within in
@@ -130,8 +133,11 @@ gathers n s g i fits =
     let placement : IsPlacement n t = IsPlacement-swapped n (gathering ps) s within i in
     let at : (k : ℕ) → touches (gate_on t g) k ≡ true → (k < n) × (f (get_or t k 0) ≡ true) = λ k on.
     (let lk : k < n = FitsIn-gate_on n t placement g fits k on in (lk, sym (touches-gate_on n t placement g k fits lk) ∙ on)) in
-    let Between : List ℕ → Type 0 = λ l. (first line last : ℕ) → f (get_or l first 0) ≡ true → f (get_or l last 0) ≡ true → last < length l → first ≤ line → line ≤ last → f (get_or l line 0) ≡ true in
-    let between : Between t = subst Between (sym m.made) (λ first line last. together f parts.low parts.meant parts.high first line last parts.lows parts.on parts.highs) in
+    let Between : List ℕ → Type 0 = λ l. (first line last : ℕ) → f (get_or l first 0) ≡ true → f (get_or l last 0) ≡ true
+    → last < length l → first ≤ line → line ≤ last → f (get_or l line 0) ≡ true in
+    let between : Between t =
+    subst Between (sym m.made)
+    (λ first line last. together f parts.low parts.meant parts.high first line last parts.lows parts.on parts.highs) in
     record {
       parts = parts;
       within = within;
@@ -156,7 +162,8 @@ unfolding routed_from
 routed_first s g rest = refl
 
 -- the word on the positions is the word of the lines under the placement, after each step: and so in the end
-pub run_routed : (n : ℕ) (gates : List Shape) (s : List ℕ) (word : List Bool) → IsPlacement n s → All (λ g. FitsIn g n) gates → length word ≡ n → run (routed_from s gates) (word_on s word) ≡ run gates word
+pub run_routed : (n : ℕ) (gates : List Shape) (s : List ℕ) (word : List Bool) → IsPlacement n s → All (λ g. FitsIn g n) gates
+    → length word ≡ n → run (routed_from s gates) (word_on s word) ≡ run gates word
 run_routed n [] s word i fit len =
     let h = goes_home n s i in
     ap (λ l. run l (word_on s word)) (routed_none s)
@@ -198,14 +205,23 @@ neighbours_placed : (n p : ℕ) → n ≤ 64 → p + 1 < n → IsPlaced n (neigh
 neighbours_placed n p few h =
     record {
       near = near_neighbours p;
-      valid = (omega arith, omega arith, λ e. absurd (omega arith), has-none p, has-none (p + 1), λ line on. absurd (false≢true (sym (has-none line) ∙ on)));
+      valid = (
+        omega arith,
+        omega arith,
+        λ e. absurd (omega arith),
+        has-none p,
+        has-none (p + 1),
+        λ line on. absurd
+            (false≢true (sym (has-none line) ∙ on)),
+      );
       fits = λ k on. (let w = (neighbours_touch p k on).1 in omega arith);
     }
 
 swaps_placed : (n : ℕ) (ps : List ℕ) → n ≤ 64 → All (IsSwap n) ps → All (IsPlaced n) (map neighbours ps)
 swaps_placed n ps few w = All-map (IsPlaced n) neighbours ps (λ k d lt. neighbours_placed n (get_or ps k d) few (w k d lt))
 
-pub routed_placed : (n : ℕ) (gates : List Shape) (s : List ℕ) → n ≤ 64 → IsPlacement n s → All (λ g. FitsIn g n) gates → All IsGate gates → All (IsPlaced n) (routed_from s gates)
+pub routed_placed : (n : ℕ) (gates : List Shape) (s : List ℕ) → n ≤ 64 → IsPlacement n s → All (λ g. FitsIn g n) gates
+    → All IsGate gates → All (IsPlaced n) (routed_from s gates)
 routed_placed n [] s few i fit valid =
     let P : List Shape → Type 0 = All (IsPlaced n) in
     subst P (sym (routed_none s)) (swaps_placed n (way_home (home (length s)) s) few (goes_home n s i).within)
@@ -228,12 +244,14 @@ routed_placed n (g ∷ rest) s few i fit valid =
 -- ---- circuits
 
 pub placed : (c : Cascade) → IsCascade c → All (IsPlaced (length c.names)) (routed c).gates
-placed c kept = routed_placed (length c.names) c.gates (home (length c.names)) kept.names.few (IsPlacement-home (length c.names)) kept.fitting kept.valid
+placed c kept = routed_placed (length c.names) c.gates (home (length c.names)) kept.names.few
+    (IsPlacement-home (length c.names)) kept.fitting kept.valid
 
 pub near : (c : Cascade) → IsCascade c → All IsNear (routed c).gates
 near c kept = All-weaker (IsPlaced (length c.names)) IsNear (λ g p. p.near) (routed c).gates (placed c kept)
 
-pub same_run : (c : Cascade) → IsCascade c → (word : List Bool) → length word ≡ length c.names → run (routed c).gates word ≡ run c.gates word
+pub same_run : (c : Cascade) → IsCascade c → (word : List Bool) → length word ≡ length c.names
+    → run (routed c).gates word ≡ run c.gates word
 same_run c kept word len =
     let n : ℕ = length c.names in
     ap (run (routed c).gates) (sym (ap (λ k. word_on (home k) word) (sym len) ∙ word_on-home word))

@@ -21,13 +21,16 @@ use Rattle.rv_gate.proofs.Bits.{same_bool}
 
 -- ---- swaps of neighbours
 
-pub map-swap : {Y : Type 0} (f : ℕ → Y) (s : List ℕ) (i j : ℕ) (d : Y) → i < length s → j < length s → map f (swap s i j) ≡ swap (map f s) i j
+pub map-swap : {Y : Type 0} (f : ℕ → Y) (s : List ℕ) (i j : ℕ) (d : Y) → i < length s → j < length s
+    → map f (swap s i j) ≡ swap (map f s) i j
 map-swap f s i j d hi hj = grind (arith, length-map, swap_is, map-set, get_or-map)
 
-run_swap : (p : ℕ) (s : List ℕ) (word : List Bool) → p + 1 < length s → act (neighbours p) (word_on s word) ≡ word_on (swap s p (p + 1)) word
+run_swap : (p : ℕ) (s : List ℕ) (word : List Bool) → p + 1 < length s
+    → act (neighbours p) (word_on s word) ≡ word_on (swap s p (p + 1)) word
 run_swap p s word h = grind (arith, word_on, length-map, bit_of, holds_none, swap_is, map-swap)
 
-pub run_swaps : (n : ℕ) (ps s : List ℕ) (word : List Bool) → length s ≡ n → All (IsSwap n) ps → run (map neighbours ps) (word_on s word) ≡ word_on (swapped ps s) word
+pub run_swaps : (n : ℕ) (ps s : List ℕ) (word : List Bool) → length s ≡ n → All (IsSwap n) ps
+    → run (map neighbours ps) (word_on s word) ≡ word_on (swapped ps s) word
 run_swaps n [] s word e w = ap (λ t. word_on t word) (sym (swapped_none s))
 run_swaps n (p ∷ ps) s word e w =
     ap (run (map neighbours ps)) (run_swap p s word (omega (arith, e, All-head (IsSwap n) p ps w)))
@@ -42,7 +45,9 @@ module _ (n : ℕ) (s : List ℕ) (i : IsPlacement n s) where
   position_is line lt =
       let w = i.stands line lt in
       position_or_len_is (λ x. eqb x line) s (i.place line) 0 (omega (arith, w.0, i.len))
-      (λ k h. ne_eqb (get_or s k 0) line (λ e. (let same : i.place line ≡ k = ap i.place (sym e) ∙ (i.line k (omega (arith, h, w.0))).1 in omega (arith, h, same))))
+      (λ k h. ne_eqb (get_or s k 0) line
+      (λ e. (let same : i.place line ≡ k = ap i.place (sym e)
+      ∙ (i.line k (omega (arith, h, w.0))).1 in omega (arith, h, same))))
       (λ _. eq-eqb (get_or s (i.place line) 0) line w.1)
 
   pub stands : (line : ℕ) → line < n → (position_of s line < n) × (get_or s (position_of s line) 0 ≡ line)
@@ -73,7 +78,9 @@ module _ (n : ℕ) (s : List ℕ) (i : IsPlacement n s) where
   in_positions set p on =
       elim (cases_lt p n) [
         | inl lt ↦ lt
-        | inr past ↦ absurd (false≢true (sym (has-ones_of (map (has set) s) p ∙ get_or_past (map (has set) s) p false (omega (arith, past, i.len, length-map s (has set)))) ∙ on))
+        | inr past ↦ absurd (false≢true
+            (sym (has-ones_of (map (has set) s) p
+            ∙ get_or_past (map (has set) s) p false (omega (arith, past, i.len, length-map s (has set)))) ∙ on))
       ]
 
   -- ---- gates
@@ -127,7 +134,8 @@ module _ (n : ℕ) (s : List ℕ) (i : IsPlacement n s) where
         | inr third ↦ at_position p d lt.1 third
       ]
 
-  holds-on : (care want : ℕ) (word : List Bool) → length word ≡ n → holds (positions_of s care) (positions_of s want) (word_on s word) ≡ holds care want word
+  holds-on : (care want : ℕ) (word : List Bool) → length word ≡ n
+      → holds (positions_of s care) (positions_of s want) (word_on s word) ≡ holds care want word
   holds-on care want word len =
       let lv : length (word_on s word) ≡ n = length-map s (bit_of word) ∙ i.len in
       let there = holds_Decides (positions_of s care) (positions_of s want) (word_on s word) in
@@ -136,7 +144,8 @@ module _ (n : ℕ) (s : List ℕ) (i : IsPlacement n s) where
       (λ e. here.1 (λ line lt on.
       (let w = stands line (omega (arith, lt, len)) in
       sym (bit_at_position word line (omega (arith, lt, len)))
-      ∙ there.0 e (position_of s line) (omega (arith, w.0, lv)) (has-positions_of care (position_of s line) w.0 ∙ ap (has care) w.1 ∙ on)
+      ∙ there.0 e (position_of s line) (omega (arith, w.0, lv))
+      (has-positions_of care (position_of s line) w.0 ∙ ap (has care) w.1 ∙ on)
       ∙ has-positions_of want (position_of s line) w.0 ∙ ap (has want) w.1)))
       (λ e. there.1 (λ p lt on.
       (let lp : p < n = omega (arith, lt, lv) in
@@ -150,7 +159,8 @@ module _ (n : ℕ) (s : List ℕ) (i : IsPlacement n s) where
   acts-on (Swap care want a b) word len = holds-on care want word len
   acts-on (Peres a b d) word len = refl
 
-  bit_after-on : (g : Shape) (word : List Bool) (h : Bool) (p : ℕ) → FitsIn g n → p < n → bit_after (gate_on s g) (bit_of (word_on s word)) h p ≡ bit_after g (bit_of word) h (get_or s p 0)
+  bit_after-on : (g : Shape) (word : List Bool) (h : Bool) (p : ℕ) → FitsIn g n → p < n
+      → bit_after (gate_on s g) (bit_of (word_on s word)) h p ≡ bit_after g (bit_of word) h (get_or s p 0)
   unfolding bit_after
   bit_after-on (Flip care want t) word h p fits lp =
       let lt = TargetsBelow-fits (Flip care want t) n fits in
@@ -164,13 +174,15 @@ module _ (n : ℕ) (s : List ℕ) (i : IsPlacement n s) where
       rw (eqb-position p d lp lt.1, eqb-position p b lp lt.0, bit_at_position word a la, bit_at_position word b lt.0, bit_at_position word d lt.1, bit_of-word_on word p lp) refl
 
   -- a gate on the positions does what the gate does on the lines
-  pub act-on : (g : Shape) (word : List Bool) → FitsIn g n → length word ≡ n → act (gate_on s g) (word_on s word) ≡ word_on s (act g word)
+  pub act-on : (g : Shape) (word : List Bool) → FitsIn g n → length word ≡ n
+      → act (gate_on s g) (word_on s word) ≡ word_on s (act g word)
   act-on g word fits len =
       let v : List Bool = word_on s word in
       let lv : length v ≡ n = length-map s (bit_of word) ∙ i.len in
       let P : ℕ → Type 0 = TargetsBelow (gate_on s g) in
       let Q : ℕ → Type 0 = TargetsBelow g in
-      let there : TargetsBelow (gate_on s g) (length v) = subst P (sym lv) (TargetsBelow-fits (gate_on s g) n (FitsIn-gate_on g fits)) in
+      let there : TargetsBelow (gate_on s g) (length v) =
+      subst P (sym lv) (TargetsBelow-fits (gate_on s g) n (FitsIn-gate_on g fits)) in
       let here : TargetsBelow g (length word) = subst Q (sym len) (TargetsBelow-fits g n fits) in
       ext_get_or false _ _ (length-act (gate_on s g) v ∙ lv ∙ sym i.len ∙ sym (length-map s (bit_of (act g word))))
       (λ p lt.
@@ -184,7 +196,8 @@ module _ (n : ℕ) (s : List ℕ) (i : IsPlacement n s) where
   -- ---- gates stay gates
 
   wants_controls : (care want : ℕ) → WantsControls care want → WantsControls (positions_of s care) (positions_of s want)
-  wants_controls care want w p on = let lp = in_positions want p on in has-positions_of care p lp ∙ w (get_or s p 0) (sym (has-positions_of want p lp) ∙ on)
+  wants_controls care want w p on = let lp = in_positions want p on in has-positions_of care p lp
+      ∙ w (get_or s p 0) (sym (has-positions_of want p lp) ∙ on)
 
   apart : (a b : ℕ) → a < n → b < n → a ≢ b → position_of s a ≢ position_of s b
   apart a b la lb ne e = ne (sym (stands a la).1 ∙ ap (λ k. get_or s k 0) e ∙ (stands b lb).1)
@@ -197,9 +210,23 @@ module _ (n : ℕ) (s : List ℕ) (i : IsPlacement n s) where
       let lt = TargetsBelow-fits (Flip care want t) n fits in
       (omega (arith, (stands t lt).0, few), free care t lt v.1, wants_controls care want v.2)
   IsGate-gate_on (Swap care want a b) few fits v =
-      let lt = TargetsBelow-fits (Swap care want a b) n fits in
-      (omega (arith, (stands a lt.0).0, few), omega (arith, (stands b lt.1).0, few), apart a b lt.0 lt.1 v.2, free care a lt.0 v.3, free care b lt.1 v.4, wants_controls care want v.5)
+      let lt = TargetsBelow-fits (Swap care want a b) n fits in (
+        omega (arith, (stands a lt.0).0, few),
+        omega
+            (arith, (stands b lt.1).0, few),
+        apart a b lt.0 lt.1 v.2,
+        free care a lt.0 v.3,
+        free care b lt.1 v.4,
+        wants_controls care want v.5,
+      )
   IsGate-gate_on (Peres a b d) few fits v =
       let lt = TargetsBelow-fits (Peres a b d) n fits in
-      let la = fits_peres_a (Peres a b d) a b d n refl fits in
-      (omega (arith, (stands a la).0, few), omega (arith, (stands b lt.0).0, few), omega (arith, (stands d lt.1).0, few), apart a b la lt.0 v.3, apart a d la lt.1 v.4, apart b d lt.0 lt.1 v.5)
+      let la = fits_peres_a (Peres a b d) a b d n refl fits in (
+        omega (arith, (stands a la).0, few),
+        omega (arith, (stands b lt.0).0, few),
+        omega
+            (arith, (stands d lt.1).0, few),
+        apart a b la lt.0 v.3,
+        apart a d la lt.1 v.4,
+        apart b d lt.0 lt.1 v.5,
+      )

@@ -107,7 +107,8 @@ Moves-same ps qs s t u v e f g m =
     subst R g (subst Q f (subst P e m))
 
 exchanged : (a : List ℕ) (x y : ℕ) (c : List ℕ)
-    → set (set (a ++ x ∷ y ∷ c) (length a) (get_or (a ++ x ∷ y ∷ c) (suc (length a)) 0)) (suc (length a)) (get_or (a ++ x ∷ y ∷ c) (length a) 0) ≡ a ++ y ∷ x ∷ c
+    → set (set (a ++ x ∷ y ∷ c) (length a) (get_or (a ++ x ∷ y ∷ c) (suc (length a)) 0)) (suc (length a))
+    (get_or (a ++ x ∷ y ∷ c) (length a) 0) ≡ a ++ y ∷ x ∷ c
 exchanged [] x y c = refl
 exchanged (z ∷ a) x y c = ap (λ l. z ∷ l) (exchanged a x y c)
 
@@ -117,7 +118,8 @@ neighbours a x y c =
     let len : length s ≡ length a + suc (suc (length c)) = length-append a (x ∷ y ∷ c) in
     record {
       within = All-cons (IsSwap (length s)) (length a) [] (omega (arith, len)) (All-nil (IsSwap (length s)));
-      made = swapped_first (length a) [] s ∙ swapped_none (swap s (length a) (length a + 1)) ∙ ap (swap s (length a)) (add-one (length a))
+      made = swapped_first (length a) [] s ∙ swapped_none (swap s (length a) (length a + 1))
+          ∙ ap (swap s (length a)) (add-one (length a))
           ∙ sym (swap_is s (length a) (suc (length a)) 0 (omega (arith, len)) (omega (arith, len))) ∙ exchanged a x y c;
     }
 
@@ -129,7 +131,8 @@ pub rise : (a b c : List ℕ) (x : ℕ) → Moves (range_with_len (length a) (le
 rise a [] c x = stay (a ++ x ∷ c)
 rise a (y ∷ b) c x =
     Moves-append (length a ∷ []) (range_with_len (length a + 1) (length b)) _ _ _ (neighbours a x y (b ++ c))
-    (Moves-same _ _ _ _ _ _ (ap (λ k. range_with_len k (length b)) (longer a y)) (append_assoc a (y ∷ []) (x ∷ (b ++ c))) (append_assoc a (y ∷ []) (b ++ x ∷ c))
+    (Moves-same _ _ _ _ _ _ (ap (λ k. range_with_len k (length b)) (longer a y)) (append_assoc a (y ∷ []) (x ∷ (b ++ c)))
+    (append_assoc a (y ∷ []) (b ++ x ∷ c))
     (rise (a ++ y ∷ []) b c x))
 
 -- a line goes down past others
@@ -139,7 +142,8 @@ fall a (y ∷ b) c x =
     let ps : List ℕ = range_with_len (length a + 1) (length b) in
     Moves-same (reverse ps ++ length a ∷ []) _ _ _ _ _ (sym (reverse-append (length a ∷ []) ps)) refl refl
     (Moves-append (reverse ps) (length a ∷ []) _ _ _
-    (Moves-same _ _ _ _ _ _ (ap (λ k. reverse (range_with_len k (length b))) (longer a y)) (append_assoc a (y ∷ []) (b ++ x ∷ c)) (append_assoc a (y ∷ []) (x ∷ (b ++ c)))
+    (Moves-same _ _ _ _ _ _ (ap (λ k. reverse (range_with_len k (length b))) (longer a y)) (append_assoc a (y ∷ []) (b ++ x ∷ c))
+    (append_assoc a (y ∷ []) (x ∷ (b ++ c)))
     (fall (a ++ y ∷ []) b c x))
     (neighbours a y x (b ++ c)))
 
@@ -167,6 +171,8 @@ lowered from to s le lt =
     let from_is : to + (from - to) ≡ from = omega (arith, le) in
     record {
       within = m.within;
-      before = λ i h. (ap (λ r. get_or r i 0) m.made ∙ get_or_append_left a (x ∷ (b ++ c)) 0 i (omega (arith, h, first)) ∙ get_or-take to s i 0 h);
-      at = ap (λ r. get_or r to 0) m.made ∙ ap (λ n. get_or (a ++ x ∷ (b ++ c)) n 0) (sym first) ∙ get_or-append_seam a x (b ++ c) 0 ∙ get_or-drop to s k 0 ∙ ap (λ n. get_or s n 0) from_is;
+      before = λ i h. (ap (λ r. get_or r i 0) m.made ∙ get_or_append_left a (x ∷ (b ++ c)) 0 i (omega (arith, h, first))
+          ∙ get_or-take to s i 0 h);
+      at = ap (λ r. get_or r to 0) m.made ∙ ap (λ n. get_or (a ++ x ∷ (b ++ c)) n 0) (sym first)
+          ∙ get_or-append_seam a x (b ++ c) 0 ∙ get_or-drop to s k 0 ∙ ap (λ n. get_or s n 0) from_is;
     }
