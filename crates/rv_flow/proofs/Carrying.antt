@@ -4,7 +4,6 @@ use Rattle.rv_gate.specs.Circuit.{Cascade}
 use Rattle.rv_gate.specs.Gate.{run}
 use Rattle.rv_gate.specs.declared.gate.Shape.{Shape}
 use Rattle.rv_perm.specs.Marked.{IsMarked, Marked}
-use Rattle.rv_tbs.specs.declared.method.Method.{Method}
 use Rattle.rv_mct.specs.Extends.{Extends}
 use Rattle.rv_mct.specs.Widened.{helper_count}
 use Rattle.rv_mct.specs.declared.aux.Aux.{Aux}
@@ -12,6 +11,7 @@ use Rattle.rv_net.specs.Denotes.{Carries, CarriesExtended, amplitude_of_map}
 use Rattle.rv_net.specs.declared.op.Op.{Op}
 use Rattle.rv_perm.specs.Perm.{permuted}
 use Rattle.rv_flow.specs.Flow.{circuit_for}
+use Rattle.rv_flow.specs.declared.synthesis.Synthesis.{Synthesis}
 use Rattle.rv_flow.proofs.Circuits.{IsFor, circuit-is, circuit-lines}
 
 pub carries-map : (aux : Aux) (n extra lines : ℕ) (ops : List Op) (new old : List Shape) (map : List Bool → List Bool)
@@ -23,13 +23,13 @@ carries-map aux n extra lines ops new old map carries count extends computes wor
     ∙ ap (λ w. amplitude_of_map ops (w ++ held) y) (computes word len)
 
 -- of a permutation's circuit
-pub carries-permutation : (method : Method) (simplify : Bool) (aux : Aux) (spec : Marked) (ops : List Op) → IsMarked spec
-    → Carries aux (length (circuit_for method simplify spec).names) (helper_count aux (circuit_for method simplify spec)) ops (run (circuit_for method simplify spec).gates)
-    → Carries aux spec.table.lines (helper_count aux (circuit_for method simplify spec)) ops (permuted spec.table)
+pub carries-permutation : (synthesis : Synthesis) (simplify : Bool) (aux : Aux) (spec : Marked) (ops : List Op) → IsMarked spec
+    → Carries aux (length (circuit_for synthesis simplify spec).names) (helper_count aux (circuit_for synthesis simplify spec)) ops (run (circuit_for synthesis simplify spec).gates)
+    → Carries aux spec.table.lines (helper_count aux (circuit_for synthesis simplify spec)) ops (permuted spec.table)
 unfolding Carries
-carries-permutation method simplify aux spec ops is carries word held y len held_len may y_len =
-    let c : Cascade = circuit_for method simplify spec in
-    let width : length c.names ≡ spec.table.lines = circuit-lines method simplify spec in
-    let for : IsFor spec c.gates = circuit-is method simplify spec is in
+carries-permutation synthesis simplify aux spec ops is carries word held y len held_len may y_len =
+    let c : Cascade = circuit_for synthesis simplify spec in
+    let width : length c.names ≡ spec.table.lines = circuit-lines synthesis simplify spec in
+    let for : IsFor spec c.gates = circuit-is synthesis simplify spec is in
     carries word held y (len ∙ sym width) held_len may (y_len ∙ ap (λ n. n + helper_count aux c) (sym width))
     ∙ ap (λ w. amplitude_of_map ops (w ++ held) y) (for.computes word len)

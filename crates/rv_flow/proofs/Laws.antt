@@ -9,7 +9,6 @@ use Rattle.rv_gate.specs.declared.circuit.TheConstants.{MOST_GATES}
 use Rattle.rv_gate.specs.declared.gate.Shape.{Shape}
 use Rattle.rv_gate.specs.declared.word.TheConstants.{MOST_LINES}
 use Rattle.rv_perm.specs.Marked.{IsMarked, Marked}
-use Rattle.rv_tbs.specs.declared.method.Method.{Method}
 use Rattle.rv_templ.specs.Gates.{AreGates}
 use Rattle.rv_mct.specs.Extends.{Extends}
 use Rattle.rv_mct.specs.Widened.{decomposed, gate_count, helper_count, lines_with_helpers}
@@ -26,6 +25,7 @@ use Rattle.rv_net.specs.declared.net.Net.{Net}
 use Rattle.rv_net.specs.declared.net.TheConstants.{MOST_OPS}
 use Rattle.rv_perm.specs.Perm.{permuted}
 use Rattle.rv_flow.specs.Flow.{circuit_for, network_by}
+use Rattle.rv_flow.specs.declared.synthesis.Synthesis.{Synthesis}
 use Rattle.rv_flow.specs.declared.flowing.FlowFault.{FlowFault}
 use Rattle.rv_flow.specs.declared.flowing.FlowFault.TheVariants.{Gates, Mem, Ops}
 use Rattle.rv_flow.proofs.inside.Bounds.{helpers-few}
@@ -96,22 +96,22 @@ Answers result aux c = MatchResult result (λ net. network_by aux c ≡ Ok net) 
 pub flow-answers : (result : Result Net FlowFault) (aux : Aux) (c made : Cascade) → c ≡ made → Answers result aux c → Answers result aux made
 flow-answers result aux c made is answers = subst (λ (d : Cascade). Answers result aux d) is answers
 
-module _ (method : Method) (simplify : Bool) (aux : Aux) (spec : Marked) (c : Cascade) (is : c ≡ circuit_for method simplify spec) where
+module _ (synthesis : Synthesis) (simplify : Bool) (aux : Aux) (spec : Marked) (c : Cascade) (is : c ≡ circuit_for synthesis simplify spec) where
   pub flow-carries : (result : Result Net FlowFault) → IsMarked spec → IfOk result (λ net. Carries aux (length c.names) (helper_count aux c) net.ops (run c.gates))
-      → IfOk result (λ net. Carries aux spec.table.lines (helper_count aux (circuit_for method simplify spec)) net.ops (permuted spec.table))
+      → IfOk result (λ net. Carries aux spec.table.lines (helper_count aux (circuit_for synthesis simplify spec)) net.ops (permuted spec.table))
   flow-carries (Ok net) valid carries =
       let P : Cascade → Type 0 = λ d. Carries aux (length d.names) (helper_count aux d) net.ops (run d.gates) in
-      carries-permutation method simplify aux spec net.ops valid (subst P is carries)
+      carries-permutation synthesis simplify aux spec net.ops valid (subst P is carries)
   flow-carries (Err fault) valid carries = tt
 
   pub flow-lines : (result : Result Net FlowFault) → IfOk result (λ net. net.lines ≡ lines_with_helpers aux c)
-      → IfOk result (λ net. net.lines ≡ spec.table.lines + helper_count aux (circuit_for method simplify spec))
+      → IfOk result (λ net. net.lines ≡ spec.table.lines + helper_count aux (circuit_for synthesis simplify spec))
   flow-lines (Ok net) lines =
-      lines ∙ ap (λ (d : Cascade). lines_with_helpers aux d) is ∙ ap (λ n. n + helper_count aux (circuit_for method simplify spec)) (circuit-lines method simplify spec)
+      lines ∙ ap (λ (d : Cascade). lines_with_helpers aux d) is ∙ ap (λ n. n + helper_count aux (circuit_for synthesis simplify spec)) (circuit-lines synthesis simplify spec)
   flow-lines (Err fault) lines = tt
 
   pub flow-few : (result : Result Net FlowFault) → IfOk result (λ net. net.lines ≤ length c.names + 13) → IfOk result (λ net. net.lines ≤ spec.table.lines + 13)
   flow-few (Ok net) few =
-      let width : length c.names ≡ spec.table.lines = ap (λ (d : Cascade). length d.names) is ∙ circuit-lines method simplify spec in
+      let width : length c.names ≡ spec.table.lines = ap (λ (d : Cascade). length d.names) is ∙ circuit-lines synthesis simplify spec in
       omega (arith, few, width)
   flow-few (Err fault) few = tt

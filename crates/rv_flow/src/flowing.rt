@@ -10,12 +10,12 @@ ghost use Rattle.rv_perm.specs.Perm.{permuted};
 ghost use Rattle.rv_flow.specs.Flow.{circuit_for, flow_of, network_by, simplified_if};
 ghost use Rattle.rv_flow.specs.declared.flowing.FlowFault.TheVariants.{Mem};
 
+use super::synthesis::{Synthesis, synthesized};
 use rv_gate::Circuit;
 use rv_links::Linked;
 use rv_mct::{Aux, MctFault, decompose};
 use rv_net::{ExpandFault, Net, expand};
 use rv_perm::PermSpec;
-use rv_tbs::{Method, synth};
 use rv_templ::{Library, simplify_linked};
 use std::alloc::{AllocError, Global};
 use thiserror::Error;
@@ -51,10 +51,10 @@ pub(crate) fn simplified(alloc: Global, circuit: &Circuit) -> Result<Circuit, Al
 pub fn circuit_for(
     alloc: Global,
     spec: &PermSpec,
-    method: Method,
+    synthesis: Synthesis,
     simplify: bool,
 ) -> Result<Circuit, AllocError>
-    ensures circuit { IfOk result (λ c. c ≡ circuit_for method simplify spec.now) }
+    ensures circuit { IfOk result (λ c. c ≡ circuit_for synthesis simplify spec.now) }
     ensures lines { IfOk result (λ c. length c.names ≡ spec.now.table.lines) }
     ensures computes { IfOk result (λ c. (word : List Bool) → length word ≡ spec.now.table.lines
         → run c.gates word ≡ permuted spec.now.table word) }
@@ -62,7 +62,7 @@ pub fn circuit_for(
     ensures few { IfOk result (λ c. (aux : Aux) → lines_with_helpers aux c ≤ MOST_LINES) }
 {
     spec.recall_invariant();
-    let circuit = found_for(alloc, spec, method, simplify)?;
+    let circuit = found_for(alloc, spec, synthesis, simplify)?;
     circuit.recall_invariant();
     Ok(circuit)
 }
@@ -70,12 +70,12 @@ pub fn circuit_for(
 fn found_for(
     alloc: Global,
     spec: &PermSpec,
-    method: Method,
+    synthesis: Synthesis,
     simplify: bool,
 ) -> Result<Circuit, AllocError>
-    ensures { IfOk result (λ c. c ≡ circuit_for method simplify spec.now) }
+    ensures { IfOk result (λ c. c ≡ circuit_for synthesis simplify spec.now) }
 {
-    let circuit = synth(alloc, spec, method)?;
+    let circuit = synthesized(alloc, spec, synthesis)?;
     if simplify {
         simplified(alloc, &circuit)
     } else {
@@ -114,17 +114,17 @@ fn network_by(alloc: Global, circuit: &Circuit, aux: Aux) -> Result<Net, FlowFau
 pub fn flow(
     alloc: Global,
     spec: &PermSpec,
-    method: Method,
+    synthesis: Synthesis,
     simplify: bool,
     aux: Aux,
 ) -> Result<Net, FlowFault>
-    ensures answer { MatchResult result (λ net. flow_of method simplify aux spec.now ≡ Ok net) (λ fault. (fault ≡ Mem) ⊎ (flow_of method simplify aux spec.now ≡ Err fault)) }
-    ensures carries { IfOk result (λ net. Carries aux spec.now.table.lines (helper_count aux (circuit_for method simplify spec.now)) net.ops (permuted spec.now.table)) }
-    ensures lines { IfOk result (λ net. net.lines ≡ spec.now.table.lines + helper_count aux (circuit_for method simplify spec.now)) }
+    ensures answer { MatchResult result (λ net. flow_of synthesis simplify aux spec.now ≡ Ok net) (λ fault. (fault ≡ Mem) ⊎ (flow_of synthesis simplify aux spec.now ≡ Err fault)) }
+    ensures carries { IfOk result (λ net. Carries aux spec.now.table.lines (helper_count aux (circuit_for synthesis simplify spec.now)) net.ops (permuted spec.now.table)) }
+    ensures lines { IfOk result (λ net. net.lines ≡ spec.now.table.lines + helper_count aux (circuit_for synthesis simplify spec.now)) }
     ensures few { IfOk result (λ net. net.lines ≤ spec.now.table.lines + 13) }
 {
     spec.recall_invariant();
-    match found_for(alloc, spec, method, simplify) {
+    match found_for(alloc, spec, synthesis, simplify) {
         Ok(circuit) => network_by(alloc, &circuit, aux),
         Err(_) => Err(FlowFault::Mem),
     }

@@ -12,7 +12,7 @@ use rv_gate::{Gate, has};
 
 // The positions of the lines that a gate touches, in ascending order.
 fn touched_positions(lines: &[u8], gate: Gate) -> ArrayVec<u8, 64>
-    requires placement { IsPlacement lines.now }
+    requires placement { IsPlacement (length lines.now) lines.now }
     requires few { length lines.now ≤ MOST_LINES }
     ensures value { result.items ≡ touched_positions lines.now gate }
     ensures len { length result.items ≤ 64 }
@@ -60,12 +60,12 @@ fn lower(lines: &mut [u8], positions: &[u8], bottom: u8, swaps: &mut Swaps)
 
 /// The lines that a gate touches gather around the middle one of them: says by which swaps.
 pub(crate) fn gather(lines: &mut [u8], gate: Gate, swaps: &mut Swaps)
-    requires placement { IsPlacement lines.old }
+    requires placement { IsPlacement (length lines.old) lines.old }
     requires few_lines { length lines.old ≤ MOST_LINES }
     requires fits { FitsIn gate (length lines.old) }
     ensures swaps { swaps.new.items ≡ gathering (touched_positions lines.old gate) }
     ensures lines { lines.new ≡ swapped swaps.new.items lines.old }
-    ensures placement { IsPlacement lines.new }
+    ensures placement { IsPlacement (length lines.new) lines.new }
     ensures within { All (IsSwap MOST_LINES) swaps.new.items }
     ensures few_swaps { length swaps.new.items ≤ 2016 }
 {
@@ -82,7 +82,7 @@ pub(crate) fn gather(lines: &mut [u8], gate: Gate, swaps: &mut Swaps)
 
 /// Each line moves to the position of its number: says by which swaps.
 pub(crate) fn go_home(lines: &mut [u8], swaps: &mut Swaps)
-    requires placement { IsPlacement lines.old }
+    requires placement { IsPlacement (length lines.old) lines.old }
     requires few { length lines.old ≤ MOST_LINES }
     ensures swaps { swaps.new.items ≡ way_home (home (length lines.old)) lines.old }
     ensures within { All (IsSwap MOST_LINES) swaps.new.items }

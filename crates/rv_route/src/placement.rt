@@ -20,7 +20,7 @@ pub(crate) fn home() -> [u8; 64]
 
 /// Where a line stands.
 pub(crate) fn position_of(lines: &[u8], line: u8) -> u8
-    requires placement { IsPlacement lines.now }
+    requires placement { IsPlacement (length lines.now) lines.now }
     requires few { length lines.now ≤ MOST_LINES }
     requires line { line < length lines.now }
     ensures value { result ≡ position_of lines.now line }
@@ -36,7 +36,7 @@ pub(crate) fn position_of(lines: &[u8], line: u8) -> u8
 
 // The positions of a set of lines.
 fn positions_of(lines: &[u8], set: LineSet) -> LineSet
-    requires placement { IsPlacement lines.now }
+    requires placement { IsPlacement (length lines.now) lines.now }
     requires few { length lines.now ≤ MOST_LINES }
     ensures { result ≡ positions_of lines.now set }
 {
@@ -51,7 +51,7 @@ fn positions_of(lines: &[u8], set: LineSet) -> LineSet
 
 /// The gate with each line replaced by its position.
 pub(crate) fn gate_on(lines: &[u8], gate: Gate) -> Gate
-    requires placement { IsPlacement lines.now }
+    requires placement { IsPlacement (length lines.now) lines.now }
     requires few { length lines.now ≤ MOST_LINES }
     requires fits { FitsIn gate (length lines.now) }
     ensures { result ≡ gate_on lines.now gate }

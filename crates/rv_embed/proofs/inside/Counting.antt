@@ -12,7 +12,7 @@ use Rattle.rv_embed.specs.Filled.{row, is_open, suits, own_word, known_uses, tak
 use Rattle.rv_embed.specs.inside.Rows.{IsLeastUsed, entries_row, fits, known_before}
 use Rattle.rv_embed.specs.declared.row.Row.{Row}
 use Rattle.rv_embed.proofs.inside.Fillings.{least_used_is, taken_fits}
-use Rattle.rv_embed.proofs.inside.Walking.{fit_agrees, agrees_fit, free_none, none_free, want_own}
+use Rattle.rv_embed.proofs.inside.Walking.{fit_agrees, agrees_fit, free_is, want_own}
 
 -- 1 where two words are the same
 abbrev pub hit : ℕ → ℕ → ℕ
@@ -61,7 +61,7 @@ pub Known-row : (pla : TwoLevel) (counts new : List ℕ) (n : ℕ) (r : Row) →
 Known-row pla counts new n r k e small (inl own) =
     let ef : r.free ≡ (entries_row (row pla n) pla.outputs).free = ap (λ (t : Row). t.free) e in
     let ew : r.want ≡ own_word pla n = ap (λ (t : Row). t.want) e ∙ want_own pla n in
-    let unfree : is_open pla n ≡ false = free_none (row pla n) pla.outputs (sym ef ∙ own.0) in
+    let unfree : is_open pla n ≡ false = (free_is (row pla n) pla.outputs).0 (sym ef ∙ own.0) in
     rw own.1 (record {
       len = length-set counts r.want _ ∙ k.len;
       counted = λ y h.
@@ -80,7 +80,7 @@ Known-row pla counts new n r k e small (inr other) =
             let a : cond {A = ℕ} (counts_it pla y n) 1 0 ≡ 0 = rw free refl in
             omega (arith, k.counted y h);
       }
-      | inr unfree ↦ absurd (other.0 (ef ∙ none_free (row pla n) pla.outputs unfree))
+      | inr unfree ↦ absurd (other.0 (ef ∙ (free_is (row pla n) pla.outputs).1 unfree))
     ])
 
 pub Known-all : (pla : TwoLevel) (counts : List ℕ) → Known pla counts (2 ^ pla.inputs) → counts ≡ uses pla 0
@@ -174,14 +174,14 @@ found pla counts new n v r so_far e own kept least counted =
     let ew : r.want ≡ own_word pla n = ap (λ (t : Row). t.want) e ∙ want_own pla n in
     elim (cases_Bool (is_open pla n)) [
       | inl free ↦
-          let some : r.free ≢ 0 = λ z. false≢true (sym (free_none (row pla n) pla.outputs (sym ef ∙ z)) ∙ free) in
+          let some : r.free ≢ 0 = λ z. false≢true (sym ((free_is (row pla n) pla.outputs).0 (sym ef ∙ z)) ∙ free) in
           let is : v ≡ taken_word pla (uses pla n) n = least_taken pla counts n v r e (least some) ∙ ap (λ l. taken_word pla l n) so_far in
           record {
             word = rw free is;
             counts_after = counted some ∙ ap (λ l. raised l v) so_far ∙ ap (raised (uses pla n)) is ∙ sym (uses_open pla n free);
           }
       | inr unfree ↦
-          let none : r.free ≡ 0 = ef ∙ none_free (row pla n) pla.outputs unfree in
+          let none : r.free ≡ 0 = ef ∙ (free_is (row pla n) pla.outputs).1 unfree in
           record {
             word = rw unfree (own none ∙ ew);
             counts_after = kept none ∙ so_far ∙ sym (uses_own pla n unfree);

@@ -1,9 +1,9 @@
 -- The words that fit a row, one after another.
-use Rattle.std.proofs.Common.{◌≡◌, ℕ, zero, suc, ◌+◌, ◌-◌, ◌*◌, ◌/◌, ◌%◌, ◌^◌, ◌<◌, ◌≤◌, Bool, true, false, cond, eqb, List, get_or, add-one, refl, sym, ◌∙◌, ap, subst, inl, inr, arith, eq-eqb}
-use Rattle.std.specs.Prelude.{◌⊎◌, bit_and, bit_or}
+use Rattle.std.proofs.Common.{◌≡◌, ℕ, zero, suc, ◌+◌, ◌-◌, ◌*◌, ◌/◌, ◌%◌, ◌^◌, ◌<◌, ◌≤◌, Bool, true, false, cond, ◌||◌, eqb, List, get_or, add-one, refl, sym, ◌∙◌, ap, subst, inl, inr, arith, eq-eqb}
+use Rattle.std.specs.Prelude.{◌⊎◌, ◌↔◌, bit_and, bit_or}
 use Rattle.std.specs.Int.{bit_at}
 use Rattle.std.specs.Int.Bits.{and_zero_r, or_zero_l, or_zero_r}
-use Rattle.std.proofs.lemmas.Bool.{cases_lt, cases_eq, cases_Bool, eqb-true, false≢true, or_left, or_right}
+use Rattle.std.proofs.lemmas.Bool.{cases_lt, cases_eq, eqb-true, false≢true}
 use Rattle.std.proofs.lemmas.Nat.{and_block, and_le_l, and_le_r, or_block}
 use Rattle.std.proofs.lemmas.Nat.Bits.{bit_at-suc, bit_at_lowest}
 use Rattle.std.proofs.Math.Nat.{pow-suc}
@@ -174,6 +174,57 @@ after_odd c w n z t (inr e) =
           omega arith;
     })
 
+-- ---- the masks of a row, and a word that fits, bit by bit
+
+-- which of n entries aren't free, the bits that they want, and which are free
+data Masks : ℕ → ℕ → ℕ → ℕ → Type 0 where
+  no_entry : Masks 0 0 0 0
+  set_entry : (n c w f b : ℕ) → b < 2 → Masks n c w f → Masks (suc n) (c * 2 + 1) (w * 2 + b) (f * 2 + 0)
+  free_entry : (n c w f : ℕ) → Masks n c w f → Masks (suc n) (c * 2 + 0) (w * 2 + 0) (f * 2 + 1)
+
+data Fits : ℕ → ℕ → ℕ → ℕ → ℕ → Type 0 where
+  no_bit : Fits 0 0 0 0 0
+  set_bit : (n c w f z b : ℕ) → b < 2 → Fits n c w f z → Fits (suc n) (c * 2 + 1) (w * 2 + b) (f * 2 + 0) (z * 2 + b)
+  bit_0 : (n c w f z : ℕ) → z < 2 ^ n → bit_and z c ≡ w → Fits n c w f z → Fits (suc n) (c * 2 + 0) (w * 2 + 0) (f * 2 + 1) (z * 2 + 0)
+  bit_1 : (n c w f z : ℕ) → Fits n c w f z → Fits (suc n) (c * 2 + 0) (w * 2 + 0) (f * 2 + 1) (z * 2 + 1)
+
+fits_in : {n c w f : ℕ} → Masks n c w f → (z : ℕ) → z < 2 ^ n → bit_and z c ≡ w → Fits n c w f z
+fits_in no_entry z h e = let o : z ≡ 0 = omega (arith, h) in rw o no_bit
+fits_in (set_entry n c w f b small m) z h e =
+    let s = halves c w z 1 b (omega arith) small e in
+    let last : z % 2 ≡ b = sym (and_one (z % 2) (omega arith)) ∙ s.1 in
+    let whole : z / 2 * 2 + b ≡ z = omega (arith, last) in
+    let P : ℕ → Type 0 = Fits (suc n) (c * 2 + 1) (w * 2 + b) (f * 2 + 0) in
+    subst P whole (set_bit n c w f (z / 2) b small (fits_in m (z / 2) (omega (arith, h, pow-suc 2 n)) s.0))
+fits_in (free_entry n c w f m) z h e =
+    let s = halves c w z 0 0 (omega arith) (omega arith) e in
+    let half : z / 2 < 2 ^ n = omega (arith, h, pow-suc 2 n) in
+    let P : ℕ → Type 0 = Fits (suc n) (c * 2 + 0) (w * 2 + 0) (f * 2 + 1) in
+    elim (cases_eq (z % 2) 0) [
+      | inl even ↦ (let whole : z / 2 * 2 + 0 ≡ z = omega (arith, even) in subst P whole (bit_0 n c w f (z / 2) half s.0 (fits_in m (z / 2) half s.0)))
+      | inr odd ↦ (let whole : z / 2 * 2 + 1 ≡ z = omega (arith, odd) in subst P whole (bit_1 n c w f (z / 2) (fits_in m (z / 2) half s.0)))
+    ]
+
+-- a word that fits is what its bits say
+back_is : {n c w f z : ℕ} → Fits n c w f z → back c w f z ≡ z
+back_is no_bit = refl
+back_is (set_bit n c w f z b small m) = back_set c w f z b small ∙ ap (λ k. k * 2 + b) (back_is m)
+back_is (bit_0 n c w f z h e m) = back_free c w f z 0 (omega arith) ∙ ap (λ k. k * 2 + 0) (back_is m)
+back_is (bit_1 n c w f z m) = back_free c w f z 1 (omega arith) ∙ ap (λ k. k * 2 + 1) (back_is m)
+
+-- the theorem: what comes after a word that fits
+after_is : {n c w f z : ℕ} → Fits n c w f z → After c w n z (next c w f z)
+after_is no_bit = inr (record { first = refl; none = λ y u g. omega (arith, u) })
+after_is (set_bit n c w f z b small m) = rw (next_set c w f z b small) (after_set c w n z (next c w f z) b small (after_is m))
+after_is (bit_0 n c w f z h e m) = rw (next_even c w f z, back_is m) (after_even c w n z h e)
+after_is (bit_1 n c w f z m) = rw (next_odd c w f z) (after_odd c w n z (next c w f z) (after_is m))
+
+-- the first word fits
+want_fits : {n c w f : ℕ} → Masks n c w f → bit_and w c ≡ w
+want_fits no_entry = refl
+want_fits (set_entry n c w f b small m) = and2 w c b 1 small (omega arith) ∙ ap (λ k. k * 2 + bit_and b 1) (want_fits m) ∙ ap (λ k. w * 2 + k) (and_one b small)
+want_fits (free_entry n c w f m) = and2 w c 0 0 (omega arith) (omega arith) ∙ ap (λ k. k * 2 + 0) (want_fits m)
+
 -- ---- the rows of entries
 
 abbrev care_of : (ℕ → Entry) → ℕ → ℕ
@@ -185,124 +236,16 @@ want_of entries n = bits_by bit_for entries n
 abbrev free_of : (ℕ → Entry) → ℕ → ℕ
 free_of entries n = bits_by is_dont_care entries n
 
--- one more entry
-pub data Last (entries : ℕ → Entry) (n : ℕ) : Type 0 where
-  set_last : (b : ℕ) → b < 2 → care_of entries (suc n) ≡ care_of entries n * 2 + 1 → want_of entries (suc n) ≡ want_of entries n * 2 + b → free_of entries (suc n) ≡ free_of entries n * 2 + 0
-      → ((bit : Bool) → cond {A = ℕ} bit 1 0 ≡ b → allows (entries n) bit ≡ true) → ((bit : Bool) → allows (entries n) bit ≡ true → cond {A = ℕ} bit 1 0 ≡ b) → Last entries n
-  free_last : care_of entries (suc n) ≡ care_of entries n * 2 + 0 → want_of entries (suc n) ≡ want_of entries n * 2 + 0 → free_of entries (suc n) ≡ free_of entries n * 2 + 1
-      → ((bit : Bool) → allows (entries n) bit ≡ true) → Last entries n
+one_more : (n c w f : ℕ) (e : Entry) → Masks n c w f
+    → Masks (suc n) (c * 2 + cond {A = ℕ} (is_set e) 1 0) (w * 2 + cond {A = ℕ} (bit_for e) 1 0) (f * 2 + cond {A = ℕ} (is_dont_care e) 1 0)
+one_more n c w f One m = set_entry n c w f 1 (omega arith) m
+one_more n c w f Zero m = set_entry n c w f 0 (omega arith) m
+one_more n c w f Free m = free_entry n c w f m
 
-one_ok : (bit : Bool) → cond {A = ℕ} bit 1 0 ≡ 1 → allows One bit ≡ true
-one_ok true h = refl
-one_ok false h = absurd (omega arith)
-
-one_only : (bit : Bool) → allows One bit ≡ true → cond {A = ℕ} bit 1 0 ≡ 1
-one_only true h = refl
-one_only false h = absurd (false≢true h)
-
-zero_ok : (bit : Bool) → cond {A = ℕ} bit 1 0 ≡ 0 → allows Zero bit ≡ true
-zero_ok true h = absurd (omega arith)
-zero_ok false h = refl
-
-zero_only : (bit : Bool) → allows Zero bit ≡ true → cond {A = ℕ} bit 1 0 ≡ 0
-zero_only true h = absurd (false≢true h)
-zero_only false h = refl
-
-last_of : (entries : ℕ → Entry) (n : ℕ) (e : Entry) → entries n ≡ e → Last entries n
+masks_of : (entries : ℕ → Entry) (n : ℕ) → Masks n (care_of entries n) (want_of entries n) (free_of entries n)
 unfolding bits_by
-last_of entries n One h = set_last 1 (omega arith) (rw h refl) (rw h refl) (rw h refl) (rw h one_ok) (rw h one_only)
-last_of entries n Zero h = set_last 0 (omega arith) (rw h refl) (rw h refl) (rw h refl) (rw h zero_ok) (rw h zero_only)
-last_of entries n Free h = free_last (rw h refl) (rw h refl) (rw h refl) (rw h (λ bit. refl))
-
--- a word that fits is what its bits say
-pub back_is : (entries : ℕ → Entry) (n z : ℕ) → z < 2 ^ n → bit_and z (care_of entries n) ≡ want_of entries n → back (care_of entries n) (want_of entries n) (free_of entries n) z ≡ z
-unfolding bits_by
-back_is entries zero z h f = let e : z ≡ 0 = omega arith in rw e refl
-back_is entries (suc n) z h f = elim (last_of entries n (entries n) refl) [
-  | set_last b hb ec ew ef ok only ↦
-      let g : bit_and z (care_of entries n * 2 + 1) ≡ want_of entries n * 2 + b = ap (bit_and z) (sym ec) ∙ f ∙ ew in
-      let s = halves (care_of entries n) (want_of entries n) z 1 b (omega arith) hb g in
-      let bit : z % 2 ≡ b = sym (and_one (z % 2) (omega arith)) ∙ s.1 in
-      let whole : z ≡ z / 2 * 2 + b = omega arith in
-      let r = back_is entries n (z / 2) (let p = pow-suc 2 n in omega arith) s.0 in
-      let e = back_set (care_of entries n) (want_of entries n) (free_of entries n) (z / 2) b hb in
-      let at : back (care_of entries (suc n)) (want_of entries (suc n)) (free_of entries (suc n)) z ≡ back (care_of entries n * 2 + 1) (want_of entries n * 2 + b) (free_of entries n * 2 + 0) (z / 2 * 2 + b) = rw (ec, ew, ef) (ap (back (care_of entries n * 2 + 1) (want_of entries n * 2 + b) (free_of entries n * 2 + 0)) whole) in
-      omega arith
-  | free_last ec ew ef ok ↦
-      let g : bit_and z (care_of entries n * 2 + 0) ≡ want_of entries n * 2 + 0 = ap (bit_and z) (sym ec) ∙ f ∙ ew in
-      let s = halves (care_of entries n) (want_of entries n) z 0 0 (omega arith) (omega arith) g in
-      let whole : z ≡ z / 2 * 2 + z % 2 = omega arith in
-      let r = back_is entries n (z / 2) (let p = pow-suc 2 n in omega arith) s.0 in
-      let e = back_free (care_of entries n) (want_of entries n) (free_of entries n) (z / 2) (z % 2) (omega arith) in
-      let at : back (care_of entries (suc n)) (want_of entries (suc n)) (free_of entries (suc n)) z ≡ back (care_of entries n * 2 + 0) (want_of entries n * 2 + 0) (free_of entries n * 2 + 1) (z / 2 * 2 + z % 2) = rw (ec, ew, ef) (ap (back (care_of entries n * 2 + 0) (want_of entries n * 2 + 0) (free_of entries n * 2 + 1)) whole) in
-      omega arith
-]
-
--- the first word fits
-pub want_fits : (entries : ℕ → Entry) (n : ℕ) → bit_and (want_of entries n) (care_of entries n) ≡ want_of entries n
-unfolding bits_by
-want_fits entries zero = refl
-want_fits entries (suc n) = elim (last_of entries n (entries n) refl) [
-  | set_last b hb ec ew ef ok only ↦
-      let e : bit_and (want_of entries n * 2 + b) (care_of entries n * 2 + 1) ≡ bit_and (want_of entries n) (care_of entries n) * 2 + bit_and b 1 = and2 (want_of entries n) (care_of entries n) b 1 hb (omega arith) in
-      rw (ec, ew) (e ∙ ap (λ k. k * 2 + bit_and b 1) (want_fits entries n) ∙ ap (λ k. want_of entries n * 2 + k) (and_one b hb))
-  | free_last ec ew ef ok ↦
-      let e : bit_and (want_of entries n * 2 + 0) (care_of entries n * 2 + 0) ≡ bit_and (want_of entries n) (care_of entries n) * 2 + 0 = and2 (want_of entries n) (care_of entries n) 0 0 (omega arith) (omega arith) in
-      rw (ec, ew) (e ∙ ap (λ k. k * 2 + 0) (want_fits entries n))
-]
-
-pub want-lt : (entries : ℕ → Entry) (n : ℕ) → want_of entries n < 2 ^ n
-unfolding bits_by
-want-lt entries zero = omega arith
-want-lt entries (suc n) =
-    let p = pow-suc 2 n in
-    let l = want-lt entries n in
-    elim (last_of entries n (entries n) refl) [ set_last b hb ec ew ef ok only ↦ omega arith | free_last ec ew ef ok ↦ omega arith ]
-
-pub care-lt : (entries : ℕ → Entry) (n : ℕ) → care_of entries n < 2 ^ n
-unfolding bits_by
-care-lt entries zero = omega arith
-care-lt entries (suc n) =
-    let p = pow-suc 2 n in
-    let l = care-lt entries n in
-    elim (last_of entries n (entries n) refl) [ set_last b hb ec ew ef ok only ↦ omega arith | free_last ec ew ef ok ↦ omega arith ]
-
--- the theorem: what comes after a word that fits
-pub after_is : (entries : ℕ → Entry) (n z : ℕ) → z < 2 ^ n → bit_and z (care_of entries n) ≡ want_of entries n
-    → After (care_of entries n) (want_of entries n) n z (next (care_of entries n) (want_of entries n) (free_of entries n) z)
-unfolding bits_by
-after_is entries zero z h f = inr (record { first = let e : z ≡ 0 = omega arith in rw e refl; none = λ y u g. omega arith })
-after_is entries (suc n) z h f =
-    let c : ℕ = care_of entries n in
-    let w : ℕ = want_of entries n in
-    let r : ℕ = free_of entries n in
-    let half : z / 2 < 2 ^ n = let p = pow-suc 2 n in omega arith in
-    elim (last_of entries n (entries n) refl) [
-      | set_last b hb ec ew ef ok only ↦
-          let g : bit_and z (c * 2 + 1) ≡ w * 2 + b = ap (bit_and z) (sym ec) ∙ f ∙ ew in
-          let s = halves c w z 1 b (omega arith) hb g in
-          let bit : z % 2 ≡ b = sym (and_one (z % 2) (omega arith)) ∙ s.1 in
-          let whole : z / 2 * 2 + b ≡ z = omega arith in
-          let rest = after_set c w n (z / 2) (next c w r (z / 2)) b hb (after_is entries n (z / 2) half s.0) in
-          let e : next (c * 2 + 1) (w * 2 + b) (r * 2 + 0) z ≡ next c w r (z / 2) * 2 + b = ap (next (c * 2 + 1) (w * 2 + b) (r * 2 + 0)) (sym whole) ∙ next_set c w r (z / 2) b hb in
-          rw (ec, ew, ef, e) (subst (λ v. After (c * 2 + 1) (w * 2 + b) (suc n) v (next c w r (z / 2) * 2 + b)) whole rest)
-      | free_last ec ew ef ok ↦
-          let g : bit_and z (c * 2 + 0) ≡ w * 2 + 0 = ap (bit_and z) (sym ec) ∙ f ∙ ew in
-          let s = halves c w z 0 0 (omega arith) (omega arith) g in
-          elim (cases_eq (z % 2) 0) [
-            | inl even ↦
-                let whole : z / 2 * 2 + 0 ≡ z = omega arith in
-                let rest = after_even c w n (z / 2) half s.0 in
-                let e : next (c * 2 + 0) (w * 2 + 0) (r * 2 + 1) z ≡ z / 2 * 2 + 1 =
-                ap (next (c * 2 + 0) (w * 2 + 0) (r * 2 + 1)) (sym whole) ∙ next_even c w r (z / 2) ∙ ap (λ k. k * 2 + 1) (back_is entries n (z / 2) half s.0) in
-                rw (ec, ew, ef, e) (subst (λ v. After (c * 2 + 0) (w * 2 + 0) (suc n) v (z / 2 * 2 + 1)) whole rest)
-            | inr odd ↦
-                let whole : z / 2 * 2 + 1 ≡ z = omega arith in
-                let rest = after_odd c w n (z / 2) (next c w r (z / 2)) (after_is entries n (z / 2) half s.0) in
-                let e : next (c * 2 + 0) (w * 2 + 0) (r * 2 + 1) z ≡ next c w r (z / 2) * 2 + 0 = ap (next (c * 2 + 0) (w * 2 + 0) (r * 2 + 1)) (sym whole) ∙ next_odd c w r (z / 2) in
-                rw (ec, ew, ef, e) (subst (λ v. After (c * 2 + 0) (w * 2 + 0) (suc n) v (next c w r (z / 2) * 2 + 0)) whole rest)
-          ]
-    ]
+masks_of entries zero = no_entry
+masks_of entries (suc n) = one_more n _ _ _ (entries n) (masks_of entries n)
 
 -- ---- words that fit are those that agree
 
@@ -324,40 +267,42 @@ higher y n j h =
 lowest : (y n : ℕ) → has y (suc n - 1 - n) ≡ has y 0
 lowest y n = let e : suc n - 1 - n ≡ 0 = omega arith in ap (has y) e
 
+-- a bit fits where the entry allows it
+bit_fits : (e : Entry) (b : Bool) → (bit_and (cond {A = ℕ} b 1 0) (cond {A = ℕ} (is_set e) 1 0) ≡ cond {A = ℕ} (bit_for e) 1 0) ↔ (allows e b ≡ true)
+bit_fits One true = (λ _. refl, λ _. refl)
+bit_fits One false = (λ h. absurd (omega (arith, h)), λ h. absurd (false≢true h))
+bit_fits Zero true = (λ h. absurd (omega (arith, h)), λ h. absurd (false≢true h))
+bit_fits Zero false = (λ _. refl, λ _. refl)
+bit_fits Free true = (λ _. refl, λ _. refl)
+bit_fits Free false = (λ _. refl, λ _. refl)
+
+last_fits : (e : Entry) (y : ℕ) → (bit_and (y % 2) (cond {A = ℕ} (is_set e) 1 0) ≡ cond {A = ℕ} (bit_for e) 1 0) ↔ (allows e (has y 0) ≡ true)
+last_fits e y =
+    let P : ℕ → Type 0 = λ m. (bit_and m (cond {A = ℕ} (is_set e) 1 0) ≡ cond {A = ℕ} (bit_for e) 1 0) ↔ (allows e (has y 0) ≡ true) in
+    subst P (low_bit y) (bit_fits e (has y 0))
+
+small_bit : (b : Bool) → cond {A = ℕ} b 1 0 < 2
+small_bit true = omega arith
+small_bit false = omega arith
+
 allowed_fit : (entries : ℕ → Entry) (n y : ℕ) → bit_and y (care_of entries n) ≡ want_of entries n → Allowed entries n y
-allowed_fit entries zero y f j l = absurd (omega arith)
-allowed_fit entries (suc n) y f j l = elim (last_of entries n (entries n) refl) [
-  | set_last b hb ec ew ef ok only ↦
-      let g : bit_and y (care_of entries n * 2 + 1) ≡ want_of entries n * 2 + b = ap (bit_and y) (sym ec) ∙ f ∙ ew in
-      let s = halves (care_of entries n) (want_of entries n) y 1 b (omega arith) hb g in
-      let bit : y % 2 ≡ b = sym (and_one (y % 2) (omega arith)) ∙ s.1 in
-      elim (cases_eq j n) [
-        | inl same ↦ (rw same (ap (allows (entries n)) (lowest y n) ∙ ok (has y 0) (low_bit y ∙ bit)))
-        | inr other ↦ (let within : j < n = omega arith in ap (allows (entries j)) (higher y n j within) ∙ allowed_fit entries n (y / 2) s.0 j within)
-      ]
-  | free_last ec ew ef ok ↦
-      let g : bit_and y (care_of entries n * 2 + 0) ≡ want_of entries n * 2 + 0 = ap (bit_and y) (sym ec) ∙ f ∙ ew in
-      let s = halves (care_of entries n) (want_of entries n) y 0 0 (omega arith) (omega arith) g in
-      elim (cases_eq j n) [
-        | inl same ↦ (rw same (ok (has y (suc n - 1 - n))))
-        | inr other ↦ (let within : j < n = omega arith in ap (allows (entries j)) (higher y n j within) ∙ allowed_fit entries n (y / 2) s.0 j within)
-      ]
-]
+unfolding bits_by
+allowed_fit entries zero y f j l = absurd (omega (arith, l))
+allowed_fit entries (suc n) y f j l =
+    let s = halves (care_of entries n) (want_of entries n) y _ _ (small_bit (is_set (entries n))) (small_bit (bit_for (entries n))) f in
+    elim (cases_eq j n) [
+      | inl same ↦ rw same (ap (allows (entries n)) (lowest y n) ∙ (last_fits (entries n) y).0 s.1)
+      | inr other ↦ (let within : j < n = omega (arith, l, other) in ap (allows (entries j)) (higher y n j within) ∙ allowed_fit entries n (y / 2) s.0 j within)
+    ]
 
 fit_allowed : (entries : ℕ → Entry) (n y : ℕ) → y < 2 ^ n → Allowed entries n y → bit_and y (care_of entries n) ≡ want_of entries n
 unfolding bits_by
-fit_allowed entries zero y u a = let e : y ≡ 0 = omega arith in rw e refl
+fit_allowed entries zero y u a = let e : y ≡ 0 = omega (arith, u) in rw e refl
 fit_allowed entries (suc n) y u a =
-    let p = pow-suc 2 n in
-    let rest : Allowed entries n (y / 2) = λ j l. ap (allows (entries j)) (sym (higher y n j l)) ∙ a j (omega arith) in
-    let r = fit_allowed entries n (y / 2) (omega arith) rest in
+    let rest : Allowed entries n (y / 2) = λ j l. ap (allows (entries j)) (sym (higher y n j l)) ∙ a j (omega (arith, l)) in
     let here : allows (entries n) (has y 0) ≡ true = ap (allows (entries n)) (sym (lowest y n)) ∙ a n (omega arith) in
-    elim (last_of entries n (entries n) refl) [
-      | set_last b hb ec ew ef ok only ↦
-          let bit : y % 2 ≡ b = sym (low_bit y) ∙ only (has y 0) here in
-          ap (bit_and y) ec ∙ joined_halves (care_of entries n) (want_of entries n) y 1 b (omega arith) r (and_one (y % 2) (omega arith) ∙ bit) ∙ sym ew
-      | free_last ec ew ef ok ↦ (ap (bit_and y) ec ∙ joined_halves (care_of entries n) (want_of entries n) y 0 0 (omega arith) r (and_zero_r (y % 2)) ∙ sym ew)
-    ]
+    joined_halves (care_of entries n) (want_of entries n) y _ _ (small_bit (is_set (entries n)))
+    (fit_allowed entries n (y / 2) (omega (arith, u, pow-suc 2 n)) rest) ((last_fits (entries n) y).1 here)
 
 pub fit_agrees : (entries : ℕ → Entry) (n y : ℕ) → bit_and y (care_of entries n) ≡ want_of entries n → suits entries n y ≡ true
 fit_agrees entries n y f = suits_from entries n y (λ j l. ap (allows (entries j)) (bit_of-word_of n y j l) ∙ allowed_fit entries n y f j l)
@@ -366,27 +311,16 @@ pub agrees_fit : (entries : ℕ → Entry) (n y : ℕ) → y < 2 ^ n → suits e
 agrees_fit entries n y u a = fit_allowed entries n y u (λ j l. ap (allows (entries j)) (sym (bit_of-word_of n y j l)) ∙ suits_at entries n y j a l)
 
 -- a row without free entries
-pub free_none : (entries : ℕ → Entry) (n : ℕ) → free_of entries n ≡ 0 → has_free entries n ≡ false
-unfolding bits_by has_free
-free_none entries zero h = refl
-free_none entries (suc n) h =
-    elim (cases_Bool (is_dont_care (entries n))) [
-      | inl here ↦ absurd (let e = ap (λ (b : Bool). bits_by is_dont_care entries n * 2 + cond {A = ℕ} b 1 0) here in omega arith)
-      | inr there ↦ (let e = ap (λ (b : Bool). bits_by is_dont_care entries n * 2 + cond {A = ℕ} b 1 0) there in let r = free_none entries n (omega arith) in rw (r, there) refl)
-    ]
+no_free : (some last : Bool) (f : ℕ) → (f ≡ 0) ↔ (some ≡ false) → (f * 2 + cond {A = ℕ} last 1 0 ≡ 0) ↔ ((some || last) ≡ false)
+no_free true true f is = (λ h. absurd (omega (arith, h)), λ h. absurd (false≢true (sym h)))
+no_free true false f is = (λ h. is.0 (omega (arith, h)), λ h. absurd (false≢true (sym h)))
+no_free false true f is = (λ h. absurd (omega (arith, h)), λ h. absurd (false≢true (sym h)))
+no_free false false f is = (λ h. refl, λ h. omega (arith, is.1 refl))
 
-pub none_free : (entries : ℕ → Entry) (n : ℕ) → has_free entries n ≡ false → free_of entries n ≡ 0
+pub free_is : (entries : ℕ → Entry) (n : ℕ) → (free_of entries n ≡ 0) ↔ (has_free entries n ≡ false)
 unfolding bits_by has_free
-none_free entries zero h = refl
-none_free entries (suc n) h =
-    elim (cases_Bool (has_free entries n)) [
-      | inl here ↦ absurd (false≢true (sym h ∙ or_left (has_free entries n) (is_dont_care (entries n)) here))
-      | inr there ↦
-          elim (cases_Bool (is_dont_care (entries n))) [
-            | inl last ↦ absurd (false≢true (sym h ∙ or_right (has_free entries n) (is_dont_care (entries n)) last))
-            | inr other ↦ (let r = none_free entries n there in let e = ap (λ (b : Bool). bits_by is_dont_care entries n * 2 + cond {A = ℕ} b 1 0) other in e ∙ omega arith)
-          ]
-    ]
+free_is entries zero = (λ h. refl, λ h. refl)
+free_is entries (suc n) = no_free (has_free entries n) (is_dont_care (entries n)) (free_of entries n) (free_is entries n)
 
 -- ---- one more bit
 
@@ -397,10 +331,7 @@ bits_more p entries n = rw (add-one n) refl
 pub bits-lt : (p : Entry → Bool) (entries : ℕ → Entry) (n : ℕ) → bits_by p entries n < 2 ^ n
 unfolding bits_by
 bits-lt p entries zero = omega arith
-bits-lt p entries (suc n) =
-    let l = bits-lt p entries n in
-    let q = pow-suc 2 n in
-    elim (cases_Bool (p (entries n))) [ inl on ↦ rw on (omega arith) | inr off ↦ rw off (omega arith) ]
+bits-lt p entries (suc n) = omega (arith, bits-lt p entries n, pow-suc 2 n, small_bit (p (entries n)))
 
 -- ---- the search
 
@@ -410,16 +341,16 @@ row_next r z = bit_or (bit_and (bit_or z r.care + 1) r.free) r.want
 row_after : (n : ℕ) (r : Row) (z : ℕ) → IsRow n r → z < 2 ^ n → fits r.care r.want z ≡ true → After r.care r.want n z (row_next r z)
 row_after n r z is h f =
     let Q : Row → Type 0 = λ r. fits r.care r.want z ≡ true → After r.care r.want n z (row_next r z) in
-    subst Q (sym is.1) (λ g. after_is is.0 n z h (eqb-true _ _ g)) f
+    subst Q (sym is.1) (λ g. after_is (fits_in (masks_of is.0 n) z h (eqb-true _ _ g))) f
 
 pub row_care-lt : (n : ℕ) (r : Row) → IsRow n r → r.care < 2 ^ n
-row_care-lt n r is = let Q : Row → Type 0 = λ r. r.care < 2 ^ n in subst Q (sym is.1) (care-lt is.0 n)
+row_care-lt n r is = rw is.1 (bits-lt is_set is.0 n)
 
 pub row_want-lt : (n : ℕ) (r : Row) → IsRow n r → r.want < 2 ^ n
-row_want-lt n r is = let Q : Row → Type 0 = λ r. r.want < 2 ^ n in subst Q (sym is.1) (want-lt is.0 n)
+row_want-lt n r is = rw is.1 (bits-lt bit_for is.0 n)
 
 pub row_want-fits : (n : ℕ) (r : Row) → IsRow n r → fits r.care r.want r.want ≡ true
-row_want-fits n r is = let Q : Row → Type 0 = λ r. fits r.care r.want r.want ≡ true in subst Q (sym is.1) (eq-eqb _ _ (want_fits is.0 n))
+row_want-fits n r is = rw is.1 (eq-eqb _ _ (want_fits (masks_of is.0 n)))
 
 -- no word that fits is below the wanted one
 pub want_first : (care want z : ℕ) → fits care want z ≡ true → want ≤ z

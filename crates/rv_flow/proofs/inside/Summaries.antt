@@ -17,6 +17,7 @@ use Rattle.rv_cost.specs.NetCost.{net_cost}
 use Rattle.rv_flow.specs.Flow.{circuit_for, simplified_if}
 use Rattle.rv_flow.specs.Generator.{generated}
 use Rattle.rv_flow.specs.Summary.{summary_by, summary_of}
+use Rattle.rv_flow.specs.declared.synthesis.Synthesis.TheVariants.{Rows}
 use Rattle.rv_flow.specs.inside.Few.{AreFew}
 use Rattle.rv_flow.proofs.inside.Bounds.{borrowed-few, cost-few}
 use Rattle.rv_flow.proofs.Circuits.{IsFor, circuit-is, circuit-lines}
@@ -30,19 +31,19 @@ marked lines seed some few = record {
   garbage = length-replicate lines false;
 }
 
-are_few : (lines seed : ℕ) → 1 ≤ lines → lines ≤ 8 → AreFew (circuit_for Best false (unmarked (generated lines seed))) (circuit_for Best true (unmarked (generated lines seed)))
+are_few : (lines seed : ℕ) → 1 ≤ lines → lines ≤ 8 → AreFew (circuit_for (Rows Best) false (unmarked (generated lines seed))) (circuit_for (Rows Best) true (unmarked (generated lines seed)))
 are_few lines seed some few =
     let spec : Marked = unmarked (generated lines seed) in
     let is : IsMarked spec = marked lines seed some few in
-    let found : Cascade = circuit_for Best false spec in
-    let simpler : Cascade = circuit_for Best true spec in
-    let first : IsFor spec found.gates = circuit-is Best false spec is in
-    let then : IsFor spec simpler.gates = circuit-is Best true spec is in
+    let found : Cascade = circuit_for (Rows Best) false spec in
+    let simpler : Cascade = circuit_for (Rows Best) true spec in
+    let first : IsFor spec found.gates = circuit-is (Rows Best) false spec is in
+    let then : IsFor spec simpler.gates = circuit-is (Rows Best) true spec is in
     let kept : Keeps lines found.gates simpler.gates = by_simplifying lines built_in found.gates built_in_are (omega (arith, few)) first.good in
     let words : 2 ^ lines ≤ 2 ^ 8 = pow-le-pow_right {n = 2} (omega arith) few in
     let all : lines * 2 ^ lines ≤ lines * 256 = mul-le-mul_left lines words in
     let gates : length found.gates ≤ 2048 = omega (arith, first.few, all, few) in
-    let width : length simpler.names ≡ lines = circuit-lines Best true spec in
+    let width : length simpler.names ≡ lines = circuit-lines (Rows Best) true spec in
     let helpers : helper_count Borrowed simpler ≤ 1 = subst (λ n. added Borrowed n simpler.gates ≤ 1) (sym width) (borrowed-few lines simpler.gates (omega (arith, few)) then.good) in
     let cost : gate_count Borrowed simpler ≤ 32 * length simpler.gates = cost-few lines (lines_with_helpers Borrowed simpler) simpler.gates few then.flips then.good in
     record {
@@ -57,8 +58,8 @@ are_few lines seed some few =
 pub found-few : (lines seed : ℕ) (spec : Marked) (found simpler : Cascade) → 1 ≤ lines → lines ≤ 8 → spec ≡ unmarked (generated lines seed)
     → found ≡ synthesis_of Best spec → simpler ≡ simplified_if true found → AreFew found simpler
 found-few lines seed spec found simpler some few given made then =
-    let found_is : found ≡ circuit_for Best false (unmarked (generated lines seed)) = made ∙ ap (synthesis_of Best) given in
-    let simpler_is : simpler ≡ circuit_for Best true (unmarked (generated lines seed)) = then ∙ ap (simplified_if true) found_is in
+    let found_is : found ≡ circuit_for (Rows Best) false (unmarked (generated lines seed)) = made ∙ ap (synthesis_of Best) given in
+    let simpler_is : simpler ≡ circuit_for (Rows Best) true (unmarked (generated lines seed)) = then ∙ ap (simplified_if true) found_is in
     rw (found_is, simpler_is) (are_few lines seed some few)
 
 -- the numbers of what the code found are those of the definition

@@ -1,9 +1,9 @@
 -- A routed circuit does what the circuit does, and each of its gates is near.
-use Rattle.std.proofs.Common.{◌≡◌, ℕ, zero, suc, ◌+◌, ◌-◌, ◌<◌, ◌≤◌, Bool, true, false, ◌||◌, eqb, List, [], ◌∷◌, ◌++◌, length, get_or, map, All, refl, sym, ◌∙◌, ap, inl, inr, arith, eq-eqb, subst, ext_get_or}
+use Rattle.std.proofs.Common.{◌≡◌, ℕ, zero, suc, ◌+◌, ◌<◌, ◌≤◌, Bool, true, false, ◌||◌, eqb, List, [], ◌∷◌, ◌++◌, length, get_or, map, All, refl, sym, ◌∙◌, ap, inl, inr, arith, eq-eqb, subst, ext_get_or}
 use Rattle.std.proofs.lemmas.Bool.{cases_eq, cases_lt, false≢true, or_left, or_right}
 use Rattle.std.proofs.lemmas.List.FromFn.{length-range_with_len, get_or-range_with_len}
-use Rattle.std.proofs.lemmas.List.{get_or-map, length-map}
-use Rattle.std.proofs.lemmas.List.Elements.{All-nil, All-cons, All-append, All-head, All-tail, All-weaker}
+use Rattle.std.proofs.lemmas.List.{length-map}
+use Rattle.std.proofs.lemmas.List.Elements.{All-nil, All-cons, All-append, All-head, All-map, All-tail, All-weaker}
 use Rattle.std.specs.List.{range_with_len}
 use Rattle.rv_gate.specs.Word.{has, bit_of}
 use Rattle.rv_gate.specs.Gate.{act, run, touches, FitsIn, IsGate}
@@ -15,94 +15,90 @@ use Rattle.rv_gate.proofs.inside.GateLemmas.{length-act, run-append}
 use Rattle.rv_route.specs.Placement.{home, position_of, word_on, gate_on, IsNear}
 use Rattle.rv_route.specs.Moves.{swaps_down, swapped, neighbours, gathering, touched_positions, way_home}
 use Rattle.rv_route.specs.Routed.{routed_from, routed}
-use Rattle.rv_route.specs.inside.Standing.{IsPlacement, AreAscending}
-use Rattle.rv_route.proofs.inside.Shifts.{AreWithin, AreWithin-append, down_within, IsPlacement-swapped, length-swapped, swapped_none, swapped-append, moved_down}
-use Rattle.rv_route.proofs.inside.Gathers.{AreAscending-filter, among-filter, some_pass, gathered, gathering_inside}
-use Rattle.rv_route.proofs.inside.Running.{stands, run_swaps, act-on, touches-gate_on, FitsIn-gate_on, IsGate-gate_on}
+use Rattle.rv_route.specs.inside.Standing.{IsPlacement, IsSwap}
+use Rattle.rv_route.proofs.inside.Shifts.{IsPlacement-swapped, lowered, swapped_none, swapped-append}
+use Rattle.rv_route.proofs.inside.Gathers.{Gathered, gathered, places, places_are, some_place, together}
+use Rattle.rv_route.proofs.inside.Running.{stands, bit_of-word_on, run_swaps, act-on, touches-gate_on, FitsIn-gate_on, IsGate-gate_on}
 
 -- ---- home
 
-pub IsPlacement-home : (n : ℕ) → IsPlacement (home n)
-IsPlacement-home n =
-    let len : length (home n) ≡ n = length-range_with_len 0 n in
-    let at : (p : ℕ) → p < length (home n) → get_or (home n) p 0 ≡ p = λ p lt. (let e = get_or-range_with_len 0 n p 0 (omega arith) in omega arith) in
-    record {
-      within = λ p lt. (let e = at p lt in omega arith);
-      apart = λ p q lp lq e. (sym (at p lp) ∙ e ∙ at q lq);
-      held = λ line lt. (line, lt, at line lt);
-    }
+home_at : (n p : ℕ) → p < n → get_or (home n) p 0 ≡ p
+home_at n p lt = let e = get_or-range_with_len 0 n p 0 lt in omega (arith, e)
 
-pub is_home : (s : List ℕ) → ((i : ℕ) → i < length s → get_or s i 0 ≡ i) → s ≡ home (length s)
-is_home s h =
-    ext_get_or 0 s (home (length s)) (sym (length-range_with_len 0 (length s)))
-    (λ i lt. h i lt ∙ (let e = get_or-range_with_len 0 (length s) i 0 lt in omega arith))
+pub IsPlacement-home : (n : ℕ) → IsPlacement n (home n)
+IsPlacement-home n = record {
+  len = length-range_with_len 0 n;
+  place = λ line. line;
+  line = λ p lt. (omega (arith, home_at n p lt, lt), home_at n p lt);
+  stands = λ line lt. (lt, home_at n line lt);
+}
+
+pub is_home : (n : ℕ) (s : List ℕ) → length s ≡ n → ((i : ℕ) → i < n → get_or s i 0 ≡ i) → s ≡ home n
+is_home n s len h =
+    ext_get_or 0 s (home n) (len ∙ sym (length-range_with_len 0 n))
+    (λ i lt. h i (omega (arith, lt, len)) ∙ sym (home_at n i (omega (arith, lt, len))))
 
 pub word_on-home : (word : List Bool) → word_on (home (length word)) word ≡ word
 word_on-home word =
     let n : ℕ = length word in
-    let len : length (home n) ≡ n = length-range_with_len 0 n in
-    let lm : length (word_on (home n) word) ≡ length (home n) = length-map (home n) (bit_of word) in
-    ext_get_or false _ word (lm ∙ len)
-    (λ i lt.
-    let li : i < n = omega arith in
-    let e : get_or (home n) i 0 ≡ i = (let r = get_or-range_with_len 0 n i 0 li in omega arith) in
-    get_or-map (bit_of word) (home n) i 0 false (omega arith) ∙ ap (bit_of word) e)
+    let i = IsPlacement-home n in
+    ext_get_or false _ word (length-map (home n) (bit_of word) ∙ i.len)
+    (λ p lt.
+    let lp : p < n = omega (arith, lt, length-map (home n) (bit_of word), i.len) in
+    bit_of-word_on n (home n) i word p lp ∙ ap (bit_of word) (home_at n p lp))
 
 -- the lines before l are home
 abbrev pub AreHome : ℕ → List ℕ → Type 0
 AreHome l s = (k : ℕ) → k < l → get_or s k 0 ≡ k
 
 -- the line l goes home
-pub record OneHome (s : List ℕ) (l : ℕ) : Type 0 where
+pub record OneHome (n : ℕ) (s : List ℕ) (l : ℕ) : Type 0 where
   pub down : l ≤ position_of s l
-  pub within : AreWithin (length s) (swaps_down (position_of s l) l)
-  pub placement : IsPlacement (swapped (swaps_down (position_of s l) l) s)
+  pub within : All (IsSwap n) (swaps_down (position_of s l) l)
+  pub placement : IsPlacement n (swapped (swaps_down (position_of s l) l) s)
   pub home : AreHome (l + 1) (swapped (swaps_down (position_of s l) l) s)
 
-pub one_home : (s : List ℕ) (l : ℕ) → l < length s → IsPlacement s → AreHome l s → OneHome s l
-one_home s l ll i before =
+pub one_home : (n : ℕ) (s : List ℕ) (l : ℕ) → l < n → IsPlacement n s → AreHome l s → OneHome n s l
+one_home n s l ll i before =
     let p : ℕ = position_of s l in
-    let w = stands s l i ll in
-    let le : l ≤ p = (elim (cases_lt p l) [ inl lt ↦ (let x = before p lt in let y = w.at in absurd (omega arith)) | inr ge ↦ ge ]) in
-    let within : AreWithin (length s) (swaps_down p l) = down_within (length s) p l le w.within in
-    let t : List ℕ = swapped (swaps_down p l) s in
-    let u = moved_down p l s le w.within in
-    let from : l + (p - l) ≡ p = omega arith in
+    let w = stands n s i l ll in
+    let le : l ≤ p = (elim (cases_lt p l) [ inl lt ↦ absurd (omega (arith, before p lt, w.1, lt)) | inr ge ↦ ge ]) in
+    let m = lowered p l s le (omega (arith, w.0, i.len)) in
+    let P : ℕ → Type 0 = λ k. All (IsSwap k) (swaps_down p l) in
+    let within : All (IsSwap n) (swaps_down p l) = subst P i.len m.within in
     record {
       down = le;
       within = within;
-      placement = IsPlacement-swapped (length s) (swaps_down p l) s refl within i;
+      placement = IsPlacement-swapped n (swaps_down p l) s within i;
       home = λ k h.
           (elim (cases_eq k l) [
-            | inl at ↦ ap (λ j. get_or t j 0) at ∙ u.at ∙ ap (λ j. get_or s j 0) from ∙ w.at ∙ sym at
-            | inr ne ↦ u.before k (omega arith) ∙ before k (omega arith)
+            | inl at ↦ ap (λ j. get_or (swapped (swaps_down p l) s) j 0) at ∙ m.at ∙ w.1 ∙ sym at
+            | inr ne ↦ m.before k (omega (arith, h, ne)) ∙ before k (omega (arith, h, ne))
           ]);
     }
 
 -- all lines go home
-pub record GoesHome (s ps : List ℕ) : Type 0 where
-  pub within : AreWithin (length s) ps
-  pub home : swapped ps s ≡ home (length s)
+pub record GoesHome (n : ℕ) (s ps : List ℕ) : Type 0 where
+  pub within : All (IsSwap n) ps
+  pub home : swapped ps s ≡ home n
 
-pub go_home : (d l : ℕ) (s : List ℕ) → l + d ≡ length s → IsPlacement s → AreHome l s → GoesHome s (way_home (range_with_len l d) s)
+pub go_home : (n d l : ℕ) (s : List ℕ) → l + d ≡ n → IsPlacement n s → AreHome l s → GoesHome n s (way_home (range_with_len l d) s)
 unfolding way_home
-go_home zero l s e i before =
-    record { within = tt; home = swapped_none s ∙ is_home s (λ k lt. before k (omega arith)) }
-go_home (suc d) l s e i before =
+go_home n zero l s e i before =
+    record { within = All-nil (IsSwap n); home = swapped_none s ∙ is_home n s i.len (λ k lt. before k (omega (arith, lt, e))) }
+go_home n (suc d) l s e i before =
     let ps : List ℕ = swaps_down (position_of s l) l in
-    let w = one_home s l (omega arith) i before in
-    let t : List ℕ = swapped ps s in
-    let lt : length t ≡ length s = length-swapped ps s in
-    let r = go_home d (l + 1) t (omega arith) w.placement w.home in
-    let rest : List ℕ = way_home (range_with_len (l + 1) d) t in
-    let P : ℕ → Type 0 = λ n. AreWithin n rest in
+    let w = one_home n s l (omega (arith, e)) i before in
+    let r = go_home n d (l + 1) (swapped ps s) (omega (arith, e)) w.placement w.home in
     record {
-      within = AreWithin-append (length s) ps rest w.within (subst P lt r.within);
-      home = swapped-append ps rest s ∙ r.home ∙ ap home lt;
+      within = All-append (IsSwap n) ps (way_home (range_with_len (l + 1) d) (swapped ps s)) w.within r.within;
+      home = swapped-append ps (way_home (range_with_len (l + 1) d) (swapped ps s)) s ∙ r.home;
     }
 
-pub goes_home : (s : List ℕ) → IsPlacement s → GoesHome s (way_home (home (length s)) s)
-goes_home s i = go_home (length s) 0 s (omega arith) i (λ k lt. absurd (omega arith))
+pub goes_home : (n : ℕ) (s : List ℕ) → IsPlacement n s → GoesHome n s (way_home (home (length s)) s)
+goes_home n s i =
+    let P : ℕ → Type 0 = λ k. GoesHome n s (way_home (home k) s) in
+    subst P (sym i.len) (go_home n n 0 s (omega arith) i (λ k lt. absurd (omega (arith, lt))))
 
 -- ---- one gate
 
@@ -112,43 +108,44 @@ touched_line (Swap care want a b) n fits = let on = or_right (has care b || eqb 
 touched_line (Peres a b d) n fits = let on = or_right (eqb d a || eqb d b) _ (eq-eqb d d refl) in (d, on, fits d on)
 
 -- what gathering for a gate keeps
-pub record Gathers (s : List ℕ) (g : Shape) : Type 0 where
-  pub some : 1 ≤ length (touched_positions s g)
-  pub ascending : AreAscending 0 (length s) (touched_positions s g)
-  pub within : AreWithin (length s) (gathering (touched_positions s g))
-  pub placement : IsPlacement (swapped (gathering (touched_positions s g)) s)
+pub record Gathers (n : ℕ) (s : List ℕ) (g : Shape) : Type 0 where
+  pub parts : Gathered (touches g) s (touched_positions s g)
+  pub within : All (IsSwap n) (gathering (touched_positions s g))
+  pub placement : IsPlacement n (swapped (gathering (touched_positions s g)) s)
   pub near : IsNear (gate_on (swapped (gathering (touched_positions s g)) s) g)
 
-pub gathers : (s : List ℕ) (g : Shape) → IsPlacement s → FitsIn g (length s) → Gathers s g
-gathers s g i fits =
-    let n : ℕ = length s in
+pub gathers : (n : ℕ) (s : List ℕ) (g : Shape) → IsPlacement n s → FitsIn g n → Gathers n s g
+gathers n s g i fits =
+    let f : ℕ → Bool = touches g in
     let ps : List ℕ = touched_positions s g in
-    let f : ℕ → Bool = λ position. touches g (get_or s position 0) in
     let o = touched_line g n fits in
-    let w = stands s o.0 i o.2 in
-    let some : 1 ≤ length ps = some_pass f n (position_of s o.0) w.within (ap (touches g) w.at ∙ o.1) in
-    let up : AreAscending 0 n ps = AreAscending-filter f 0 n n (omega arith) in
-    let within : AreWithin n (gathering ps) = gathering_inside ps n some up in
+    let w = i.stands o.0 o.2 in
+    let are : ps ≡ places f 0 s =
+    places_are f (λ position. f (get_or s position 0)) 0 s
+    (λ k. (let e : 0 + k ≡ k = omega arith in ap (λ q. f (get_or s q 0)) e)) in
+    let P : List ℕ → Type 0 = Gathered f s in
+    let parts : Gathered f s ps =
+    subst P (sym are) (gathered f s (some_place f 0 s (i.place o.0) (omega (arith, w.0, i.len)) (ap f w.1 ∙ o.1))) in
+    let m = parts.moves in
+    let Q : ℕ → Type 0 = λ k. All (IsSwap k) (gathering ps) in
+    let within : All (IsSwap n) (gathering ps) = subst Q i.len m.within in
     let t : List ℕ = swapped (gathering ps) s in
-    let lt : length t ≡ n = length-swapped (gathering ps) s in
-    let placement : IsPlacement t = IsPlacement-swapped n (gathering ps) s refl within i in
-    let P : ℕ → Type 0 = FitsIn g in
-    let there : FitsIn g (length t) = subst P (sym lt) fits in
-    let r = gathered (touches g) ps s n refl some up (λ k lk. among-filter f 0 n k (omega arith) (omega arith)) in
-    let at : (k : ℕ) → touches (gate_on t g) k ≡ true → (k < n) × (touches g (get_or t k 0) ≡ true) = λ k on.
-    (let lk : k < length t = FitsIn-gate_on g t placement there k on in (omega arith, sym (touches-gate_on g t k placement there lk) ∙ on)) in
+    let placement : IsPlacement n t = IsPlacement-swapped n (gathering ps) s within i in
+    let at : (k : ℕ) → touches (gate_on t g) k ≡ true → (k < n) × (f (get_or t k 0) ≡ true) = λ k on.
+    (let lk : k < n = FitsIn-gate_on n t placement g fits k on in (lk, sym (touches-gate_on n t placement g k fits lk) ∙ on)) in
+    let Between : List ℕ → Type 0 = λ l. (first line last : ℕ) → f (get_or l first 0) ≡ true → f (get_or l last 0) ≡ true
+    → last < length l → first ≤ line → line ≤ last → f (get_or l line 0) ≡ true in
+    let between : Between t =
+    subst Between (sym m.made)
+    (λ first line last. together f parts.low parts.meant parts.high first line last parts.lows parts.on parts.highs) in
     record {
-      some = some;
-      ascending = up;
+      parts = parts;
       within = within;
       placement = placement;
       near = λ first line last a b lo hi.
-          (let x = at first a in
-          let y = at last b in
-          let y0 = y.0 in
-          let low : r.0 ≤ first = (elim (cases_lt first r.0) [ inl lt ↦ absurd (false≢true (sym (r.2.below first lt) ∙ x.1)) | inr ge ↦ ge ]) in
-          let high : last ≤ r.1 = (elim (cases_lt r.1 last) [ inl lt ↦ absurd (false≢true (sym (r.2.above last lt y.0) ∙ y.1)) | inr ge ↦ ge ]) in
-          touches-gate_on g t line placement there (omega arith) ∙ r.2.on line (omega arith) (omega arith));
+          (let y = at last b in
+          touches-gate_on n t placement g line fits (omega (arith, y.0, hi))
+          ∙ between first line last (at first a).1 y.1 (omega (arith, y.0, placement.len)) lo hi);
     }
 
 -- ---- all gates
@@ -165,28 +162,24 @@ unfolding routed_from
 routed_first s g rest = refl
 
 -- the word on the positions is the word of the lines under the placement, after each step: and so in the end
-pub run_routed : (gates : List Shape) (s : List ℕ) (word : List Bool) → IsPlacement s → All (λ g. FitsIn g (length s)) gates → length word ≡ length s → run (routed_from s gates) (word_on s word) ≡ run gates word
-run_routed [] s word i fit len =
-    let h = goes_home s i in
+pub run_routed : (n : ℕ) (gates : List Shape) (s : List ℕ) (word : List Bool) → IsPlacement n s → All (λ g. FitsIn g n) gates
+    → length word ≡ n → run (routed_from s gates) (word_on s word) ≡ run gates word
+run_routed n [] s word i fit len =
+    let h = goes_home n s i in
     ap (λ l. run l (word_on s word)) (routed_none s)
-    ∙ run_swaps (length s) (way_home (home (length s)) s) s word refl h.within
-    ∙ ap (λ t. word_on t word) h.home
-    ∙ ap (λ n. word_on (home n) word) (sym len)
+    ∙ run_swaps n (way_home (home (length s)) s) s word i.len h.within
+    ∙ ap (λ t. word_on t word) (h.home ∙ ap home (sym len))
     ∙ word_on-home word
-run_routed (g ∷ rest) s word i fit len =
-    let n : ℕ = length s in
+run_routed n (g ∷ rest) s word i fit len =
     let fits : FitsIn g n = All-head (λ h. FitsIn h n) g rest fit in
-    let w = gathers s g i fits in
+    let w = gathers n s g i fits in
     let ps : List ℕ = gathering (touched_positions s g) in
     let t : List ℕ = swapped ps s in
-    let lt : length t ≡ n = length-swapped ps s in
-    let P : ℕ → Type 0 = λ k. FitsIn g k in
-    let Q : ℕ → Type 0 = λ k. All (λ h. FitsIn h k) rest in
     ap (λ l. run l (word_on s word)) (routed_first s g rest)
     ∙ run-append (map neighbours ps) (gate_on t g ∷ routed_from t rest) (word_on s word)
-    ∙ ap (run (gate_on t g ∷ routed_from t rest)) (run_swaps n ps s word refl w.within)
-    ∙ ap (run (routed_from t rest)) (act-on g t word w.placement (subst P (sym lt) fits) (len ∙ sym lt))
-    ∙ run_routed rest t (act g word) w.placement (subst Q (sym lt) (All-tail (λ h. FitsIn h n) g rest fit)) (length-act g word ∙ len ∙ sym lt)
+    ∙ ap (run (gate_on t g ∷ routed_from t rest)) (run_swaps n ps s word i.len w.within)
+    ∙ ap (run (routed_from t rest)) (act-on n t w.placement g word fits len)
+    ∙ run_routed n rest t (act g word) w.placement (All-tail (λ h. FitsIn h n) g rest fit) (length-act g word ∙ len)
 
 -- ---- what each gate of a routed circuit keeps
 
@@ -212,49 +205,54 @@ neighbours_placed : (n p : ℕ) → n ≤ 64 → p + 1 < n → IsPlaced n (neigh
 neighbours_placed n p few h =
     record {
       near = near_neighbours p;
-      valid = (omega arith, omega arith, λ e. absurd (omega arith), has-none p, has-none (p + 1), λ line on. absurd (false≢true (sym (has-none line) ∙ on)));
+      valid = (
+        omega arith,
+        omega arith,
+        λ e. absurd (omega arith),
+        has-none p,
+        has-none (p + 1),
+        λ line on. absurd
+            (false≢true (sym (has-none line) ∙ on)),
+      );
       fits = λ k on. (let w = (neighbours_touch p k on).1 in omega arith);
     }
 
-swaps_placed : (n : ℕ) (ps : List ℕ) → n ≤ 64 → AreWithin n ps → All (IsPlaced n) (map neighbours ps)
-swaps_placed n [] few w = All-nil (IsPlaced n)
-swaps_placed n (p ∷ ps) few w = All-cons (IsPlaced n) (neighbours p) (map neighbours ps) (neighbours_placed n p few w.0) (swaps_placed n ps few w.1)
+swaps_placed : (n : ℕ) (ps : List ℕ) → n ≤ 64 → All (IsSwap n) ps → All (IsPlaced n) (map neighbours ps)
+swaps_placed n ps few w = All-map (IsPlaced n) neighbours ps (λ k d lt. neighbours_placed n (get_or ps k d) few (w k d lt))
 
-pub routed_placed : (gates : List Shape) (s : List ℕ) (n : ℕ) → length s ≡ n → n ≤ 64 → IsPlacement s → All (λ g. FitsIn g n) gates → All IsGate gates → All (IsPlaced n) (routed_from s gates)
-routed_placed [] s n len few i fit valid =
-    let h = goes_home s i in
+pub routed_placed : (n : ℕ) (gates : List Shape) (s : List ℕ) → n ≤ 64 → IsPlacement n s → All (λ g. FitsIn g n) gates
+    → All IsGate gates → All (IsPlaced n) (routed_from s gates)
+routed_placed n [] s few i fit valid =
     let P : List Shape → Type 0 = All (IsPlaced n) in
-    let Q : ℕ → Type 0 = λ k. AreWithin k (way_home (home (length s)) s) in
-    subst P (sym (routed_none s)) (swaps_placed n (way_home (home (length s)) s) few (subst Q len h.within))
-routed_placed (g ∷ rest) s n len few i fit valid =
-    let F : ℕ → Type 0 = λ k. FitsIn g k in
+    subst P (sym (routed_none s)) (swaps_placed n (way_home (home (length s)) s) few (goes_home n s i).within)
+routed_placed n (g ∷ rest) s few i fit valid =
     let fits : FitsIn g n = All-head (λ h. FitsIn h n) g rest fit in
-    let w = gathers s g i (subst F (sym len) fits) in
+    let w = gathers n s g i fits in
     let ps : List ℕ = gathering (touched_positions s g) in
     let t : List ℕ = swapped ps s in
-    let lt : length t ≡ n = length-swapped ps s ∙ len in
-    let there : FitsIn g (length t) = subst F (sym lt) fits in
-    let G : ℕ → Type 0 = λ k. FitsIn (gate_on t g) k in
     let placed : IsPlaced n (gate_on t g) = record {
       near = w.near;
-      valid = IsGate-gate_on g t w.placement (omega arith) there (All-head IsGate g rest valid);
-      fits = subst G lt (FitsIn-gate_on g t w.placement there);
+      valid = IsGate-gate_on n t w.placement g few fits (All-head IsGate g rest valid);
+      fits = FitsIn-gate_on n t w.placement g fits;
     } in
     let P : List Shape → Type 0 = All (IsPlaced n) in
-    let Q : ℕ → Type 0 = λ k. AreWithin k ps in
     subst P (sym (routed_first s g rest))
-    (All-append (IsPlaced n) (map neighbours ps) _ (swaps_placed n ps few (subst Q len w.within))
+    (All-append (IsPlaced n) (map neighbours ps) _ (swaps_placed n ps few w.within)
     (All-cons (IsPlaced n) (gate_on t g) (routed_from t rest) placed
-    (routed_placed rest t n lt few w.placement (All-tail (λ h. FitsIn h n) g rest fit) (All-tail IsGate g rest valid))))
+    (routed_placed n rest t few w.placement (All-tail (λ h. FitsIn h n) g rest fit) (All-tail IsGate g rest valid))))
 
 -- ---- circuits
 
 pub placed : (c : Cascade) → IsCascade c → All (IsPlaced (length c.names)) (routed c).gates
-placed c kept = routed_placed c.gates (home (length c.names)) (length c.names) (length-range_with_len 0 (length c.names)) kept.names.few (IsPlacement-home (length c.names)) kept.fitting kept.valid
+placed c kept = routed_placed (length c.names) c.gates (home (length c.names)) kept.names.few
+    (IsPlacement-home (length c.names)) kept.fitting kept.valid
 
 pub near : (c : Cascade) → IsCascade c → All IsNear (routed c).gates
 near c kept = All-weaker (IsPlaced (length c.names)) IsNear (λ g p. p.near) (routed c).gates (placed c kept)
 
-pub same_run : (c : Cascade) → IsCascade c → (word : List Bool) → length word ≡ length c.names → run (routed c).gates word ≡ run c.gates word
+pub same_run : (c : Cascade) → IsCascade c → (word : List Bool) → length word ≡ length c.names
+    → run (routed c).gates word ≡ run c.gates word
 same_run c kept word len =
-    grind (arith, length-range_with_len, routed_from, word_on-home, word_on, run_routed, IsPlacement-home)
+    let n : ℕ = length c.names in
+    ap (run (routed c).gates) (sym (ap (λ k. word_on (home k) word) (sym len) ∙ word_on-home word))
+    ∙ run_routed n c.gates (home n) word (IsPlacement-home n) kept.fitting len

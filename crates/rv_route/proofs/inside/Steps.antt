@@ -7,20 +7,17 @@ use Rattle.std.proofs.lemmas.List.FromFn.{length-range_with_len, get_or-range_wi
 use Rattle.std.specs.List.{filter, range_with_len, swap}
 use Rattle.rv_gate.proofs.Lists.{take_rest}
 use Rattle.rv_gate.proofs.Ranges.{range-suc, filter-suc}
-use Rattle.rv_gate.specs.Gate.{FitsIn}
+use Rattle.rv_gate.specs.Gate.{touches, FitsIn}
 use Rattle.rv_gate.specs.declared.gate.Shape.{Shape}
 use Rattle.rv_route.specs.Placement.{home, position_of, gate_on}
 use Rattle.rv_route.specs.Moves.{swaps_up, swaps_down, swapped, neighbours, moves_up, moves_down, middle, gathering, touched_positions, way_home}
 use Rattle.rv_route.specs.Routed.{routed_from}
 use Rattle.rv_route.specs.inside.Standing.{IsPlacement, AreAscending}
 use Rattle.rv_route.proofs.inside.Shifts.{swapped_none, swapped_first, swapped-append}
-use Rattle.rv_route.proofs.inside.Gathers.{Parts, parts}
+use Rattle.rv_route.proofs.inside.Gathers.{Gathered}
 use Rattle.rv_route.proofs.inside.Routes.{routed_none, routed_first, AreHome, gathers}
 
 -- ---- one line moves
-
-swapped_last : (ps : List ℕ) (p : ℕ) (s : List ℕ) → swapped (ps ++ p ∷ []) s ≡ swap (swapped ps s) p (p + 1)
-swapped_last ps p s = swapped-append ps (p ∷ []) s ∙ swapped_first p [] (swapped ps s) ∙ swapped_none (swap (swapped ps s) p (p + 1))
 
 rising-more : (a p : ℕ) → a ≤ p → swaps_up a (p + 1) ≡ swaps_up a p ++ p ∷ []
 rising-more a p le = grind (arith, range_with_len, range-suc)
@@ -43,24 +40,27 @@ no_swaps ps old s e =
       lines = sym (ap (λ l. swapped l s) e ∙ swapped_none s);
     }
 
-one_swap : (ps more old now next s t u : List ℕ) (p : ℕ) → Swaps ps old now s t → more ≡ ps ++ p ∷ [] → next ≡ now ++ p ∷ [] → u ≡ swap t p (p + 1) → Swaps more old next s u
-one_swap ps more old now next s t u p w e added made =
+more_swaps : (ps qs more old now next s t u : List ℕ) → Swaps ps old now s t → more ≡ ps ++ qs → next ≡ now ++ qs → u ≡ swapped qs t → Swaps more old next s u
+more_swaps ps qs more old now next s t u w e added made =
     record {
-      swaps = added ∙ ap (λ l. l ++ p ∷ []) w.swaps ∙ append_assoc old ps (p ∷ []) ∙ ap (λ l. old ++ l) (sym e);
-      lines = made ∙ ap (λ l. swap l p (p + 1)) w.lines ∙ sym (ap (λ l. swapped l s) e ∙ swapped_last ps p s);
+      swaps = added ∙ ap (λ l. l ++ qs) w.swaps ∙ append_assoc old ps qs ∙ ap (λ l. old ++ l) (sym e);
+      lines = made ∙ ap (swapped qs) w.lines ∙ sym (ap (λ l. swapped l s) e ∙ swapped-append ps qs s);
     }
+
+one_swapped : (p : ℕ) (s : List ℕ) → swap s p (p + 1) ≡ swapped (p ∷ []) s
+one_swapped p s = sym (swapped_first p [] s ∙ swapped_none (swap s p (p + 1)))
 
 pub up_none : (a b : ℕ) (old s : List ℕ) → b ≤ a → Swaps (swaps_up a b) old old s s
 up_none a b old s le = no_swaps (swaps_up a b) old s (none a b le)
 
 pub up_more : (a p : ℕ) (old now next s t u : List ℕ) → a ≤ p → Swaps (swaps_up a p) old now s t → next ≡ now ++ p ∷ [] → u ≡ swap t p (p + 1) → Swaps (swaps_up a (p + 1)) old next s u
-up_more a p old now next s t u le w added made = one_swap (swaps_up a p) (swaps_up a (p + 1)) old now next s t u p w (rising-more a p le) added made
+up_more a p old now next s t u le w added made = more_swaps (swaps_up a p) (p ∷ []) (swaps_up a (p + 1)) old now next s t u w (rising-more a p le) added (made ∙ one_swapped p t)
 
 pub down_none : (a b : ℕ) (old s : List ℕ) → a ≤ b → Swaps (swaps_down a b) old old s s
 down_none a b old s le = no_swaps (swaps_down a b) old s (ap reverse (none b a le))
 
 pub down_more : (a p : ℕ) (old now next s t u : List ℕ) → 0 < p → p ≤ a → Swaps (swaps_down a p) old now s t → next ≡ now ++ (p - 1) ∷ [] → u ≡ swap t (p - 1) (p - 1 + 1) → Swaps (swaps_down a (p - 1)) old next s u
-down_more a p old now next s t u some le w added made = one_swap (swaps_down a p) (swaps_down a (p - 1)) old now next s t u (p - 1) w (falling-more a p some le) added made
+down_more a p old now next s t u some le w added made = more_swaps (swaps_down a p) ((p - 1) ∷ []) (swaps_down a (p - 1)) old now next s t u w (falling-more a p some le) added (made ∙ one_swapped (p - 1) t)
 
 -- ---- gates of swaps
 
@@ -93,13 +93,6 @@ one_more used start done len most step few le lt = let more = mul-le-mul_right m
 pub record Raised (top j : ℕ) (ps old now s t : List ℕ) : Type 0 where
   pub made : Swaps (moves_up (drop j ps) top) old now s t
   pub few : length now ≤ length old + (length ps - j) * top
-
-more_swaps : (ps qs more old now next s t u : List ℕ) → Swaps ps old now s t → more ≡ ps ++ qs → next ≡ now ++ qs → u ≡ swapped qs t → Swaps more old next s u
-more_swaps ps qs more old now next s t u w e added made =
-    record {
-      swaps = added ∙ ap (λ l. l ++ qs) w.swaps ∙ append_assoc old ps qs ∙ ap (λ l. old ++ l) (sym e);
-      lines = made ∙ ap (swapped qs) w.lines ∙ sym (ap (λ l. swapped l s) e ∙ swapped-append ps qs s);
-    }
 
 pub raised_none : (top j : ℕ) (ps old s : List ℕ) → length ps ≤ j → Raised top j ps old old s s
 unfolding moves_up
@@ -177,9 +170,9 @@ lowered_all bottom j ps old now s t le w =
 -- ---- gathering
 
 -- what gathering does around the middle one
-pub record Middle (n : ℕ) (ps : List ℕ) : Type 0 where
-  pub parts : Parts n ps
-  pub above : (k : ℕ) → k ≡ n → AreAscending (get_or ps (middle (length ps)) 0 + 1) k (take (length ps - (middle (length ps) + 1)) (drop (middle (length ps) + 1) ps))
+pub record Middle (f : ℕ → Bool) (s ps : List ℕ) : Type 0 where
+  pub parts : Gathered f s ps
+  pub above : (k : ℕ) → k ≡ length s → AreAscending (get_or ps (middle (length ps)) 0 + 1) k (take (length ps - (middle (length ps) + 1)) (drop (middle (length ps) + 1) ps))
   pub room_below : length (take (middle (length ps)) ps) * get_or ps (middle (length ps)) 0 ≤ 2016
   pub room : (one : ℕ) → one ≤ length (take (middle (length ps)) ps) * get_or ps (middle (length ps)) 0
       → one + length (take (length ps - (middle (length ps) + 1)) (drop (middle (length ps) + 1) ps)) * (63 - get_or ps (middle (length ps)) 0) ≤ 2016
@@ -188,28 +181,23 @@ pub record Middle (n : ℕ) (ps : List ℕ) : Type 0 where
 few_in_all : (below above centre one : ℕ) → below ≤ 31 → above ≤ 32 → centre ≤ 63 → one ≤ below * centre → one + above * (63 - centre) ≤ 2016
 few_in_all below above centre one lb la lc h = grind arith
 
-pub middle_of : (s ps : List ℕ) (g : Shape) → IsPlacement s → length s ≤ 64 → FitsIn g (length s) → ps ≡ touched_positions s g → Middle (length s) ps
+pub middle_of : (s ps : List ℕ) (g : Shape) → IsPlacement (length s) s → length s ≤ 64 → FitsIn g (length s) → ps ≡ touched_positions s g → Middle (touches g) s ps
 middle_of s ps g i few fits e =
-    let w = gathers s g i fits in
-    let P : List ℕ → Type 0 = Parts (length s) in
-    let p : Parts (length s) ps = subst P (sym e) (parts (length s) (touched_positions s g) w.some w.ascending) in
+    let P : List ℕ → Type 0 = Gathered (touches g) s in
+    let p : Gathered (touches g) s ps = subst P (sym e) (gathers (length s) s g i fits).parts in
     let m : ℕ = middle (length ps) in
     let c : ℕ = get_or ps m 0 in
-    let lt = p.lt in
-    let some = p.some in
-    let most = p.few in
-    let centre = p.centre in
-    let below : length (take m ps) ≡ m = length-take-le m ps (omega arith) in
+    let below : length (take m ps) ≡ m = length-take-le m ps (omega (arith, p.lt)) in
     let above : length (take (length ps - (m + 1)) (drop (m + 1) ps)) ≡ length ps - (m + 1) = ap length (take_rest ps (m + 1)) ∙ length-drop (m + 1) ps in
     let Q : List ℕ → Type 0 = AreAscending (c + 1) (length s) in
     let R : ℕ → Type 0 = λ k. AreAscending (c + 1) k (take (length ps - (m + 1)) (drop (m + 1) ps)) in
-    let lb : length (take m ps) ≤ 31 = omega arith in
+    let lb : length (take m ps) ≤ 31 = omega (arith, below, p.few, few) in
     let x = mul-le-mul_right c lb in
     record {
       parts = p;
       above = λ k same. subst R (sym same) (subst Q (sym (take_rest ps (m + 1))) p.above);
-      room_below = omega arith;
-      room = λ one h. few_in_all (length (take m ps)) (length (take (length ps - (m + 1)) (drop (m + 1) ps))) c one lb (omega arith) (omega arith) h;
+      room_below = omega (arith, x, p.centre, few);
+      room = λ one h. few_in_all (length (take m ps)) (length (take (length ps - (m + 1)) (drop (m + 1) ps))) c one lb (omega (arith, above, p.few, few)) (omega (arith, p.centre, few)) h;
     }
 
 pub gathered_all : (ps none one two s t u : List ℕ) → none ≡ []
@@ -229,7 +217,7 @@ gathered_all ps none one two s t u z a b d e =
 -- the lines before l are home, and the others are to go
 pub record Going (n l : ℕ) (now s t : List ℕ) : Type 0 where
   pub swaps : now ++ way_home (range_with_len l (n - l)) t ≡ way_home (home n) s
-  pub placement : IsPlacement t
+  pub placement : IsPlacement n t
   pub home : AreHome l t
   pub few : length now ≤ 63 * l
 

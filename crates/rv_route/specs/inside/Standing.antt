@@ -1,11 +1,12 @@
 -- What placements, positions and swaps keep.
 use Rattle.std.specs.Prelude.{◌≡◌, ℕ, ◌+◌, ◌<◌, ◌≤◌, List, [], ◌∷◌, length, slice_index}
 
--- each line of the row stands at exactly one position
-pub record IsPlacement (placement : List ℕ) : Type 0 where
-  pub within : (p : ℕ) → p < length placement → slice_index placement p < length placement
-  pub apart : (p q : ℕ) → p < length placement → q < length placement → slice_index placement p ≡ slice_index placement q → p ≡ q
-  pub held : (line : ℕ) → line < length placement → (p : ℕ) × (p < length placement) × (slice_index placement p ≡ line)
+-- n lines on n positions, where each line has its place
+pub record IsPlacement (n : ℕ) (placement : List ℕ) : Type 0 where
+  pub len : length placement ≡ n
+  pub place : ℕ → ℕ
+  pub line : (p : ℕ) → p < n → (slice_index placement p < n) × (place (slice_index placement p) ≡ p)
+  pub stands : (line : ℕ) → line < n → (place line < n) × (slice_index placement (place line) ≡ line)
 
 -- positions from low on, below n, each above the one before
 abbrev pub AreAscending : ℕ → ℕ → List ℕ → Type 0

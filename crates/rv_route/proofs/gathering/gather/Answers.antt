@@ -1,13 +1,13 @@
 use Rattle.std.proofs.Common.{ℕ, List, All, length, ap, ◌∙◌, sym, subst, arith}
 use Rattle.rv_route.specs.Moves.{gathering, swapped}
 use Rattle.rv_route.specs.inside.Standing.{IsPlacement, IsSwap}
-use Rattle.rv_route.proofs.inside.Shifts.{All-within}
+use Rattle.rv_route.proofs.inside.Shifts.{measured, wider}
 use Rattle.rv_route.proofs.inside.Routes.{gathers}
 use Rattle.rv_route.proofs.inside.Steps.{middle_of, gathered_all}
 use Rattle.rv_route.proofs.gathering.gather.Goals as goal
 
 pub overflow_sub-middle : goal.overflow_sub-middle
-overflow_sub-middle c = (middle_of c.args.lines.now c.as_slice-positions.result.now c.args.gate c.requires.placement c.requires.few_lines c.requires.fits (c.as_slice-positions.ensures.value ∙ c.touched_positions-touched.ensures.value)).parts.some
+overflow_sub-middle c = omega (arith, (middle_of c.args.lines.now c.as_slice-positions.result.now c.args.gate c.requires.placement c.requires.few_lines c.requires.fits (c.as_slice-positions.ensures.value ∙ c.touched_positions-touched.ensures.value)).parts.lt)
 
 pub bounds-positions-middle : goal.bounds-positions-middle
 bounds-positions-middle c = (middle_of c.args.lines.now c.as_slice-positions.result.now c.args.gate c.requires.placement c.requires.few_lines c.requires.fits (c.as_slice-positions.ensures.value ∙ c.touched_positions-touched.ensures.value)).parts.lt
@@ -49,15 +49,15 @@ pub returns-clause-placement : goal.returns-clause-placement
 returns-clause-placement c =
     let w = gathered_all c.as_slice-positions.result.now _ _ _ _ _ _ c.clear.ensures c.raise.ensures.swaps c.raise.ensures.lines c.lower.ensures.swaps c.lower.ensures.lines in
     let e = ap gathering (c.as_slice-positions.ensures.value ∙ c.touched_positions-touched.ensures.value) in
-    let P : List ℕ → Type 0 = IsPlacement in
-    subst P (sym (w.lines ∙ ap (λ l. swapped l c.args.lines.now) e)) (gathers c.args.lines.now c.args.gate c.requires.placement c.requires.fits).placement
+    let P : List ℕ → Type 0 = λ l. IsPlacement (length l) l in
+    subst P (sym (w.lines ∙ ap (λ l. swapped l c.args.lines.now) e)) (measured _ _ (gathers _ c.args.lines.now c.args.gate c.requires.placement c.requires.fits).placement)
 
 pub returns-clause-within : goal.returns-clause-within
 returns-clause-within c =
     let w = gathered_all c.as_slice-positions.result.now _ _ _ _ _ _ c.clear.ensures c.raise.ensures.swaps c.raise.ensures.lines c.lower.ensures.swaps c.lower.ensures.lines in
     let e = ap gathering (c.as_slice-positions.ensures.value ∙ c.touched_positions-touched.ensures.value) in
     let P : List ℕ → Type 0 = All (IsSwap 64) in
-    subst P (sym (w.swaps ∙ e)) (All-within _ 64 _ c.requires.few_lines (gathers c.args.lines.now c.args.gate c.requires.placement c.requires.fits).within)
+    subst P (sym (w.swaps ∙ e)) (wider _ _ c.requires.few_lines (gathers _ c.args.lines.now c.args.gate c.requires.placement c.requires.fits).within)
 
 pub returns-clause-few_swaps : goal.returns-clause-few_swaps
 returns-clause-few_swaps c =

@@ -33,7 +33,7 @@ none_if (Some x) P v h e p = cc
 
 pub unreachable-requires : goal.unreachable-requires
 unreachable-requires c =
-    let placed = IsGate-gate_on c.args.gate c.args.lines.now c.requires.placement c.requires.few c.requires.fits c.shape.ensures.valid in
+    let placed = IsGate-gate_on _ c.args.lines.now c.requires.placement c.args.gate c.requires.few c.requires.fits c.shape.ensures.valid in
     elim c.match-shape.branch [
       | in-Flip w ↦
           let e : gate_on c.args.lines.now c.args.gate ≡ Flip w.positions_of.result w.positions_of-in-Flip.result w.position_of.result =

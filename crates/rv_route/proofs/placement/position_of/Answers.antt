@@ -11,7 +11,5 @@ returns-then-other-line-clause-value c =
 
 pub unreachable-requires : goal.unreachable-requires
 unreachable-requires c =
-    let o = c.requires.placement.held c.args.line c.requires.line in
-    let lt = o.1 in
-    let all = c.loop-position-test.false in
-    c.loop-position.invariant o.0 (omega arith) o.2
+    let w = c.requires.placement.stands c.args.line c.requires.line in
+    c.loop-position.invariant (c.requires.placement.place c.args.line) (omega (arith, w.0, c.loop-position-test.false)) w.1

@@ -6,6 +6,7 @@ use Rattle.rv_route.specs.Moves.{neighbours, way_home}
 use Rattle.rv_route.specs.Routed.{routed_from}
 use Rattle.rv_route.specs.inside.Standing.{IsPlacement}
 use Rattle.rv_route.proofs.inside.Routes.{IsPlacement-home}
+use Rattle.rv_route.proofs.inside.Shifts.{measured}
 use Rattle.rv_route.proofs.inside.Steps.{take_home, routed_next, routed_end, length_routed}
 use Rattle.rv_route.proofs.routing.gate_count.Goals as goal
 
@@ -14,10 +15,10 @@ loop-gate-init c =
     let few = c.requires.few_lines in
     let start : take c.from.result c.home-row.result ≡ home c.args.lines = rw (c.home-row.ensures, c.from.ensures) (take_home c.args.lines 64 few) in
     let same = ap (λ s. length (routed_from s c.args.gates.now)) start in
-    let P : List ℕ → Type 0 = IsPlacement in
+    let P : List ℕ → Type 0 = λ l. IsPlacement (length l) l in
     record {
       so_far = omega arith;
-      placement = subst P (sym start) (IsPlacement-home c.args.lines);
+      placement = subst P (sym start) (measured _ _ (IsPlacement-home c.args.lines));
       len = ap length start ∙ length-range_with_len 0 c.args.lines;
       few = omega arith;
     }

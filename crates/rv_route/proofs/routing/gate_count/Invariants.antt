@@ -7,7 +7,7 @@ use Rattle.rv_route.proofs.routing.gate_count.Given as goal
 abbrev pub invariant-loop-gate : goal.invariant-loop-gate
 invariant-loop-gate l = record {
   so_far : l.count + length (routed_from l.placement (drop l.gate-index l.gates)) ≡ length (routed_from (home l.lines) l.gates);
-  placement : IsPlacement l.placement;
+  placement : IsPlacement (length l.placement) l.placement;
   len : length l.placement ≡ l.lines;
   few : l.count ≤ 2017 * l.gate-index;
 }

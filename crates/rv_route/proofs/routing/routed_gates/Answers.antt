@@ -5,16 +5,17 @@ use Rattle.rv_route.specs.Moves.{neighbours}
 use Rattle.rv_route.specs.Routed.{routed_from}
 use Rattle.rv_route.specs.inside.Standing.{IsPlacement}
 use Rattle.rv_route.proofs.inside.Routes.{IsPlacement-home}
+use Rattle.rv_route.proofs.inside.Shifts.{measured}
 use Rattle.rv_route.proofs.inside.Steps.{take_home, routed_next, routed_end, pushed_gates}
 use Rattle.rv_route.proofs.routing.routed_gates.Goals as goal
 
 pub loop-gate-init : goal.loop-gate-init
 loop-gate-init c =
     let start : take c.from.result c.home-row.result ≡ home c.args.lines = rw (c.home-row.ensures, c.from.ensures) (take_home c.args.lines 64 c.requires.few_lines) in
-    let P : List ℕ → Type 0 = IsPlacement in
+    let P : List ℕ → Type 0 = λ l. IsPlacement (length l) l in
     record {
       so_far = ap (λ l. l ++ routed_from (take c.from.result c.home-row.result) c.args.gates.now) c.in_ok-made.ensures.items ∙ ap (λ s. routed_from s c.args.gates.now) start;
-      placement = subst P (sym start) (IsPlacement-home c.args.lines);
+      placement = subst P (sym start) (measured _ _ (IsPlacement-home c.args.lines));
       len = ap length start ∙ length-range_with_len 0 c.args.lines;
     }
 

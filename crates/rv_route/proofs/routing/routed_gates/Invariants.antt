@@ -7,6 +7,6 @@ use Rattle.rv_route.proofs.routing.routed_gates.Given as goal
 abbrev pub invariant-loop-gate : goal.invariant-loop-gate
 invariant-loop-gate l = record {
   so_far : l.made.items ++ routed_from l.placement (drop l.gate-index l.gates) ≡ routed_from (home l.lines) l.gates;
-  placement : IsPlacement l.placement;
+  placement : IsPlacement (length l.placement) l.placement;
   len : length l.placement ≡ l.lines;
 }
