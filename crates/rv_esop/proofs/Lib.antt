@@ -1,4 +1,5 @@
 mod Marks
 mod Added
 mod Costs
+mod Reread
 pub mod inside

@@ -1,2 +1,3 @@
 pub mod Basis
 pub mod Flips
+pub mod Reread
