@@ -2,4 +2,5 @@ mod Marks
 mod Added
 mod Costs
 mod Reread
+mod Eased
 pub mod inside

@@ -35,12 +35,7 @@ fn put_reread(cubes: &mut Vec<Cube>, cube: Cube, from: u16, to: u16) -> Result<(
 }
 
 // Such cubes, made one where they can be.
-fn reread(
-    alloc: Global,
-    cubes: &[Cube],
-    link: Link,
-    inputs: u8,
-) -> Result<Vec<Cube>, AllocError>
+fn reread(alloc: Global, cubes: &[Cube], link: Link, inputs: u8) -> Result<Vec<Cube>, AllocError>
     requires { inputs ≤ MOST_INPUTS }
 {
     let (from, to) = (1u16 << (link.from & 15), 1u16 << (link.to & 15));
@@ -85,12 +80,7 @@ struct Offer {
 }
 
 // All pairs of inputs, the cheapest first by what is seen at once.
-fn offers(
-    alloc: Global,
-    cubes: &[Cube],
-    inputs: u8,
-    goal: Goal,
-) -> Result<Vec<Offer>, AllocError>
+fn offers(alloc: Global, cubes: &[Cube], inputs: u8, goal: Goal) -> Result<Vec<Offer>, AllocError>
     requires { inputs ≤ MOST_INPUTS }
 {
     let mut offers = Vec::new(alloc);

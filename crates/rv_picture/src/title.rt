@@ -159,13 +159,7 @@ fn put_controls<O: Sink>(
 }
 
 // A space and the name of a line, after `-` where a control wants 0.
-fn put_operand<O: Sink>(
-    writer: &mut Writer,
-    sink: &mut O,
-    names: &Names,
-    line: u8,
-    wanted: bool,
-)
+fn put_operand<O: Sink>(writer: &mut Writer, sink: &mut O, names: &Names, line: u8, wanted: bool)
     requires { line < length names.now }
     ensures { Adds writer.old (O.view sink.old)
         (32 ∷ control_word (name_at (written_names names.now) line) wanted)
