@@ -9,7 +9,6 @@ use Rattle.rv_net.specs.declared.op.Op.{Op}
 use Rattle.rv_net.specs.declared.op.Op.TheVariants.{X, Y, Z, H, S, Sdg, T, Tdg, Cx, Cz, Ccx}
 use Rattle.rv_net.specs.declared.op.Op.TheVariants as ops
 use Rattle.rv_real.specs.Text.{control_on, controls_from, control_word, gate_line, name_at}
-use Rattle.rv_qasm.specs.Text.{qubit}
 use Rattle.rv_picture.specs.Labels.{written_label}
 use Rattle.rv_picture.specs.Markup.{svg_escapes}
 use Rattle.rv_picture.specs.Titles.{gate_title, op_title, written_names}
@@ -65,26 +64,36 @@ gate_titles names (Peres a b c) =
     operands_lack 112 (name_at written a ∷ name_at written b ∷ name_at written c ∷ []) refl
     (name_lacks written a (names_lines names), (name_lacks written b (names_lines names), (name_lacks written c (names_lines names), tt)))
 
-qubit_lacks : (line : ℕ) → lacks 10 (qubit line) ≡ true
-qubit_lacks line = both_lack (decimal line) (codes "]") (number_lacks line) refl
+two_lack : (a b : List ℕ) → lacks 10 a ≡ true → lacks 10 b ≡ true → lacks 10 (a ++ 44 ∷ b) ≡ true
+two_lack a b ha hb = both_lack a (44 ∷ b) ha hb
 
-two_lack : (a b : ℕ) → lacks 10 (qubit a ++ (codes "," ++ qubit b)) ≡ true
-two_lack a b = both_lack (qubit a) (codes "," ++ qubit b) (qubit_lacks a) (qubit_lacks b)
+three_lack : (a b c : List ℕ) → lacks 10 a ≡ true → lacks 10 b ≡ true → lacks 10 c ≡ true → lacks 10 (a ++ 44 ∷ (b ++ 44 ∷ c)) ≡ true
+three_lack a b c ha hb hc = both_lack a (44 ∷ (b ++ 44 ∷ c)) ha (two_lack b c hb hc)
 
-three_lack : (a b c : ℕ) → lacks 10 (qubit a ++ (codes "," ++ (qubit b ++ (codes "," ++ qubit c)))) ≡ true
-three_lack a b c = both_lack (qubit a) (codes "," ++ (qubit b ++ (codes "," ++ qubit c))) (qubit_lacks a) (two_lack b c)
+written_lacks : (names : List (List ℕ)) (line : ℕ) → lacks 10 (name_at (written_names names) line) ≡ true
+written_lacks names line = name_lacks (written_names names) line (names_lines names)
+
+on_two : (names : List (List ℕ)) (a b : ℕ) → lacks 10 (name_at (written_names names) a ++ 44 ∷ name_at (written_names names) b) ≡ true
+on_two names a b =
+    two_lack (name_at (written_names names) a) (name_at (written_names names) b) (written_lacks names a) (written_lacks names b)
+
+on_three : (names : List (List ℕ)) (a b c : ℕ)
+    → lacks 10 (name_at (written_names names) a ++ 44 ∷ (name_at (written_names names) b ++ 44 ∷ name_at (written_names names) c)) ≡ true
+on_three names a b c =
+    three_lack (name_at (written_names names) a) (name_at (written_names names) b) (name_at (written_names names) c)
+    (written_lacks names a) (written_lacks names b) (written_lacks names c)
 
 pub op_titles : AreOneLine op_title
-op_titles names (X q) = qubit_lacks q
-op_titles names (Y q) = qubit_lacks q
-op_titles names (Z q) = qubit_lacks q
-op_titles names (H q) = qubit_lacks q
-op_titles names (S q) = qubit_lacks q
-op_titles names (Sdg q) = qubit_lacks q
-op_titles names (T q) = qubit_lacks q
-op_titles names (Tdg q) = qubit_lacks q
-op_titles names (Cx a b) = two_lack a b
-op_titles names (Cz a b) = two_lack a b
-op_titles names (Ccx a b c) = three_lack a b c
-op_titles names (ops.Swap a b) = two_lack a b
-op_titles names (ops.Cswap c a b) = three_lack c a b
+op_titles names (X q) = written_lacks names q
+op_titles names (Y q) = written_lacks names q
+op_titles names (Z q) = written_lacks names q
+op_titles names (H q) = written_lacks names q
+op_titles names (S q) = written_lacks names q
+op_titles names (Sdg q) = written_lacks names q
+op_titles names (T q) = written_lacks names q
+op_titles names (Tdg q) = written_lacks names q
+op_titles names (Cx a b) = on_two names a b
+op_titles names (Cz a b) = on_two names a b
+op_titles names (Ccx a b c) = on_three names a b c
+op_titles names (ops.Swap a b) = on_two names a b
+op_titles names (ops.Cswap c a b) = on_three names c a b

@@ -5,7 +5,6 @@ ghost use Rattle.rv_gate.specs.Gate.{FitsIn, Within};
 ghost use Rattle.rv_gate.specs.declared.gate.Shape.{Shape};
 ghost use Rattle.rv_gate.specs.declared.word.TheConstants.{MOST_LINES};
 ghost use Rattle.rv_real.specs.Text.{control_word, controls_from, gate_words, name_at};
-ghost use Rattle.rv_qasm.specs.Text.{op_text, qubit, qubits};
 ghost use Rattle.rv_picture.specs.Titles.{gate_title, op_title, written_names};
 
 use crate::label::{Markup, put_label};
@@ -44,7 +43,7 @@ impl Titled for Op {
     ghost Fits = { λ op lines. Unit {0} };
 
     fn put_title<O: Sink>(self, writer: &mut Writer, sink: &mut O, names: &Names) {
-        put_op(writer, sink, self);
+        put_op(writer, sink, names, self);
     }
 }
 
@@ -178,57 +177,78 @@ fn lead(wanted: bool) -> &'static [u8]
 
 // ---- operations
 
-fn put_op<O: Sink>(writer: &mut Writer, sink: &mut O, op: Op)
-    ensures { Adds writer.old (O.view sink.old) (op_text op) writer.new (O.view sink.new) }
+fn put_op<O: Sink>(writer: &mut Writer, sink: &mut O, names: &Names, op: Op)
+    ensures { Adds writer.old (O.view sink.old) (op_title names.now op) writer.new (O.view sink.new) }
 {
     match op {
-        Op::X(q) => put_one(writer, sink, b"x ", q),
-        Op::Y(q) => put_one(writer, sink, b"y ", q),
-        Op::Z(q) => put_one(writer, sink, b"z ", q),
-        Op::H(q) => put_one(writer, sink, b"h ", q),
-        Op::S(q) => put_one(writer, sink, b"s ", q),
-        Op::Sdg(q) => put_one(writer, sink, b"sdg ", q),
-        Op::T(q) => put_one(writer, sink, b"t ", q),
-        Op::Tdg(q) => put_one(writer, sink, b"tdg ", q),
-        Op::Cx(a, b) => put_two(writer, sink, b"cx ", a, b),
-        Op::Cz(a, b) => put_two(writer, sink, b"cz ", a, b),
-        Op::Ccx(a, b, c) => put_three(writer, sink, b"ccx ", a, b, c),
-        Op::Swap(a, b) => put_two(writer, sink, b"swap ", a, b),
-        Op::Cswap(c, a, b) => put_three(writer, sink, b"cswap ", c, a, b),
+        Op::X(q) => put_one(writer, sink, b"x ", names, q),
+        Op::Y(q) => put_one(writer, sink, b"y ", names, q),
+        Op::Z(q) => put_one(writer, sink, b"z ", names, q),
+        Op::H(q) => put_one(writer, sink, b"h ", names, q),
+        Op::S(q) => put_one(writer, sink, b"s ", names, q),
+        Op::Sdg(q) => put_one(writer, sink, b"sdg ", names, q),
+        Op::T(q) => put_one(writer, sink, b"t ", names, q),
+        Op::Tdg(q) => put_one(writer, sink, b"tdg ", names, q),
+        Op::Cx(a, b) => put_two(writer, sink, b"cx ", names, a, b),
+        Op::Cz(a, b) => put_two(writer, sink, b"cz ", names, a, b),
+        Op::Ccx(a, b, c) => put_three(writer, sink, b"ccx ", names, a, b, c),
+        Op::Swap(a, b) => put_two(writer, sink, b"swap ", names, a, b),
+        Op::Cswap(c, a, b) => put_three(writer, sink, b"cswap ", names, c, a, b),
     }
 }
 
 // A gate on one line, by its name and a blank.
-fn put_one<O: Sink>(writer: &mut Writer, sink: &mut O, name: &[u8], line: u8)
-    ensures { Adds writer.old (O.view sink.old) (name.now ++ qubits (line ∷ [])) writer.new (O.view sink.new) }
+fn put_one<O: Sink>(writer: &mut Writer, sink: &mut O, gate: &[u8], names: &Names, line: u8)
+    ensures { Adds writer.old (O.view sink.old)
+        (gate.now ++ name_at (written_names names.now) line)
+        writer.new (O.view sink.new) }
 {
-    writer.put(sink, name);
-    put_qubit(writer, sink, line);
+    writer.put(sink, gate);
+    put_name(writer, sink, names, line);
 }
 
 // A gate on two lines.
-fn put_two<O: Sink>(writer: &mut Writer, sink: &mut O, name: &[u8], a: u8, b: u8)
-    ensures { Adds writer.old (O.view sink.old) (name.now ++ qubits (a ∷ b ∷ [])) writer.new (O.view sink.new) }
+fn put_two<O: Sink>(writer: &mut Writer, sink: &mut O, gate: &[u8], names: &Names, a: u8, b: u8)
+    ensures { Adds writer.old (O.view sink.old)
+        (gate.now ++ (name_at (written_names names.now) a ++ (44 ∷ name_at (written_names names.now) b)))
+        writer.new (O.view sink.new) }
 {
-    writer.put(sink, name);
-    put_qubit(writer, sink, a);
+    writer.put(sink, gate);
+    put_name(writer, sink, names, a);
     writer.put(sink, b",");
-    put_qubit(writer, sink, b);
+    put_name(writer, sink, names, b);
 }
 
 // A gate on three lines.
-fn put_three<O: Sink>(writer: &mut Writer, sink: &mut O, name: &[u8], a: u8, b: u8, c: u8)
-    ensures { Adds writer.old (O.view sink.old) (name.now ++ qubits (a ∷ b ∷ c ∷ [])) writer.new (O.view sink.new) }
+fn put_three<O: Sink>(
+    writer: &mut Writer,
+    sink: &mut O,
+    gate: &[u8],
+    names: &Names,
+    a: u8,
+    b: u8,
+    c: u8,
+)
+    ensures { Adds writer.old (O.view sink.old)
+        (gate.now ++ (name_at (written_names names.now) a ++ (44
+        ∷ (name_at (written_names names.now) b ++ (44 ∷ name_at (written_names names.now) c)))))
+        writer.new (O.view sink.new) }
 {
-    put_two(writer, sink, name, a, b);
+    writer.put(sink, gate);
+    put_name(writer, sink, names, a);
     writer.put(sink, b",");
-    put_qubit(writer, sink, c);
+    put_name(writer, sink, names, b);
+    writer.put(sink, b",");
+    put_name(writer, sink, names, c);
 }
 
-fn put_qubit<O: Sink>(writer: &mut Writer, sink: &mut O, line: u8)
-    ensures { Adds writer.old (O.view sink.old) (qubit line) writer.new (O.view sink.new) }
+// The name of a line, if there is one.
+fn put_name<O: Sink>(writer: &mut Writer, sink: &mut O, names: &Names, line: u8)
+    ensures { Adds writer.old (O.view sink.old)
+        (name_at (written_names names.now) line)
+        writer.new (O.view sink.new) }
 {
-    writer.put(sink, b"q[");
-    writer.put_number(sink, u128::from(line));
-    writer.put(sink, b"]");
+    if line < names.len() {
+        put_label(writer, sink, Markup::Svg, names.name(line));
+    }
 }
