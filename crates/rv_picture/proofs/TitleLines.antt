@@ -1,16 +1,12 @@
 -- Each title is one line.
-use Rattle.std.proofs.Common.{◌≡◌, ℕ, zero, suc, ◌+◌, true, false, List, [], ◌∷◌, ◌++◌, length, refl}
-use Rattle.std.specs.Prelude.{codes, decimal, slice_index_or}
+use Rattle.std.proofs.Common.{◌≡◌, ℕ, zero, suc, ◌+◌, Bool, true, false, cond, List, [], ◌∷◌, ◌++◌, length, refl}
+use Rattle.std.specs.Prelude.{decimal}
 use Rattle.rv_text.specs.Spelled.{more_words, words_line}
 use Rattle.rv_gate.specs.Word.{has}
-use Rattle.rv_gate.specs.declared.gate.Shape.{Shape}
 use Rattle.rv_gate.specs.declared.gate.Shape.TheVariants.{Flip, Swap, Peres}
-use Rattle.rv_net.specs.declared.op.Op.{Op}
 use Rattle.rv_net.specs.declared.op.Op.TheVariants.{X, Y, Z, H, S, Sdg, T, Tdg, Cx, Cz, Ccx}
 use Rattle.rv_net.specs.declared.op.Op.TheVariants as ops
 use Rattle.rv_real.specs.Text.{control_on, controls_from, control_word, gate_line, name_at}
-use Rattle.rv_picture.specs.Labels.{written_label}
-use Rattle.rv_picture.specs.Markup.{svg_escapes}
 use Rattle.rv_picture.specs.Titles.{gate_title, op_title, written_names}
 use Rattle.rv_picture.proofs.Cutting.{AreLines, lacks, lines_append}
 use Rattle.rv_picture.proofs.SvgBack.{AreOneLine, both_lack, label_lacks, number_lacks}

@@ -1,5 +1,5 @@
 ghost use Rattle.std.specs.Prelude.{◌≡◌, ◌*◌, ◌+◌, ◌<◌, ◌≤◌, ◌^◌, [], ◌∷◌, ◌++◌, All, Bool, List, Some, true, decimal};
-ghost use Rattle.std.specs.Prelude.{length, map, max};
+ghost use Rattle.std.specs.Prelude.{◌&&◌, length, map, max};
 ghost use Rattle.std.specs.List.{count_by, flat_map, range_with_len};
 ghost use Rattle.rv_io.specs.Sink.{Sends};
 ghost use Rattle.rv_io.specs.Writer.{Adds};
@@ -9,6 +9,7 @@ ghost use Rattle.rv_draw.specs.Networks.{network_picture, op_of};
 ghost use Rattle.rv_draw.specs.Reading.{gate_of, picture_of};
 ghost use Rattle.rv_draw.specs.Symbols.{op_symbol_on, symbol_on};
 ghost use Rattle.rv_picture.specs.Cut.{text_of_lines};
+ghost use Rattle.rv_picture.specs.Latex.{is_on};
 ghost use Rattle.rv_picture.specs.SvgReading.{svg_shown_by};
 ghost use Rattle.rv_picture.specs.Svg.{all_gate_lines, block_lines, break_at, breaks, down_if, gate_lines, head};
 ghost use Rattle.rv_picture.specs.Svg.{input_body, input_end, line_lines, margin, mark_lines, middle_of, output_body};
@@ -435,11 +436,18 @@ fn put_marks<O: Sink, G: Drawn>(writer: &mut Writer, sink: &mut O, gate: G, line
     let mut from_above = false;
     for line in 0..lines {
         let below = symbol_within(gate, lines, line + 1);
-        let is_joined = is_on(symbol) && is_on(below);
+        let is_joined = are_joined(symbol, below);
         put_mark(writer, sink, line, symbol, from_above, is_joined);
         symbol = below;
         from_above = is_joined;
     }
+}
+
+// Whether a vertical leads from a symbol to the one below.
+fn are_joined(symbol: Symbol, below: Symbol) -> bool
+    ensures { result ≡ (is_on symbol && is_on below) }
+{
+    is_on(symbol) && is_on(below)
 }
 
 // The symbol on a line, if it is one of so many.

@@ -1,7 +1,6 @@
 use Rattle.std.proofs.Common.{ap, ℕ, List, []}
 use Rattle.std.specs.List.{flat_map, range_with_len}
-use Rattle.std.specs.Prelude.{codes, length}
-use Rattle.std.proofs.Common.{append_assoc}
+use Rattle.std.specs.Prelude.{length}
 use Rattle.rv_io.proofs.Adding.{adds_then, adds_as}
 use Rattle.rv_picture.specs.Cut.{text_of_lines}
 use Rattle.rv_picture.specs.Svg.{close, mark_lines, middle_of, placed, titled}

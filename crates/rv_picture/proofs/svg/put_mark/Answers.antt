@@ -1,4 +1,4 @@
-use Rattle.std.proofs.Common.{◌≡◌, ap, sym, ◌∙◌, Bool, true, cond, [], ◌∷◌, ℕ, List}
+use Rattle.std.proofs.Common.{◌≡◌, ap, sym, ◌∙◌, Bool, true, cond, [], ◌∷◌}
 use Rattle.std.specs.Prelude.{decimal}
 use Rattle.rv_io.proofs.Adding.{adds_then, adds_as}
 use Rattle.rv_picture.specs.Cut.{text_of_lines}

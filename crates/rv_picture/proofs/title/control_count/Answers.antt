@@ -1,4 +1,4 @@
-use Rattle.std.proofs.Common.{◌∙◌, arith, length, sym, subst}
+use Rattle.std.proofs.Common.{sym, subst}
 use Rattle.rv_gate.specs.Gate.{Within}
 use Rattle.rv_real.proofs.ControlWalk.{controls_ones}
 use Rattle.rv_picture.specs.Titles.{written_names}

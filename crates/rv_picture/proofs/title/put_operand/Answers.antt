@@ -1,10 +1,9 @@
-use Rattle.std.proofs.Common.{◌≡◌, [], ap, sym, ◌∙◌}
+use Rattle.std.proofs.Common.{◌∷◌, [], ap, sym, ◌∙◌}
 use Rattle.std.proofs.lemmas.Option.{get_or_from_slice_get}
 use Rattle.rv_io.proofs.Adding.{adds_then, adds_as}
-use Rattle.rv_real.specs.Text.{control_word, name_at}
+use Rattle.rv_real.specs.Text.{control_word}
 use Rattle.rv_picture.specs.Labels.{written_label}
 use Rattle.rv_picture.specs.Markup.{svg_escapes}
-use Rattle.rv_picture.specs.Titles.{written_names}
 use Rattle.rv_picture.proofs.TitleTexts.{name_written}
 use Rattle.rv_picture.proofs.title.put_operand.Goals as goal
 
