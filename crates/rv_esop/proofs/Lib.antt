@@ -1,4 +1,6 @@
 mod Marks
 mod Added
 mod Costs
+mod Reread
+mod Eased
 pub mod inside

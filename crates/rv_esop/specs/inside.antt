@@ -1,2 +1,4 @@
 pub mod Basis
 pub mod Flips
+pub mod Reread
+pub mod Eased

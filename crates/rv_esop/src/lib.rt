@@ -7,6 +7,8 @@
 mod basis;
 mod circuit;
 mod count;
+mod ease;
+mod inputs;
 mod lines;
 mod shared;
 

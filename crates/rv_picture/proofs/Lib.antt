@@ -5,3 +5,6 @@ pub mod Cutting
 pub mod LatexBack
 pub mod SvgTexts
 pub mod SvgBack
+pub mod TitleTexts
+pub mod TitleLines
+pub mod inside

@@ -27,8 +27,7 @@ use Rattle.rv_draw.specs.declared.symbol.Symbol.{Symbol}
 use Rattle.rv_draw.specs.declared.symbol.Symbol.TheVariants.{Wire, Crossing, Positive, Negative, Target, Exchanged}
 use Rattle.rv_draw.specs.declared.symbol.Symbol.TheVariants.{Middle, Zero, One, Wall, H, T, Tdg, S, Sdg, Z, Y}
 use Rattle.rv_draw.specs.Drawing.{block_count, label_at}
-use Rattle.rv_draw.specs.Reading.{Picture, before, each_of, is_touched, joined, joined_if, picture_on}
-use Rattle.rv_draw.specs.Symbols.{glyph}
+use Rattle.rv_draw.specs.Reading.{Picture, before, each_of, joined, joined_if, picture_on}
 use Rattle.rv_draw.proofs.inside.ReadBack.{AreRead, block_picture, chunk_read}
 use Rattle.rv_draw.proofs.inside.ReadBack.{all_joined as pictures_joined}
 use Rattle.rv_draw.proofs.inside.SheetBack.{by_place}
@@ -38,12 +37,12 @@ use Rattle.rv_picture.specs.Latex.{is_joined_on, is_on}
 use Rattle.rv_picture.specs.Markup.{svg_escapes}
 use Rattle.rv_picture.specs.Svg.{Stroke, all_gate_lines, block_lines, block_of, body, break_at, breaks, close}
 use Rattle.rv_picture.specs.Svg.{column_count, gate_lines, head, input_body, input_end, line_lines, margin, mark_lines}
-use Rattle.rv_picture.specs.Svg.{mark_on, middle_of, name_in_title, output_body, output_end, picture_height}
-use Rattle.rv_picture.specs.Svg.{picture_width, placed, reach, size, svg_with, title, wire}
+use Rattle.rv_picture.specs.Svg.{mark_on, middle_of, output_body, output_end, picture_height}
+use Rattle.rv_picture.specs.Svg.{picture_width, placed, reach, size, stroke, svg_with, titled, wire}
 use Rattle.rv_picture.specs.SvgReading.{At, Block, Numbered, Sheet, are_at, are_joined, at, bare, block_shown}
 use Rattle.rv_picture.specs.SvgReading.{blocks_shown, body_and, column_in, gate_in, input_of, is_placed, line_count}
 use Rattle.rv_picture.specs.SvgReading.{no_block, number_and, output_of, picture_with, placed_in, read_if, sheet_of}
-use Rattle.rv_picture.specs.SvgReading.{stroke, svg_shown_by, symbols_if, with_input, with_line, with_output}
+use Rattle.rv_picture.specs.SvgReading.{svg_shown_by, symbols_if, with_input, with_line, with_output}
 use Rattle.rv_picture.specs.SvgReading.{with_placed, y_and}
 use Rattle.rv_picture.proofs.LabelsBack.{AllText, AreBack, bytes_back, is_high, label_back, shown_high, written_all}
 use Rattle.rv_picture.proofs.Cutting.{AreLines, lacks, lines_append, lines_back}
@@ -189,33 +188,32 @@ marks_read f n start (suc m) rest strokes block blocks few is =
 
 -- ---- gates
 
-gate_read : (f : ℕ → Symbol) (names : List (List ℕ)) (place : ℕ) (rest : List (List ℕ)) (block : Block) (blocks : List (At Block)) → length names ≤ 64 → place < 2 ^ 50
+gate_read : (f : ℕ → Symbol) (title : List ℕ) (n place : ℕ) (rest : List (List ℕ)) (block : Block) (blocks : List (At Block)) → n ≤ 64 → place < 2 ^ 50
     → sheet_of rest ≡ Some (sheet_with [] block blocks)
-    → sheet_of (gate_lines f names place ++ rest)
-    ≡ Some (sheet_with [] (record block { gates = at (middle_of place) 0 (strokes_at f (length names) 0 (length names)) ∷ block.gates }) blocks)
-gate_read f names place rest block blocks few lt is =
-    let n : ℕ = length names in
+    → sheet_of (gate_lines f title n place ++ rest)
+    ≡ Some (sheet_with [] (record block { gates = at (middle_of place) 0 (strokes_at f n 0 n) ∷ block.gates }) blocks)
+gate_read f title n place rest block blocks few lt is =
     let lines : List (List ℕ) = flat_map (mark_lines f n) (range_with_len 0 n) in
     let strokes : List (At Stroke) = strokes_at f n 0 n in
-    let first : List ℕ = placed (middle_of place) 0 (title f names) in
+    let first : List ℕ = placed (middle_of place) 0 (titled title) in
     ap (λ (ls : List (List ℕ)). with_line first (sheet_of ls)) (append_assoc lines (close ∷ []) rest)
     ∙ ap (with_line first) (marks_read f n 0 n (close ∷ rest) [] block blocks (omega (arith, few)) (ap (with_line close) is))
     ∙ ap (λ (ss : List (At Stroke)). with_line first (Some (sheet_with ss block blocks))) (append-nil strokes)
-    ∙ line_placed (middle_of place) 0 (title f names) (sheet_with strokes block blocks) (omega (arith, lt)) (omega arith)
+    ∙ line_placed (middle_of place) 0 (titled title) (sheet_with strokes block blocks) (omega (arith, lt)) (omega arith)
 
 abbrev gates_at : {G : Type 0} → (G → ℕ → Symbol) → ℕ → ℕ → List G → List (At (List (At Stroke)))
 gates_at draws n place [] = []
 gates_at draws n place (gate ∷ gates) = at (middle_of place) 0 (strokes_at (draws gate) n 0 n) ∷ gates_at draws n (place + 1) gates
 
-gates_read : {G : Type 0} (draws : G → ℕ → Symbol) (names : List (List ℕ)) (place : ℕ) (gates : List G) (rest : List (List ℕ)) (blocks : List (At Block))
-    → length names ≤ 64 → place + length gates < 2 ^ 50 → sheet_of rest ≡ Some (sheet_with [] no_block blocks)
-    → sheet_of (all_gate_lines draws names place gates ++ rest)
-    ≡ Some (sheet_with [] (record { inputs = []; outputs = []; gates = gates_at draws (length names) place gates }) blocks)
-gates_read draws names place [] rest blocks few lt is = is
-gates_read draws names place (gate ∷ gates) rest blocks few lt is =
-    ap sheet_of (append_assoc (gate_lines (draws gate) names place) (all_gate_lines draws names (place + 1) gates) rest)
-    ∙ gate_read (draws gate) names place (all_gate_lines draws names (place + 1) gates ++ rest) (record { inputs = []; outputs = []; gates = gates_at draws (length names) (place + 1) gates }) blocks few
-    (omega (arith, lt)) (gates_read draws names (place + 1) gates rest blocks few (omega (arith, lt)) is)
+gates_read : {G : Type 0} (draws : G → ℕ → Symbol) (title : G → List ℕ) (n place : ℕ) (gates : List G) (rest : List (List ℕ)) (blocks : List (At Block))
+    → n ≤ 64 → place + length gates < 2 ^ 50 → sheet_of rest ≡ Some (sheet_with [] no_block blocks)
+    → sheet_of (all_gate_lines draws title n place gates ++ rest)
+    ≡ Some (sheet_with [] (record { inputs = []; outputs = []; gates = gates_at draws n place gates }) blocks)
+gates_read draws title n place [] rest blocks few lt is = is
+gates_read draws title n place (gate ∷ gates) rest blocks few lt is =
+    ap sheet_of (append_assoc (gate_lines (draws gate) (title gate) n place) (all_gate_lines draws title n (place + 1) gates) rest)
+    ∙ gate_read (draws gate) (title gate) n place (all_gate_lines draws title n (place + 1) gates ++ rest) (record { inputs = []; outputs = []; gates = gates_at draws n (place + 1) gates }) blocks few
+    (omega (arith, lt)) (gates_read draws title n (place + 1) gates rest blocks few (omega (arith, lt)) is)
 
 -- ---- labels
 
@@ -288,19 +286,19 @@ lines_read draws c gates start (suc m) rest drawn blocks is within few read =
 abbrev block_at : {G : Type 0} → (G → ℕ → Symbol) → Cascade → List G → Block
 block_at draws c gates = block_with c (length gates) 0 (length c.names) (gates_at draws (length c.names) 0 gates)
 
-block_read : {G : Type 0} (draws : G → ℕ → Symbol) (c : Cascade) (k : ℕ) (gates : List G) (rest : List (List ℕ)) (blocks : List (At Block))
+block_read : {G : Type 0} (draws : G → ℕ → Symbol) (title : List (List ℕ) → G → List ℕ) (c : Cascade) (k : ℕ) (gates : List G) (rest : List (List ℕ)) (blocks : List (At Block))
     → IsCascade c → length gates < 2 ^ 50 → 30 * (length c.names + 1) * k < 2 ^ 64 → sheet_of rest ≡ Some (sheet_with [] no_block blocks)
-    → sheet_of (block_of draws c k gates ++ rest) ≡ Some (sheet_with [] no_block (at 0 (30 * (length c.names + 1) * k) (block_at draws c gates) ∷ blocks))
-block_read draws c k gates rest blocks is few low read =
+    → sheet_of (block_of draws title c k gates ++ rest) ≡ Some (sheet_with [] no_block (at 0 (30 * (length c.names + 1) * k) (block_at draws c gates) ∷ blocks))
+block_read draws title c k gates rest blocks is few low read =
     let n : ℕ = length c.names in
     let y : ℕ = 30 * (n + 1) * k in
     let small = is.names.few in
     let rows : List (List ℕ) = flat_map (line_lines draws c gates) (range_with_len 0 n) in
-    let columns : List (List ℕ) = all_gate_lines draws c.names 0 gates in
+    let columns : List (List ℕ) = all_gate_lines draws (title c.names) n 0 gates in
     ap (λ (ls : List (List ℕ)). with_line (placed 0 y []) (sheet_of ls)) (append_assoc rows (columns ++ close ∷ []) rest ∙ ap (λ (ls : List (List ℕ)). rows ++ ls) (append_assoc columns (close ∷ []) rest))
     ∙ ap (with_line (placed 0 y [])) (
     lines_read draws c gates 0 n (columns ++ (close ∷ rest)) (gates_at draws n 0 gates) blocks is (omega arith) few
-    (gates_read draws c.names 0 gates (close ∷ rest) blocks small (omega (arith, few)) (ap (with_line close) read))
+    (gates_read draws (title c.names) n 0 gates (close ∷ rest) blocks small (omega (arith, few)) (ap (with_line close) read))
     )
     ∙ line_placed 0 y [] (sheet_with [] (block_at draws c gates) blocks) (omega arith) low
 
@@ -444,25 +442,6 @@ block_back {K = K} draws read kept c gates is are =
     ∙ ap (option_map (picture_with block)) (gates_back draws read kept n 0 gates is.some are)
     ∙ ap Some (picture_same c (length gates) (gates_at draws n 0 gates) (map kept gates) is)
 
-glyph_free : (s : Symbol) → lacks 10 (glyph s) ≡ true
-glyph_free Wire = refl
-glyph_free Crossing = refl
-glyph_free Positive = refl
-glyph_free Negative = refl
-glyph_free Target = refl
-glyph_free Exchanged = refl
-glyph_free Middle = refl
-glyph_free Zero = refl
-glyph_free One = refl
-glyph_free Wall = refl
-glyph_free H = refl
-glyph_free T = refl
-glyph_free Tdg = refl
-glyph_free S = refl
-glyph_free Sdg = refl
-glyph_free Z = refl
-glyph_free Y = refl
-
 body_free : (s : Symbol) (from_above is_joined : Bool) → lacks 10 (body (stroke s from_above is_joined)) ≡ true
 body_free Wire false false = refl
 body_free Wire false true = refl
@@ -550,11 +529,11 @@ digits_lack (suc k) n acc free =
     let held : lacks 10 more ≡ true = and_from _ _ (glyph_lacks (n % 10)) free in
     elim (nat_eq (n / 10) 0) as (λ t. lacks 10 (cond t more (digits_onto k 10 false (n / 10) more)) ≡ true) [ true ↦ held | false ↦ digits_lack k (n / 10) more held ]
 
-number_lacks : (n : ℕ) → lacks 10 (decimal n) ≡ true
+pub number_lacks : (n : ℕ) → lacks 10 (decimal n) ≡ true
 unfolding digits
 number_lacks n = digits_lack 64 n [] refl
 
-both_lack : (a b : List ℕ) → lacks 10 a ≡ true → lacks 10 b ≡ true → lacks 10 (a ++ b) ≡ true
+pub both_lack : (a b : List ℕ) → lacks 10 a ≡ true → lacks 10 b ≡ true → lacks 10 (a ++ b) ≡ true
 both_lack a b free_a free_b = list_all-append (λ byte. not (nat_eq byte 10)) a b ∙ and_from _ _ free_a free_b
 
 placed_lacks : (x y : ℕ) (text : List ℕ) → lacks 10 text ≡ true → lacks 10 (placed x y text) ≡ true
@@ -564,7 +543,7 @@ placed_lacks x y text free =
 escapes_lack : AllText (λ byte. not (nat_eq byte 10)) svg_escapes
 escapes_lack = (refl, (refl, (refl, (refl, (refl, tt)))))
 
-label_lacks : (label : List ℕ) → lacks 10 (written_label svg_escapes label) ≡ true
+pub label_lacks : (label : List ℕ) → lacks 10 (written_label svg_escapes label) ≡ true
 label_lacks label =
     written_all (λ byte. not (nat_eq byte 10)) svg_escapes (shown_label label) escapes_lack
     (λ byte plain high. elim (cases_Bool (nat_eq byte 10)) [
@@ -600,17 +579,6 @@ wire_lacks draws line gates =
     both_lack (decimal (middle_of line)) (breaks draws line 0 gates ++ last) (number_lacks (middle_of line))
     (both_lack (breaks draws line 0 gates) last (breaks_lack draws line 0 gates) (both_lack (decimal (30 * length gates)) (codes "\"/>") (number_lacks (30 * length gates)) refl))
 
-name_lacks : (f : ℕ → Symbol) (names : List (List ℕ)) (line : ℕ) → lacks 10 (name_in_title f names line) ≡ true
-name_lacks f names line =
-    let shown : List ℕ = glyph (f line) ++ (32 ∷ (written_label svg_escapes (label_at names line) ++ 32 ∷ [])) in
-    let free : lacks 10 shown ≡ true =
-    both_lack (glyph (f line)) (32 ∷ (written_label svg_escapes (label_at names line) ++ 32 ∷ [])) (glyph_free (f line)) (both_lack (written_label svg_escapes (label_at names line)) (32 ∷ []) (label_lacks (label_at names line)) refl) in
-    elim (is_touched (f line)) as (λ t. lacks 10 (cond t shown []) ≡ true) [ true ↦ free | false ↦ refl ]
-
-names_lack : (f : ℕ → Symbol) (names : List (List ℕ)) (lines : List ℕ) → lacks 10 (flat_map (name_in_title f names) lines) ≡ true
-names_lack f names [] = refl
-names_lack f names (line ∷ lines) = both_lack (name_in_title f names line) (flat_map (name_in_title f names) lines) (name_lacks f names line) (names_lack f names lines)
-
 marks_one_line : (f : ℕ → Symbol) (n : ℕ) (lines : List ℕ) → AreLines (flat_map (mark_lines f n) lines)
 marks_one_line f n [] = tt
 marks_one_line f n (line ∷ lines) =
@@ -622,17 +590,20 @@ marks_one_line f n (line ∷ lines) =
       | false ↦ marks_one_line f n lines
     ]
 
-gates_one_line : {G : Type 0} (draws : G → ℕ → Symbol) (names : List (List ℕ)) (place : ℕ) (gates : List G) → AreLines (all_gate_lines draws names place gates)
-gates_one_line draws names place [] = tt
-gates_one_line draws names place (gate ∷ gates) =
-    let n : ℕ = length names in
+-- each gate's title is one line
+abbrev pub AreOneLine : {G : Type 0} → (List (List ℕ) → G → List ℕ) → Type 0
+AreOneLine {G = G} title = (names : List (List ℕ)) (gate : G) → lacks 10 (title names gate) ≡ true
+
+gates_one_line : {G : Type 0} (draws : G → ℕ → Symbol) (title : List (List ℕ) → G → List ℕ) (names : List (List ℕ)) (n place : ℕ) (gates : List G) → AreOneLine title
+    → AreLines (all_gate_lines draws (title names) n place gates)
+gates_one_line draws title names n place [] lack = tt
+gates_one_line draws title names n place (gate ∷ gates) lack =
     let marks_of : List (List ℕ) = flat_map (mark_lines (draws gate) n) (range_with_len 0 n) in
-    lines_append (gate_lines (draws gate) names place) (all_gate_lines draws names (place + 1) gates) (
-      placed_lacks (middle_of place) 0 (title (draws gate) names)
-          (both_lack (flat_map (name_in_title (draws gate) names) (range_with_len 0 n)) (codes "</title>") (names_lack (draws gate) names (range_with_len 0 n)) refl),
+    lines_append (gate_lines (draws gate) (title names gate) n place) (all_gate_lines draws (title names) n (place + 1) gates) (
+      placed_lacks (middle_of place) 0 (titled (title names gate)) (both_lack (title names gate) (codes "</title>") (lack names gate) refl),
       lines_append marks_of (close ∷ []) (marks_one_line (draws gate) n (range_with_len 0 n)) (refl, tt),
     )
-    (gates_one_line draws names (place + 1) gates)
+    (gates_one_line draws title names n (place + 1) gates lack)
 
 rows_one_line : {G : Type 0} (draws : G → ℕ → Symbol) (c : Cascade) (gates : List G) (lines : List ℕ) → AreLines (flat_map (line_lines draws c gates) lines)
 rows_one_line draws c gates [] = tt
@@ -647,18 +618,19 @@ rows_one_line draws c gates (line ∷ lines) = (
   ),
 )
 
-blocks_one_line : {G : Type 0} (draws : G → ℕ → Symbol) (per : ℕ) (c : Cascade) (gates : List G) (ks : List ℕ) → AreLines (flat_map (block_lines draws per c gates) ks)
-blocks_one_line draws per c gates [] = tt
-blocks_one_line draws per c gates (k ∷ ks) =
+blocks_one_line : {G : Type 0} (draws : G → ℕ → Symbol) (title : List (List ℕ) → G → List ℕ) (per : ℕ) (c : Cascade) (gates : List G) (ks : List ℕ) → AreOneLine title
+    → AreLines (flat_map (block_lines draws title per c gates) ks)
+blocks_one_line draws title per c gates [] lack = tt
+blocks_one_line draws title per c gates (k ∷ ks) lack =
     let chunk = slice_chunk gates per k in
     let rows : List (List ℕ) = flat_map (line_lines draws c chunk) (range_with_len 0 (length c.names)) in
-    let columns : List (List ℕ) = all_gate_lines draws c.names 0 chunk in
-    lines_append (block_lines draws per c gates k) (flat_map (block_lines draws per c gates) ks) (
+    let columns : List (List ℕ) = all_gate_lines draws (title c.names) (length c.names) 0 chunk in
+    lines_append (block_lines draws title per c gates k) (flat_map (block_lines draws title per c gates) ks) (
       placed_lacks 0 (30 * (length c.names + 1) * k) [] refl,
       lines_append rows (columns ++ close ∷ []) (rows_one_line draws c chunk (range_with_len 0 (length c.names)))
-          (lines_append columns (close ∷ []) (gates_one_line draws c.names 0 chunk) (refl, tt)),
+          (lines_append columns (close ∷ []) (gates_one_line draws title c.names (length c.names) 0 chunk lack) (refl, tt)),
     )
-    (blocks_one_line draws per c gates ks)
+    (blocks_one_line draws title per c gates ks lack)
 
 size_lacks : (wide high : ℕ) → lacks 10 (size wide high) ≡ true
 size_lacks wide high =
@@ -678,19 +650,19 @@ head_lacks c columns blocks =
 
 -- ---- the whole
 
-blocks_read : {G : Type 0} (draws : G → ℕ → Symbol) (per : ℕ) (c : Cascade) (gates : List G) (start m : ℕ) (rest : List (List ℕ)) (blocks : List (At Block))
+blocks_read : {G : Type 0} (draws : G → ℕ → Symbol) (title : List (List ℕ) → G → List ℕ) (per : ℕ) (c : Cascade) (gates : List G) (start m : ℕ) (rest : List (List ℕ)) (blocks : List (At Block))
     → IsCascade c → length gates < 2 ^ 50 → start + m < 2 ^ 51 → sheet_of rest ≡ Some (sheet_with [] no_block blocks)
-    → sheet_of (flat_map (block_lines draws per c gates) (range_with_len start m) ++ rest)
+    → sheet_of (flat_map (block_lines draws title per c gates) (range_with_len start m) ++ rest)
     ≡ Some (sheet_with [] no_block (map (λ k. at 0 (30 * (length c.names + 1) * k) (block_at draws c (slice_chunk gates per k))) (range_with_len start m) ++ blocks))
-blocks_read draws per c gates start zero rest blocks is few low read = read
-blocks_read draws per c gates start (suc m) rest blocks is few low read =
+blocks_read draws title per c gates start zero rest blocks is few low read = read
+blocks_read draws title per c gates start (suc m) rest blocks is few low read =
     let n : ℕ = length c.names in
     let placed_at : ℕ → At Block = λ k. at 0 (30 * (n + 1) * k) (block_at draws c (slice_chunk gates per k)) in
-    let later : List (List ℕ) = flat_map (block_lines draws per c gates) (range_with_len (start + 1) m) in
-    ap sheet_of (append_assoc (block_lines draws per c gates start) later rest)
-    ∙ block_read draws c start (slice_chunk gates per start) (later ++ rest) (map placed_at (range_with_len (start + 1) m) ++ blocks) is
+    let later : List (List ℕ) = flat_map (block_lines draws title per c gates) (range_with_len (start + 1) m) in
+    ap sheet_of (append_assoc (block_lines draws title per c gates start) later rest)
+    ∙ block_read draws title c start (slice_chunk gates per start) (later ++ rest) (map placed_at (range_with_len (start + 1) m) ++ blocks) is
     (chunk_few per gates start few) (low_enough n start is.names.few (omega (arith, low)))
-    (blocks_read draws per c gates (start + 1) m rest blocks is few (omega (arith, low)) read)
+    (blocks_read draws title per c gates (start + 1) m rest blocks is few (omega (arith, low)) read)
   where
     chunk_few : {G : Type 0} (per : ℕ) (gates : List G) (k : ℕ) → length gates < 2 ^ 50 → length (slice_chunk gates per k) < 2 ^ 50
     chunk_few per gates k few = simp (length-take, length-drop) (omega (arith, few))
@@ -729,26 +701,26 @@ sheet_shown draws read kept per c gates more is are =
     ap (λ (t : Bool). cond t (each_of (λ (block : At Block). block_shown read block.what) blocks) None) (all_blocks_placed draws per c gates more)
     ∙ pictures_back draws read kept per c gates (range_with_len 0 (suc more)) is are
 
-pub svg_back : {G K : Type 0} (draws : G → ℕ → Symbol) (read : List Symbol → Option K) (kept : G → K) (per : ℕ) (c : Cascade) (gates : List G)
-    → 1 ≤ per → IsCascade c → length gates < 2 ^ 50 → AreRead draws read kept (length c.names) gates
-    → svg_shown_by read (svg_with draws per c gates) ≡ Some (picture_on c (map kept gates))
+pub svg_back : {G K : Type 0} (draws : G → ℕ → Symbol) (title : List (List ℕ) → G → List ℕ) (read : List Symbol → Option K) (kept : G → K) (per : ℕ) (c : Cascade) (gates : List G)
+    → AreOneLine title → 1 ≤ per → IsCascade c → length gates < 2 ^ 50 → AreRead draws read kept (length c.names) gates
+    → svg_shown_by read (svg_with draws title per c gates) ≡ Some (picture_on c (map kept gates))
 unfolding svg_shown_by
-svg_back draws read kept per c gates some is few are =
+svg_back draws title read kept per c gates lack some is few are =
     let more : ℕ = (length gates - 1) / per in
     let count : block_count per (length gates) ≡ suc more = omega arith in
     let low : more ≤ length gates - 1 = div-le_self (length gates - 1) per in
     let first : List ℕ = head c (column_count per (length gates)) (block_count per (length gates)) in
     let foot : List ℕ = codes "</svg>" in
-    let body_lines : ℕ → List (List ℕ) = λ m. flat_map (block_lines draws per c gates) (range_with_len 0 m) in
+    let body_lines : ℕ → List (List ℕ) = λ m. flat_map (block_lines draws title per c gates) (range_with_len 0 m) in
     let lines : ℕ → List (List ℕ) = λ m. first ∷ (body_lines m ++ foot ∷ []) in
     let blocks : List (At Block) = map (placed_block draws per c gates) (range_with_len 0 (suc more)) in
-    ap (λ (text : List ℕ). joined_if (blocks_shown read (sheet_of (lines_in text)))) (sym (ap (λ (m : ℕ). text_of_lines (lines m)) (sym count) ∙ svg_text draws per c gates))
+    ap (λ (text : List ℕ). joined_if (blocks_shown read (sheet_of (lines_in text)))) (sym (ap (λ (m : ℕ). text_of_lines (lines m)) (sym count) ∙ svg_text draws title per c gates))
     ∙ ap (λ (ls : List (List ℕ)). joined_if (blocks_shown read (sheet_of ls))) (lines_back (lines (suc more)) (
       head_lacks c (column_count per (length gates)) (block_count per (length gates)),
-      lines_append (body_lines (suc more)) (foot ∷ []) (blocks_one_line draws per c gates (range_with_len 0 (suc more))) (refl, tt),
+      lines_append (body_lines (suc more)) (foot ∷ []) (blocks_one_line draws title per c gates (range_with_len 0 (suc more)) lack) (refl, tt),
     ))
     ∙ ap (λ (ls : List (List ℕ)). joined_if (blocks_shown read (with_line first (sheet_of ls)))) (append_assoc (body_lines (suc more)) (foot ∷ []) ([] ∷ []))
-    ∙ ap (λ (s : Option Sheet). joined_if (blocks_shown read (with_line first s))) (blocks_read draws per c gates 0 (suc more) (foot ∷ [] ∷ []) [] is few (omega (arith, low, few)) refl)
+    ∙ ap (λ (s : Option Sheet). joined_if (blocks_shown read (with_line first s))) (blocks_read draws title per c gates 0 (suc more) (foot ∷ [] ∷ []) [] is few (omega (arith, low, few)) refl)
     ∙ ap (λ (bs : List (At Block)). joined_if (blocks_shown read (Some (sheet_with [] no_block bs)))) (append-nil blocks)
     ∙ ap joined_if (sheet_shown draws read kept per c gates more is are)
     ∙ ap (λ (m : ℕ). joined (map (block_picture kept per c gates) (range_with_len 0 m))) (sym count)

@@ -3,5 +3,7 @@ pub mod Markup
 pub mod Cut
 pub mod Latex
 pub mod Lines
+pub mod Titles
 pub mod Svg
 pub mod SvgReading
+pub mod inside

@@ -11,8 +11,6 @@ use Rattle.rv_draw.specs.declared.symbol.Symbol.{Symbol}
 use Rattle.rv_draw.specs.declared.symbol.Symbol.TheVariants.{Wire, Crossing, Positive, Negative, Target, Exchanged}
 use Rattle.rv_draw.specs.declared.symbol.Symbol.TheVariants.{Middle, Zero, One, Wall, H, T, Tdg, S, Sdg, Z, Y}
 use Rattle.rv_draw.specs.Drawing.{begins_character, block_count, label_at}
-use Rattle.rv_draw.specs.Reading.{is_touched}
-use Rattle.rv_draw.specs.Symbols.{glyph}
 use Rattle.rv_picture.specs.Cut.{text_of_lines}
 use Rattle.rv_picture.specs.Labels.{is_printable, written_label}
 use Rattle.rv_picture.specs.Latex.{is_joined_on, is_on}
@@ -94,6 +92,9 @@ pub record Stroke : Type 0 where
   pub from_above : Bool
   pub is_joined : Bool
 
+abbrev pub stroke : Symbol → Bool → Bool → Stroke
+stroke symbol from_above is_joined = record { symbol = symbol; from_above = from_above; is_joined = is_joined }
+
 -- what is drawn of it, round its middle
 abbrev pub body : Stroke → List ℕ
 body mark = up_if mark.from_above mark.symbol ++ (down_if mark.is_joined mark.symbol ++ (shape mark.symbol ++ close))
@@ -107,33 +108,27 @@ mark_on f lines line =
     }
 
 -- nothing is drawn where there is only the wire
+abbrev pub stroke_lines : Stroke → ℕ → List (List ℕ)
+stroke_lines mark line = if is_on mark.symbol then placed 0 (middle_of line) (body mark) ∷ [] else []
+
 abbrev pub mark_lines : (ℕ → Symbol) → ℕ → ℕ → List (List ℕ)
-mark_lines f lines line = if is_on (f line) then placed 0 (middle_of line) (body (mark_on f lines line)) ∷ [] else []
+mark_lines f lines line = stroke_lines (mark_on f lines line) line
 
 -- ---- gates
 
--- a symbol and the name of its line, each with a blank
-abbrev pub name_in_title : (ℕ → Symbol) → List (List ℕ) → ℕ → List ℕ
-name_in_title f names line =
-    if is_touched (f line)
-    then glyph (f line) ++ (32 ∷ (written_label svg_escapes (label_at names line) ++ 32 ∷ []))
-    else []
+abbrev pub titled : List ℕ → List ℕ
+titled text = codes "<title>" ++ (text ++ codes "</title>")
 
-abbrev pub title : (ℕ → Symbol) → List (List ℕ) → List ℕ
-title f names =
-    codes "<title>" ++ (flat_map (name_in_title f names) (range_with_len 0 (length names)) ++ codes "</title>")
-
--- the group of the gate at a place of a block
-abbrev pub gate_lines : (ℕ → Symbol) → List (List ℕ) → ℕ → List (List ℕ)
-gate_lines f names place =
-    placed (middle_of place) 0 (title f names)
-    ∷ (flat_map (mark_lines f (length names)) (range_with_len 0 (length names)) ++ close ∷ [])
+-- the group of the gate at a place of a block: its title, and its symbols on so many lines
+abbrev pub gate_lines : (ℕ → Symbol) → List ℕ → ℕ → ℕ → List (List ℕ)
+gate_lines f title lines place =
+    placed (middle_of place) 0 (titled title) ∷ (flat_map (mark_lines f lines) (range_with_len 0 lines) ++ close ∷ [])
 
 -- the groups of gates from a place on
-abbrev pub all_gate_lines : {G : Type 0} → (G → ℕ → Symbol) → List (List ℕ) → ℕ → List G → List (List ℕ)
-all_gate_lines draws names place [] = []
-all_gate_lines draws names place (gate ∷ gates) =
-    gate_lines (draws gate) names place ++ all_gate_lines draws names (place + 1) gates
+abbrev pub all_gate_lines : {G : Type 0} → (G → ℕ → Symbol) → (G → List ℕ) → ℕ → ℕ → List G → List (List ℕ)
+all_gate_lines draws title lines place [] = []
+all_gate_lines draws title lines place (gate ∷ gates) =
+    gate_lines (draws gate) (title gate) lines place ++ all_gate_lines draws title lines (place + 1) gates
 
 -- ---- lines
 
@@ -187,14 +182,16 @@ line_lines draws c gates line =
 -- ---- the text
 
 -- a block: its lines from the top, and its gates from the left
-abbrev pub block_of : {G : Type 0} → (G → ℕ → Symbol) → Cascade → ℕ → List G → List (List ℕ)
-block_of draws c block gates =
+abbrev pub block_of : {G : Type 0} → (G → ℕ → Symbol) → (List (List ℕ) → G → List ℕ) → Cascade → ℕ → List G
+    → List (List ℕ)
+block_of draws title c block gates =
     placed 0 (30 * (length c.names + 1) * block) []
     ∷ (flat_map (line_lines draws c gates) (range_with_len 0 (length c.names))
-    ++ (all_gate_lines draws c.names 0 gates ++ close ∷ []))
+    ++ (all_gate_lines draws (title c.names) (length c.names) 0 gates ++ close ∷ []))
 
-abbrev pub block_lines : {G : Type 0} → (G → ℕ → Symbol) → ℕ → Cascade → List G → ℕ → List (List ℕ)
-block_lines draws per_block c gates block = block_of draws c block (slice_chunk gates per_block block)
+abbrev pub block_lines : {G : Type 0} → (G → ℕ → Symbol) → (List (List ℕ) → G → List ℕ) → ℕ → Cascade → List G → ℕ
+    → List (List ℕ)
+block_lines draws title per_block c gates block = block_of draws title c block (slice_chunk gates per_block block)
 
 -- how many characters a label has, as it is shown
 abbrev pub width : List ℕ → ℕ
@@ -230,11 +227,11 @@ head c columns blocks =
 abbrev pub column_count : ℕ → ℕ → ℕ
 column_count per_block gates = min per_block gates
 
--- the SVG of such gates on a circuit's lines, with so many in a block at most
-unfoldable pub svg_with : {G : Type 0} → (G → ℕ → Symbol) → ℕ → Cascade → List G → List ℕ
-svg_with draws per_block c gates =
+-- the SVG of gates that draw these symbols and have these titles, on a circuit's lines, with so many in a block at most
+unfoldable pub svg_with : {G : Type 0} → (G → ℕ → Symbol) → (List (List ℕ) → G → List ℕ) → ℕ → Cascade → List G → List ℕ
+svg_with draws title per_block c gates =
     text_of_lines (
     head c (column_count per_block (length gates)) (block_count per_block (length gates))
-    ∷ (flat_map (block_lines draws per_block c gates) (range_with_len 0 (block_count per_block (length gates)))
+    ∷ (flat_map (block_lines draws title per_block c gates) (range_with_len 0 (block_count per_block (length gates)))
     ++ codes "</svg>" ∷ [])
     )

@@ -14,7 +14,7 @@ use Rattle.rv_picture.specs.Cut.{after, lines_in, value_with}
 use Rattle.rv_picture.specs.Labels.{Begun, begun_by, label_of}
 use Rattle.rv_picture.specs.Latex.{constants, is_on, symbols}
 use Rattle.rv_picture.specs.Markup.{svg_escapes}
-use Rattle.rv_picture.specs.Svg.{Stroke, body, close, input_end, middle_of, output_end}
+use Rattle.rv_picture.specs.Svg.{Stroke, body, close, input_end, middle_of, output_end, stroke}
 
 -- ---- numbers and places
 
@@ -73,9 +73,6 @@ no_block = record { inputs = []; outputs = []; gates = [] }
 
 abbrev pub no_sheet : Sheet
 no_sheet = record { strokes = []; block = no_block; blocks = [] }
-
-abbrev pub stroke : Symbol → Bool → Bool → Stroke
-stroke symbol from_above is_joined = record { symbol = symbol; from_above = from_above; is_joined = is_joined }
 
 abbrev pub strokes : List Stroke
 strokes =

@@ -1,10 +1,11 @@
-//! Pictures of circuits and of networks for papers and pages: LaTeX of the package quantikz, and SVG.
+//! Pictures of circuits and networks as SVG and as LaTeX (quantikz).
 #![tactic(auto)]
 
 mod label;
 mod latex;
 mod lines;
 mod svg;
+mod title;
 
 pub use latex::{latex_circuit, latex_network};
 pub use lines::network_lines;

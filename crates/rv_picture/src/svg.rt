@@ -1,23 +1,26 @@
-ghost use Rattle.std.specs.Prelude.{◌≡◌, ◌*◌, ◌+◌, ◌<◌, ◌≤◌, ◌^◌, [], ◌∷◌, ◌++◌, Bool, List, Some, decimal, length};
-ghost use Rattle.std.specs.Prelude.{map, max};
+ghost use Rattle.std.specs.Prelude.{◌≡◌, ◌*◌, ◌+◌, ◌<◌, ◌≤◌, ◌^◌, [], ◌∷◌, ◌++◌, All, Bool, List, Some, true, decimal};
+ghost use Rattle.std.specs.Prelude.{◌&&◌, length, map, max};
 ghost use Rattle.std.specs.List.{count_by, flat_map, range_with_len};
 ghost use Rattle.rv_io.specs.Sink.{Sends};
 ghost use Rattle.rv_io.specs.Writer.{Adds};
 ghost use Rattle.rv_gate.specs.declared.word.TheConstants.{MOST_LINES};
 ghost use Rattle.rv_draw.specs.Drawing.{begins_character, block_count};
 ghost use Rattle.rv_draw.specs.Networks.{network_picture, op_of};
-ghost use Rattle.rv_draw.specs.Reading.{gate_of, is_touched, picture_of};
+ghost use Rattle.rv_draw.specs.Reading.{gate_of, picture_of};
 ghost use Rattle.rv_draw.specs.Symbols.{op_symbol_on, symbol_on};
 ghost use Rattle.rv_picture.specs.Cut.{text_of_lines};
 ghost use Rattle.rv_picture.specs.Latex.{is_on};
 ghost use Rattle.rv_picture.specs.SvgReading.{svg_shown_by};
-ghost use Rattle.rv_picture.specs.Svg.{all_gate_lines, block_lines, body, break_at, breaks, gate_lines, head};
-ghost use Rattle.rv_picture.specs.Svg.{input_body, input_end, down_if, line_lines, margin, mark_lines, mark_on};
-ghost use Rattle.rv_picture.specs.Svg.{middle_of, name_in_title, output_body, output_end, placed, reach, reach_text};
-ghost use Rattle.rv_picture.specs.Svg.{shape, size, svg_with, title, up_if, widest, width, wire};
+ghost use Rattle.rv_picture.specs.Svg.{all_gate_lines, block_lines, break_at, breaks, down_if, gate_lines, head};
+ghost use Rattle.rv_picture.specs.Svg.{input_body, input_end, line_lines, margin, mark_lines, middle_of, output_body};
+ghost use Rattle.rv_picture.specs.Svg.{output_end, placed, reach, shape, size, stroke, stroke_lines, svg_with, up_if};
+ghost use Rattle.rv_picture.specs.Svg.{widest, width, wire};
+ghost use Rattle.rv_picture.specs.Titles.{gate_title, op_title};
+ghost use Rattle.rv_picture.specs.inside.Within.{symbol_within};
 
 use crate::label::{Markup, is_printable, put_label};
-use crate::latex::{is_joined, is_on};
+use crate::latex::is_on;
+use crate::title::Titled;
 use rv_draw::{Drawn, Symbol, block_count, gates_of_block};
 use rv_gate::{Circuit, Mark, Names};
 use rv_io::{Sink, WriteFault, Writer};
@@ -33,11 +36,11 @@ pub fn svg_circuit<O: Sink>(
 ) -> Result<(), WriteFault>
     requires some { 1 ≤ per_block }
     ensures sends { Sends (O.view sink.old)
-        (svg_with symbol_on per_block circuit.now circuit.now.gates)
+        (svg_with symbol_on gate_title per_block circuit.now circuit.now.gates)
         result (O.view sink.new) }
 
     // What was sent shows the circuit.
-    ensures back { svg_shown_by gate_of (svg_with symbol_on per_block circuit.now circuit.now.gates)
+    ensures back { svg_shown_by gate_of (svg_with symbol_on gate_title per_block circuit.now circuit.now.gates)
         ≡ Some (picture_of circuit.now) }
 {
     circuit.recall_invariant();
@@ -53,12 +56,12 @@ pub fn svg_network<O: Sink>(
 ) -> Result<(), WriteFault>
     requires some { 1 ≤ per_block }
     ensures sends { Sends (O.view sink.old)
-        (svg_with op_symbol_on per_block lines.now net.now.ops)
+        (svg_with op_symbol_on op_title per_block lines.now net.now.ops)
         result (O.view sink.new) }
 
     // What was sent shows the network, if it has as many lines.
     ensures back { length lines.now.names ≡ net.now.lines
-        → svg_shown_by op_of (svg_with op_symbol_on per_block lines.now net.now.ops)
+        → svg_shown_by op_of (svg_with op_symbol_on op_title per_block lines.now net.now.ops)
         ≡ Some (network_picture lines.now net.now.ops) }
 {
     lines.recall_invariant();
@@ -66,14 +69,15 @@ pub fn svg_network<O: Sink>(
     write_svg(lines, net.ops(), per_block, sink)
 }
 
-fn write_svg<O: Sink, G: Drawn>(
+fn write_svg<O: Sink, G: Titled>(
     lines: &Circuit,
     gates: &[G],
     per_block: usize,
     sink: &mut O,
 ) -> Result<(), WriteFault>
     requires some { 1 ≤ per_block }
-    ensures { Sends (O.view sink.old) (svg_with G.draws per_block lines.now gates.now) result (O.view sink.new) }
+    requires fit { All (λ gate. G.Fits gate (length lines.now.names)) gates.now }
+    ensures { Sends (O.view sink.old) (svg_with G.draws G.title per_block lines.now gates.now) result (O.view sink.new) }
 {
     let blocks = block_count(per_block, gates.len());
     let columns = per_block.min(gates.len());
@@ -182,7 +186,7 @@ fn character_count(label: &[u8]) -> usize
     label.iter().filter(|&byte| byte / 64 != 2).count()
 }
 
-fn put_blocks<O: Sink, G: Drawn>(
+fn put_blocks<O: Sink, G: Titled>(
     writer: &mut Writer,
     sink: &mut O,
     lines: &Circuit,
@@ -191,9 +195,10 @@ fn put_blocks<O: Sink, G: Drawn>(
     blocks: usize,
 )
     requires some { 1 ≤ per_block }
+    requires fit { All (λ gate. G.Fits gate (length lines.now.names)) gates.now }
     requires blocks { blocks ≡ block_count per_block (length gates.now) }
     ensures { Adds writer.old (O.view sink.old)
-        (text_of_lines (flat_map (block_lines G.draws per_block lines.now gates.now) (range_with_len 0 blocks)))
+        (text_of_lines (flat_map (block_lines G.draws G.title per_block lines.now gates.now) (range_with_len 0 blocks)))
         writer.new (O.view sink.new) }
 {
     for block in 0..blocks {
@@ -202,7 +207,7 @@ fn put_blocks<O: Sink, G: Drawn>(
 }
 
 // One block.
-fn put_block<O: Sink, G: Drawn>(
+fn put_block<O: Sink, G: Titled>(
     writer: &mut Writer,
     sink: &mut O,
     lines: &Circuit,
@@ -210,9 +215,10 @@ fn put_block<O: Sink, G: Drawn>(
     per_block: usize,
     block: usize,
 )
-    requires { block * per_block ≤ length gates.now }
+    requires within { block * per_block ≤ length gates.now }
+    requires fit { All (λ gate. G.Fits gate (length lines.now.names)) gates.now }
     ensures { Adds writer.old (O.view sink.old)
-        (text_of_lines (block_lines G.draws per_block lines.now gates.now block))
+        (text_of_lines (block_lines G.draws G.title per_block lines.now gates.now block))
         writer.new (O.view sink.new) }
 {
     let y = height(lines.line_count(), block);
@@ -387,22 +393,11 @@ fn reach(symbol: Symbol) -> u128
     }
 }
 
-fn reach_text(symbol: Symbol) -> &'static [u8]
-    ensures { result.now ≡ reach_text symbol }
-{
-    match symbol {
-        Symbol::Negative => b"5",
-        Symbol::Middle => b"8",
-        Symbol::H | Symbol::T | Symbol::Tdg | Symbol::S | Symbol::Sdg | Symbol::Z | Symbol::Y =>
-            b"11",
-        _ => b"0",
-    }
-}
-
 // The groups of the gates.
-fn put_gates<O: Sink, G: Drawn>(writer: &mut Writer, sink: &mut O, names: &Names, gates: &[G])
+fn put_gates<O: Sink, G: Titled>(writer: &mut Writer, sink: &mut O, names: &Names, gates: &[G])
+    requires { All (λ gate. G.Fits gate (length names.now)) gates.now }
     ensures { Adds writer.old (O.view sink.old)
-        (text_of_lines (all_gate_lines G.draws names.now 0 gates.now))
+        (text_of_lines (all_gate_lines G.draws (G.title names.now) (length names.now) 0 gates.now))
         writer.new (O.view sink.new) }
 {
     for place in 0..gates.len() {
@@ -410,121 +405,91 @@ fn put_gates<O: Sink, G: Drawn>(writer: &mut Writer, sink: &mut O, names: &Names
     }
 }
 
-fn put_gate<O: Sink, G: Drawn>(
+fn put_gate<O: Sink, G: Titled>(
     writer: &mut Writer,
     sink: &mut O,
     names: &Names,
     gate: G,
     place: usize,
 )
+    requires { G.Fits gate (length names.now) }
     ensures { Adds writer.old (O.view sink.old)
-        (text_of_lines (gate_lines (G.draws gate) names.now place))
+        (text_of_lines (gate_lines (G.draws gate) (G.title names.now gate) (length names.now) place))
         writer.new (O.view sink.new) }
 {
     put_place(writer, sink, middle_of(place), 0);
-    put_title(writer, sink, names, gate);
-    writer.put(sink, b"\n");
+    writer.put(sink, b"<title>");
+    gate.put_title(writer, sink, names);
+    writer.put(sink, b"</title>\n");
     put_marks(writer, sink, gate, names.len());
     writer.put(sink, b"</g>\n");
 }
 
-// The symbols of a gate, each with the name of its line.
-fn put_title<O: Sink, G: Drawn>(writer: &mut Writer, sink: &mut O, names: &Names, gate: G)
-    ensures { Adds writer.old (O.view sink.old) (title (G.draws gate) names.now) writer.new (O.view sink.new) }
-{
-    writer.put(sink, b"<title>");
-    put_names(writer, sink, names, gate);
-    writer.put(sink, b"</title>");
-}
-
-fn put_names<O: Sink, G: Drawn>(writer: &mut Writer, sink: &mut O, names: &Names, gate: G)
-    ensures { Adds writer.old (O.view sink.old)
-        (flat_map (name_in_title (G.draws gate) names.now) (range_with_len 0 (length names.now)))
-        writer.new (O.view sink.new) }
-{
-    for line in 0..names.len() {
-        put_name(writer, sink, names, gate, line);
-    }
-}
-
-fn put_name<O: Sink, G: Drawn>(writer: &mut Writer, sink: &mut O, names: &Names, gate: G, line: u8)
-    requires { line < length names.now }
-    ensures { Adds writer.old (O.view sink.old)
-        (name_in_title (G.draws gate) names.now line)
-        writer.new (O.view sink.new) }
-{
-    names.recall_invariant();
-    let symbol = gate.symbol_on(line);
-    if is_touched(symbol) {
-        writer.put(sink, symbol.glyph());
-        writer.put(sink, b" ");
-        put_label(writer, sink, Markup::Svg, names.name(line));
-        writer.put(sink, b" ");
-    }
-}
-
-fn is_touched(symbol: Symbol) -> bool
-    ensures { result ≡ is_touched symbol }
-{
-    !matches!(symbol, Symbol::Wire | Symbol::Crossing)
-}
-
-// The symbols of a gate from the top.
+// The symbols of a gate from the top, each with the line to it from the one before and the one from it down.
 fn put_marks<O: Sink, G: Drawn>(writer: &mut Writer, sink: &mut O, gate: G, lines: u8)
     requires { lines ≤ MOST_LINES }
     ensures { Adds writer.old (O.view sink.old)
         (text_of_lines (flat_map (mark_lines (G.draws gate) lines) (range_with_len 0 lines)))
         writer.new (O.view sink.new) }
 {
+    let mut symbol = symbol_within(gate, lines, 0);
+    let mut from_above = false;
     for line in 0..lines {
-        put_mark(writer, sink, gate, lines, line);
+        let below = symbol_within(gate, lines, line + 1);
+        let is_joined = are_joined(symbol, below);
+        put_mark(writer, sink, line, symbol, from_above, is_joined);
+        symbol = below;
+        from_above = is_joined;
     }
 }
 
-fn put_mark<O: Sink, G: Drawn>(writer: &mut Writer, sink: &mut O, gate: G, lines: u8, line: u8)
-    requires line { line < lines }
-    requires few { lines ≤ MOST_LINES }
-    ensures { Adds writer.old (O.view sink.old)
-        (text_of_lines (mark_lines (G.draws gate) lines line))
-        writer.new (O.view sink.new) }
+// Whether a vertical leads from a symbol to the one below.
+fn are_joined(symbol: Symbol, below: Symbol) -> bool
+    ensures { result ≡ (is_on symbol && is_on below) }
 {
-    if is_on(gate.symbol_on(line)) {
-        put_place(writer, sink, 0, middle_of_line(line));
-        put_body(writer, sink, gate, lines, line);
-        writer.put(sink, b"\n");
+    is_on(symbol) && is_on(below)
+}
+
+// The symbol on a line, if it is one of so many.
+fn symbol_within<G: Drawn>(gate: G, lines: u8, line: u8) -> Symbol
+    requires { lines ≤ MOST_LINES }
+    ensures { result ≡ symbol_within (G.draws gate) lines line }
+{
+    if line < lines {
+        gate.symbol_on(line)
+    } else {
+        Symbol::Wire
     }
 }
 
-fn put_body<O: Sink, G: Drawn>(writer: &mut Writer, sink: &mut O, gate: G, lines: u8, line: u8)
-    requires line { line < lines }
-    requires few { lines ≤ MOST_LINES }
+fn put_mark<O: Sink>(
+    writer: &mut Writer,
+    sink: &mut O,
+    line: u8,
+    symbol: Symbol,
+    from_above: bool,
+    is_joined: bool,
+)
     ensures { Adds writer.old (O.view sink.old)
-        (body (mark_on (G.draws gate) lines line))
+        (text_of_lines (stroke_lines (stroke symbol from_above is_joined) line))
         writer.new (O.view sink.new) }
 {
-    let symbol = gate.symbol_on(line);
-    put_up(writer, sink, symbol, comes_from_above(gate, lines, line));
-    put_down(writer, sink, symbol, is_joined(gate, lines, line));
-    writer.put(sink, shape(symbol));
-    writer.put(sink, b"</g>");
-}
-
-// Whether a vertical leads to a line from the one before.
-fn comes_from_above<G: Drawn>(gate: G, lines: u8, line: u8) -> bool
-    requires line { line < lines }
-    requires few { lines ≤ MOST_LINES }
-    ensures { result ≡ (mark_on (G.draws gate) lines line).from_above }
-{
-    line > 0 && is_joined(gate, lines, line - 1)
+    if is_on(symbol) {
+        writer.put(sink, b"<g transform=\"translate(0 ");
+        writer.put_number(sink, middle_of_line(line));
+        writer.put(sink, b")\">");
+        put_up(writer, sink, symbol, from_above);
+        put_down(writer, sink, symbol, is_joined);
+        writer.put(sink, shape(symbol));
+        writer.put(sink, b"</g>\n");
+    }
 }
 
 fn put_up<O: Sink>(writer: &mut Writer, sink: &mut O, symbol: Symbol, on: bool)
     ensures { Adds writer.old (O.view sink.old) (up_if on symbol) writer.new (O.view sink.new) }
 {
     if on {
-        writer.put(sink, b"<line y1=\"-15\" y2=\"-");
-        writer.put(sink, reach_text(symbol));
-        writer.put(sink, b"\"/>");
+        writer.put(sink, up(symbol));
     }
 }
 
@@ -532,9 +497,33 @@ fn put_down<O: Sink>(writer: &mut Writer, sink: &mut O, symbol: Symbol, on: bool
     ensures { Adds writer.old (O.view sink.old) (down_if on symbol) writer.new (O.view sink.new) }
 {
     if on {
-        writer.put(sink, b"<line y1=\"");
-        writer.put(sink, reach_text(symbol));
-        writer.put(sink, b"\" y2=\"15\"/>");
+        writer.put(sink, down(symbol));
+    }
+}
+
+// The line to a symbol from above.
+fn up(symbol: Symbol) -> &'static [u8]
+    ensures { result.now ≡ up_if true symbol }
+{
+    match symbol {
+        Symbol::Negative => b"<line y1=\"-15\" y2=\"-5\"/>",
+        Symbol::Middle => b"<line y1=\"-15\" y2=\"-8\"/>",
+        Symbol::H | Symbol::T | Symbol::Tdg | Symbol::S | Symbol::Sdg | Symbol::Z | Symbol::Y =>
+            b"<line y1=\"-15\" y2=\"-11\"/>",
+        _ => b"<line y1=\"-15\" y2=\"-0\"/>",
+    }
+}
+
+// The line from a symbol down.
+fn down(symbol: Symbol) -> &'static [u8]
+    ensures { result.now ≡ down_if true symbol }
+{
+    match symbol {
+        Symbol::Negative => b"<line y1=\"5\" y2=\"15\"/>",
+        Symbol::Middle => b"<line y1=\"8\" y2=\"15\"/>",
+        Symbol::H | Symbol::T | Symbol::Tdg | Symbol::S | Symbol::Sdg | Symbol::Z | Symbol::Y =>
+            b"<line y1=\"11\" y2=\"15\"/>",
+        _ => b"<line y1=\"0\" y2=\"15\"/>",
     }
 }
 

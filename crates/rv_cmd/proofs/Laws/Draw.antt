@@ -19,7 +19,9 @@ use Rattle.rv_draw.proofs.inside.LaidOut.{laid_out}
 use Rattle.rv_draw.proofs.inside.ReadBack.{AreRead, read_back}
 use Rattle.rv_picture.specs.Lines.{network_lines}
 use Rattle.rv_picture.proofs.LatexBack.{latex_back}
-use Rattle.rv_picture.proofs.SvgBack.{svg_back}
+use Rattle.rv_picture.specs.Titles.{gate_title, op_title}
+use Rattle.rv_picture.proofs.SvgBack.{AreOneLine, svg_back}
+use Rattle.rv_picture.proofs.TitleLines.{gate_titles, op_titles}
 use Rattle.rv_qasm.specs.Reading.{Listing}
 use Rattle.rv_words.specs.declared.command.PictureForm.{PictureForm}
 use Rattle.rv_words.specs.declared.command.PictureForm.TheVariants.{Text, Svg, Latex}
@@ -38,18 +40,18 @@ lines_are lines some few =
     IsCascade-fresh (numbered 113 lines) (omega (arith, some, length-numbered 113 lines)) (AreNames-numbered 113 lines (omega arith, omega arith) few)
 
 -- in each form the text shows what was drawn
-text-shows : {G K : Type 0} (picture : PictureForm) (draws : G → ℕ → Symbol) (read : List Symbol → Option K) (kept : G → K) (wrap : ℕ) (c : Cascade) (gates : List G)
-    → IsCascade c → length gates < 2 ^ 50 → AreRead draws read kept (length c.names) gates
-    → shown_in picture read (picture_text picture draws wrap c gates) ≡ Some (picture_on c (map kept gates))
-text-shows Text draws read kept wrap c gates is few are = read_back draws read kept (per_block wrap) c gates (some-per_block wrap) is are
-text-shows Svg draws read kept wrap c gates is few are = svg_back draws read kept (per_block wrap) c gates (some-per_block wrap) is few are
-text-shows Latex draws read kept wrap c gates is few are = latex_back draws read kept (per_block wrap) c gates (some-per_block wrap) is are
+text-shows : {G K : Type 0} (picture : PictureForm) (draws : G → ℕ → Symbol) (title : List (List ℕ) → G → List ℕ) (read : List Symbol → Option K) (kept : G → K) (wrap : ℕ) (c : Cascade) (gates : List G)
+    → AreOneLine title → IsCascade c → length gates < 2 ^ 50 → AreRead draws read kept (length c.names) gates
+    → shown_in picture read (picture_text picture draws title wrap c gates) ≡ Some (picture_on c (map kept gates))
+text-shows Text draws title read kept wrap c gates lack is few are = read_back draws read kept (per_block wrap) c gates (some-per_block wrap) is are
+text-shows Svg draws title read kept wrap c gates lack is few are = svg_back draws title read kept (per_block wrap) c gates lack (some-per_block wrap) is few are
+text-shows Latex draws title read kept wrap c gates lack is few are = latex_back draws read kept (per_block wrap) c gates (some-per_block wrap) is are
 
-text-stands : {G : Type 0} (picture : PictureForm) (draws : G → ℕ → Symbol) (wrap : ℕ) (c : Cascade) (gates : List G) → IsCascade c
-    → StandsInRows picture wrap (picture_text picture draws wrap c gates)
-text-stands Text draws wrap c gates is = laid_out draws (per_block wrap) c gates is
-text-stands Svg draws wrap c gates is = tt
-text-stands Latex draws wrap c gates is = tt
+text-stands : {G : Type 0} (picture : PictureForm) (draws : G → ℕ → Symbol) (title : List (List ℕ) → G → List ℕ) (wrap : ℕ) (c : Cascade) (gates : List G) → IsCascade c
+    → StandsInRows picture wrap (picture_text picture draws title wrap c gates)
+text-stands Text draws title wrap c gates is = laid_out draws (per_block wrap) c gates is
+text-stands Svg draws title wrap c gates is = tt
+text-stands Latex draws title wrap c gates is = tt
 
 -- the laws; nothing is refused
 pub draw-answers : (picture : PictureForm) (wrap : ℕ) (c : Cascade) → IsCascade c → IsProductOf (draw_report picture wrap c) (IsDrawing picture wrap c) (Drawing c picture wrap)
@@ -58,9 +60,9 @@ draw-answers picture wrap c given =
       kept = tt;
       is = refl;
       means = record {
-        shows = text-shows picture symbol_on gate_of from_top wrap c c.gates given (omega (arith, bounded)) (gates_read (length c.names) c.gates given.valid given.fitting);
+        shows = text-shows picture symbol_on gate_title gate_of from_top wrap c c.gates gate_titles given (omega (arith, bounded)) (gates_read (length c.names) c.gates given.valid given.fitting);
         same = λ word. same_run c.gates word given.valid;
-        laid_out = text-stands picture symbol_on wrap c c.gates given;
+        laid_out = text-stands picture symbol_on gate_title wrap c c.gates given;
       };
     }
 
@@ -75,9 +77,9 @@ network-drawing picture wrap listing given =
       kept = tt;
       is = refl;
       means = record {
-        shows = text-shows picture op_symbol_on op_of op_from_top wrap lines net.ops is (omega (arith, bounded))
+        shows = text-shows picture op_symbol_on op_title op_of op_from_top wrap lines net.ops op_titles is (omega (arith, bounded))
             (subst (λ (n : ℕ). AreRead op_symbol_on op_of op_from_top n net.ops) same (ops_read net.lines net.ops given.few given.fitting));
         same = λ x y. same_amplitude net.ops net.lines x y given.fitting;
-        laid_out = text-stands picture op_symbol_on wrap lines net.ops is;
+        laid_out = text-stands picture op_symbol_on op_title wrap lines net.ops is;
       };
     }

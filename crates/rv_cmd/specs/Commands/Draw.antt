@@ -16,6 +16,7 @@ use Rattle.rv_picture.specs.Latex.{latex_shown_by, latex_with}
 use Rattle.rv_picture.specs.Lines.{network_lines}
 use Rattle.rv_picture.specs.Svg.{svg_with}
 use Rattle.rv_picture.specs.SvgReading.{svg_shown_by}
+use Rattle.rv_picture.specs.Titles.{gate_title, op_title}
 use Rattle.rv_words.specs.declared.command.Form.{Form}
 use Rattle.rv_words.specs.declared.command.Form.TheVariants as form
 use Rattle.rv_words.specs.declared.command.PictureForm.{PictureForm}
@@ -28,11 +29,12 @@ use Rattle.rv_cmd.specs.Row.{ReadsFirst, one}
 abbrev pub per_block : ℕ → ℕ
 per_block wrap = if wrap == 0 then MOST_OPS else wrap
 
--- the text of a picture in a form, of gates that draw these symbols on a circuit's lines
-abbrev pub picture_text : {G : Type 0} → PictureForm → (G → ℕ → Symbol) → ℕ → Cascade → List G → List ℕ
-picture_text Text draws wrap c gates = text_with draws (per_block wrap) c gates
-picture_text Svg draws wrap c gates = svg_with draws (per_block wrap) c gates
-picture_text Latex draws wrap c gates = latex_with draws (per_block wrap) c gates
+-- the text of a picture in a form, of gates that draw these symbols on a circuit's lines, and have these titles
+abbrev pub picture_text : {G : Type 0} → PictureForm → (G → ℕ → Symbol) → (List (List ℕ) → G → List ℕ) → ℕ → Cascade
+    → List G → List ℕ
+picture_text Text draws title wrap c gates = text_with draws (per_block wrap) c gates
+picture_text Svg draws title wrap c gates = svg_with draws title (per_block wrap) c gates
+picture_text Latex draws title wrap c gates = latex_with draws (per_block wrap) c gates
 
 -- what a text in a form shows, by its definition, where each gate is read from its column
 abbrev pub shown_in : {G : Type 0} → PictureForm → (List Symbol → Option G) → List ℕ → Option (Picture G)
@@ -47,10 +49,10 @@ StandsInRows Svg wrap text = Unit {0}
 StandsInRows Latex wrap text = Unit {0}
 
 abbrev pub circuit_text : PictureForm → ℕ → Cascade → List ℕ
-circuit_text picture wrap c = picture_text picture symbol_on wrap c c.gates
+circuit_text picture wrap c = picture_text picture symbol_on gate_title wrap c c.gates
 
 abbrev pub network_text : PictureForm → ℕ → Cascade → List Op → List ℕ
-network_text picture wrap lines ops = picture_text picture op_symbol_on wrap lines ops
+network_text picture wrap lines ops = picture_text picture op_symbol_on op_title wrap lines ops
 
 abbrev pub draw_report : PictureForm → ℕ → Cascade → LimitedText
 draw_report picture wrap c = unlimited (circuit_text picture wrap c)

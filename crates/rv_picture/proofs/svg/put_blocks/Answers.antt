@@ -5,4 +5,4 @@ use Rattle.rv_picture.proofs.svg.put_blocks.Goals as goal
 
 pub loop-block-preserved : goal.loop-block-preserved
 loop-block-preserved g c =
-    adds_as (blocks_more (block_lines g.G.Drawn.draws c.args.per_block c.args.lines.now c.args.gates.now) c.loop-block.block) (adds_then c.loop-block.invariant c.put_block.ensures)
+    adds_as (blocks_more (block_lines g.G.Drawn.draws g.G.Titled.title c.args.per_block c.args.lines.now c.args.gates.now) c.loop-block.block) (adds_then c.loop-block.invariant c.put_block.ensures)

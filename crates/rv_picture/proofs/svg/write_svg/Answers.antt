@@ -14,10 +14,10 @@ returns g c =
     let gates = c.args.gates.now in
     let per = c.args.per_block in
     let base = g.O.Sink.view c.args.sink.now in
-    let text = svg_with g.G.Drawn.draws per lines gates in
+    let text = svg_with g.G.Drawn.draws g.G.Titled.title per lines gates in
     let blocks : ℕ = block_count per (length gates) in
     let columns : ℕ = column_count per (length gates) in
-    let all = adds_as (lines_between (head lines columns blocks) (flat_map (block_lines g.G.Drawn.draws per lines gates) (range_with_len 0 blocks)) (codes "</svg>") ∙ svg_text g.G.Drawn.draws per lines gates)
+    let all = adds_as (lines_between (head lines columns blocks) (flat_map (block_lines g.G.Drawn.draws g.G.Titled.title per lines gates) (range_with_len 0 blocks)) (codes "</svg>") ∙ svg_text g.G.Drawn.draws g.G.Titled.title per lines gates)
     (adds_then (adds_as (ap (λ (m : ℕ). text_of_lines (head lines m c.block_count-blocks.result ∷ [])) c.min-columns.ensures ∙ ap (λ (m : ℕ). text_of_lines (head lines columns m ∷ [])) c.block_count-blocks.ensures) c.put_head.ensures)
-    (adds_then (adds_as (ap (λ (m : ℕ). text_of_lines (flat_map (block_lines g.G.Drawn.draws per lines gates) (range_with_len 0 m))) c.block_count-blocks.ensures) c.put_blocks.ensures) c.put.ensures)) in
+    (adds_then (adds_as (ap (λ (m : ℕ). text_of_lines (flat_map (block_lines g.G.Drawn.draws g.G.Titled.title per lines gates) (range_with_len 0 m))) c.block_count-blocks.ensures) c.put_blocks.ensures) c.put.ensures)) in
     c.finish.ensures base text (all.written base [] (c.new-writer.ensures.begins base))

@@ -1,0 +1,10 @@
+use Rattle.std.proofs.Common.{◌≡◌, ◌<◌, ℕ}
+use Rattle.rv_gate.specs.Word.{word_of}
+use Rattle.rv_gate.specs.Gate.{act}
+use Rattle.rv_cube.specs.Esop.{esop_value}
+use Rattle.rv_esop.proofs.inputs.is_reread.Given as goal
+
+abbrev pub invariant-loop-number : goal.invariant-loop-number
+invariant-loop-number l =
+    (x : ℕ) → x < l.number
+    → esop_value l.new.cubes (act l.gate (word_of l.old.inputs x)) ≡ esop_value l.old.cubes (word_of l.old.inputs x)
