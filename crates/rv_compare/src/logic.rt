@@ -1,6 +1,7 @@
 ghost use Rattle.std.specs.Prelude.{ℕ, ◌≡◌, ◌+◌, ◌*◌, ◌<◌, ◌≤◌, ◌↔◌, All, length, map, IfOk, IfErr};
 ghost use Rattle.std.specs.Bool.{Decides};
 ghost use Rattle.rv_gate.specs.Word.{bit_of, word_of};
+ghost use Rattle.rv_gate.specs.declared.word.TheConstants.{MOST_LINES};
 ghost use Rattle.rv_many.specs.Column.{column, row_bit};
 ghost use Rattle.rv_many.specs.declared.words.TheConstants.{MOST_WORDS};
 ghost use Rattle.rv_blif.specs.Logic.{signal_count, values};
@@ -9,7 +10,7 @@ ghost use Rattle.rv_compare.specs.Compare.{size_in};
 ghost use Rattle.rv_compare.specs.declared.comparison.Comparison.{Comparison as AnyComparison};
 ghost use Rattle.rv_compare.specs.declared.comparison.TheConstants.{MOST_INPUTS};
 
-use crate::block::{first_zero, give_outputs, put_in};
+use crate::block::{agreement, first_zero, give_outputs, put_in};
 use crate::comparison::{Comparison, LogicFault, MOST_INPUTS};
 use crate::marks::{input_count, inputs_of};
 use crate::sides::{Other, compare};
@@ -34,16 +35,17 @@ fn give_values(logic: &Logic, block: u32, rows: &mut [Row])
 // The places at which the rows of the circuit are those of the outputs.
 fn agreement_with(outputs: &[Output], rows: &[Row], values: &[Row]) -> Row
     requires rows { length outputs.now ≡ length rows.now }
+    requires few { length rows.now ≤ MOST_LINES }
     requires signals { All (λ output. output.signal < length values.now) outputs.now }
     ensures { (j : ℕ) → j < MOST_WORDS → Decides (row_bit result j)
         (column rows.now j ≡ map (λ output. bit_of (column values.now j) output.signal) outputs.now) }
 {
-    let mut same = Row::ones();
+    let mut room = [Row::ones(); MOST_LINES as usize];
+    let given = &mut room[..rows.len()];
     for line in 0..rows.len() {
-        let value = values[outputs[line].signal() as usize];
-        same = same.and(rows[line].xor(value).matching(false));
+        given[line] = values[outputs[line].signal() as usize];
     }
-    same
+    agreement(rows, given)
 }
 
 impl Other for Logic {

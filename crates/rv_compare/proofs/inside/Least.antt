@@ -1,6 +1,7 @@
 -- From the first word of each block that fails to the answer.
-use Rattle.std.proofs.Common.{◌≡◌, ℕ, ◌+◌, ◌-◌, ◌*◌, ◌^◌, ◌<◌, ◌≤◌, Bool, List, length, min, refl, sym, ◌∙◌, ap, subst, inl, inr, arith}
-use Rattle.std.specs.Prelude.{◌↔◌}
+use Rattle.std.proofs.Common.{◌≡◌, ℕ, ◌+◌, ◌-◌, ◌*◌, ◌^◌, ◌<◌, ◌≤◌, Bool, List, length, min, Decides, Option, None, Some, refl, sym, ◌∙◌, ap, subst, inl, inr, arith}
+use Rattle.std.specs.Prelude.{◌↔◌, IsTrue}
+use Rattle.rv_compare.specs.inside.Least.{IsFirstFailing}
 use Rattle.std.proofs.lemmas.Bool.{cases_lt}
 use Rattle.rv_gate.specs.Word.{number_of, word_of}
 use Rattle.rv_gate.specs.inside.WordLaws.{length-word_of, number_of-lt, word_of-number_of}
@@ -34,6 +35,16 @@ block_fails words P block count place is before h =
             | inr ge ↦ let at : 256 * block + (k - 256 * block) ≡ k = omega arith in subst P at (h.least (k - 256 * block) (omega arith))
           ];
     }
+
+-- what a test tells of each
+pub first_failing-as : (count : ℕ) (bit : ℕ → Bool) (P : ℕ → Type 0) (r : Option ℕ) → ((j : ℕ) → j < count → Decides (bit j) (P j))
+    → IsFirstFailing count (λ j. IsTrue (bit j)) r → IsFirstFailing count P r
+first_failing-as count bit P None each h = λ j lt. (each j lt).0 (h j lt)
+first_failing-as count bit P (Some place) each h = record {
+  below = h.below;
+  fails = λ p. h.fails ((each place h.below).1 p);
+  least = λ k lt. (each k (omega (arith, lt, h.below))).0 (h.least k lt);
+}
 
 -- ---- answers
 

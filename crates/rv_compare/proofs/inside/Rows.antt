@@ -1,9 +1,13 @@
 -- Rows of a block: words put in, outputs kept, and two sides compared.
 use Rattle.std.proofs.lemmas.Grind.{common_steps}
-use Rattle.std.proofs.Common.{◌≡◌, ℕ, ◌+◌, ◌*◌, ◌<◌, ◌≤◌, Bool, true, false, cond, List, [], ◌∷◌, ◌++◌, length, take, drop, get_or, set, refl, sym, ◌∙◌, ap, arith, append_assoc, Decides}
+use Rattle.std.proofs.Common.{◌≡◌, ℕ, ◌+◌, ◌*◌, ◌<◌, ◌≤◌, Bool, true, false, cond, List, [], ◌∷◌, ◌++◌, length, map, replicate, take, drop, get_or, set, refl, sym, ◌∙◌, ap, arith, append_assoc, Decides}
 use mir.Val.{bool_byte}
-use Rattle.std.proofs.lemmas.List.{append-nil, drop_all, drop_more, drop-set, drop-set-lt, ext_get_or, length-take-le, take_more_set}
-use Rattle.rv_gate.proofs.Marks.{input_count-more, input_count-one, input_count-zero, length-without_garbage}
+use Rattle.std.specs.Prelude.{All}
+use Rattle.std.proofs.lemmas.List.{append-nil, drop_all, drop_more, drop-set, drop-set-lt, ext_get_or, get_or-map, length-map, length-take-le, take-append-le, take_all, take_more_set}
+use Rattle.rv_gate.specs.declared.circuit.Mark.TheVariants.{Input}
+use Rattle.rv_gate.specs.inside.WordLaws.{length-word_of}
+use Rattle.rv_blif.specs.Logic.{Output}
+use Rattle.rv_gate.proofs.Marks.{input_count-inputs, with_constants-inputs, input_count-more, input_count-one, input_count-zero, length-without_garbage}
 use Rattle.rv_gate.specs.Marks.{input_count, output_count, takes_input, with_constants, without_garbage}
 use Rattle.rv_gate.specs.Word.{bit_of, has, word_of}
 use Rattle.rv_gate.specs.declared.circuit.Mark.{Mark}
@@ -119,3 +123,34 @@ agree_all a b line j t lines all h = (
       (λ i lt. let within : i < length a = omega (arith, length-column a j) in bit_of-column a i j blank within ∙ h.0 on i (omega arith) ∙ sym (bit_of-column b i j blank (omega arith))),
   λ e. h.1 (λ i lt. sym (bit_of-column a i j blank (omega arith)) ∙ ap (λ w. bit_of w i) e ∙ bit_of-column b i j blank (omega arith)),
 )
+
+-- ---- a logic network
+
+-- the rows of the inputs stand first
+pub inputs_put : (n number j : ℕ) (marks : List Mark) (given rest : List Row) → marks ≡ replicate n Input → length given ≡ n
+    → column given j ≡ with_constants marks (word_of (input_count marks) number) → take n (column (given ++ rest) j) ≡ word_of n number
+inputs_put n number j marks given rest are lines is =
+    let words : List Mark → List Bool = λ ms. with_constants ms (word_of (input_count ms) number) in
+    ap (take n) (column-append given rest j)
+    ∙ take-append-le n (column given j) (column rest j) (omega (arith, length-column given j, lines))
+    ∙ take_all n (column given j) (omega (arith, length-column given j, lines))
+    ∙ is ∙ ap words are ∙ ap (λ k. with_constants (replicate n Input) (word_of k number)) (input_count-inputs n)
+    ∙ ap (λ k. with_constants (replicate k Input) (word_of n number)) (sym (length-word_of n number)) ∙ with_constants-inputs (word_of n number)
+
+abbrev nothing : Output
+nothing = record { name = []; signal = 0 }
+
+-- the rows of the outputs, picked from those of the signals
+pub outputs_given : (outputs : List Output) (values given : List Row) (j : ℕ) → length given ≡ length outputs
+    → ((k : ℕ) (d : Output) → k < length given → get_or given k blank ≡ get_or values (get_or outputs k d).signal blank)
+    → All (λ output. output.signal < length values) outputs
+    → column given j ≡ map (λ output. bit_of (column values j) output.signal) outputs
+outputs_given outputs values given j counted each within =
+    let bit : Output → Bool = λ o. bit_of (column values j) o.signal in
+    ext_get_or false (column given j) (map bit outputs) (length-column given j ∙ counted ∙ sym (length-map outputs bit))
+    (λ i lt.
+      let here : i < length given = omega (arith, lt, length-column given j) in
+      let there : i < length outputs = omega (arith, here, counted) in
+      bit_of-column given i j blank here ∙ ap (λ r. row_bit r j) (each i nothing here)
+      ∙ sym (bit_of-column values (get_or outputs i nothing).signal j blank (within i nothing there))
+      ∙ sym (get_or-map bit outputs i nothing false there))
