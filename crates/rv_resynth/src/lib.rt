@@ -16,6 +16,7 @@ mod completion;
 mod find;
 mod goal;
 mod lines;
+mod lower;
 mod marked;
 mod marked_search;
 mod measure;

@@ -1,5 +1,6 @@
 // The gates on a few lines among which a search chooses.
 use crate::beam::Target;
+use crate::lower::Least;
 use crate::prices::Prices;
 use crate::table::{PLACES, Table, at, held, put_at};
 use std::alloc::{AllocError, Global};
@@ -63,6 +64,7 @@ pub(crate) struct Space<T> {
     pub(crate) bundle: usize,
     pub(crate) cubes: Vec<Cube>,
     pub(crate) peres: u32,
+    pub(crate) toffoli: u32,
     variables: Vec<T>,
 }
 
@@ -124,8 +126,23 @@ impl<T: Table> Space<T> {
             bundle: bundle.line,
             cubes,
             peres: prices.peres(),
+            toffoli: prices.flip(2),
             variables,
         })
+    }
+
+    // What gates cost at least.
+    pub(crate) fn least(&self, peres: bool) -> Least {
+        let (product, targets) = if peres {
+            (self.toffoli.min(self.peres), 2)
+        } else {
+            (self.toffoli, 1)
+        };
+        Least {
+            product: product as usize,
+            targets,
+            any: 1,
+        }
     }
 
     // The tables of the permutation that changes no word, and then those of its inverse.
