@@ -51,7 +51,7 @@ fn found(
         lines: lines_with(lines, circuit.gates()),
     };
     let mut random = Random::new(seed);
-    searched(alloc, circuit.gates(), lines, &prices, effort, &mut random)
+    searched(alloc, Vec::from_slice(alloc, circuit.gates())?, lines, &prices, effort, &mut random)
 }
 
 /// The circuit with gates that make the same of every word, and of which the goal counts no more.
