@@ -1,6 +1,6 @@
-ghost use Rattle.std.specs.Prelude.{◌≡◌, ℕ, ◌+◌, ◌<◌, ◌≤◌, length, All, IfOk, IfSome};
+ghost use Rattle.std.specs.Prelude.{◌≡◌, ℕ, ◌+◌, ◌<◌, ◌≤◌, length, take, drop, All, IfOk, OnOk};
 ghost use Rattle.rv_gate.specs.declared.circuit.TheConstants.{MOST_GATES};
-ghost use Rattle.rv_resynth.specs.inside.Windows.{AreGates, Replaces};
+ghost use Rattle.rv_resynth.specs.inside.Windows.{AreGates, Replaces, Splits};
 
 use crate::beam::Plan;
 use crate::common::{Common, common_of};
@@ -11,7 +11,7 @@ use crate::lines::span;
 use crate::replacing::{can_replace, have_room, replace};
 use crate::scale::SCALES;
 use crate::thin::thinned;
-use crate::window::{Choice, collect};
+use crate::window::{Choice, Window, collect};
 use rv_gate::{Gate, MOST_GATES};
 use std::alloc::{AllocError, Global};
 
@@ -27,7 +27,7 @@ const MOST_LINES: usize = 6;
 const WIDE: usize = 12;
 
 // So many permutations are looked at in a window of much cost, and at most so many of each cost.
-const NODES: u64 = 400;
+const NODES: u64 = 200;
 
 const MOST_WIDTH: u64 = 32;
 
@@ -137,7 +137,39 @@ fn width_of(window: &[Gate], common: &Common) -> usize {
     if common.is_none() { own } else { own + 1 }
 }
 
+// Puts gates in the place of a window that was collected from a place on, from so many gates, if they make the same.
+fn put(
+    gates: &mut Vec<Gate>,
+    from: usize,
+    count: usize,
+    window: &Window,
+    new: &[Gate],
+    lines: u8,
+) -> Result<(), AllocError>
+    requires gates { AreGates lines gates.old.items }
+    requires few { length gates.old.items ≤ MOST_GATES }
+    requires from { from ≤ length gates.old.items }
+    requires count { count ≤ length (drop from gates.old.items) }
+    requires splits { Splits lines (take count (drop from gates.old.items)) window.now.gates.items window.now.passed.items }
+    ensures { OnOk result (Replaces lines gates.old.items gates.new.items) }
+{
+    let passed = window.passed.len();
+    if can_replace(&window.gates, new, lines) && have_room(gates.len(), count, new.len(), passed) {
+        return replace(gates, from, count, new, &window.passed);
+    }
+    Ok(())
+}
+
+// How much work a window is.
+fn work_for(window: &[Gate], common: &Common, prices: &Prices) -> u32 {
+    if window.len() < 2 {
+        return 1;
+    }
+    work_of(width_of(window, common), prices.gates(window))
+}
+
 // Tries one window. Says how much work it was.
+#[tactic(auto, using(crate::proofs::inside::Splitting::replaces_self))]
 fn attempt(
     alloc: Global,
     gates: &mut Vec<Gate>,
@@ -153,27 +185,20 @@ fn attempt(
         return Ok(MOST_WORK);
     }
     let from = place_in(gates, prices, random);
-    let choice = chosen(&gates[from..], prices, random);
-    let (window, count) = collect(alloc, &gates[from..], &choice, random)?;
-    let work = if window.gates.len() < 2 {
-        1
-    } else {
-        work_of(width_of(&window.gates, &choice.common), prices.gates(&window.gates))
-    };
-    let Some(new) = offered(alloc, &window.gates, &choice.common, lines, prices, random)? else {
+    let (_, rest) = gates.split_at(from);
+    let choice = chosen(rest, prices, random);
+    let (window, count) = collect(alloc, rest, &choice, random)?;
+    let common = &choice.common;
+    let work = work_for(&window.gates, common, prices);
+    let Some(new) = offered(alloc, &window.gates, common, lines, prices, random)? else {
         return Ok(work);
     };
-    let passed = &window.passed;
-    if !can_replace(&window.gates, &new, lines)
-        || !have_room(gates.len(), count, new.len(), passed.len())
-    {
-        return Ok(work);
-    }
-    replace(gates, from, count, &new, passed)?;
+    put(gates, from, count, &window, &new, lines)?;
     Ok(work)
 }
 
 // Tries windows for so much work.
+#[tactic(auto, using(crate::proofs::inside::Splitting::replaces_self, crate::proofs::inside::Splitting::replaces_more))]
 pub(crate) fn tried(
     alloc: Global,
     old: Vec<Gate>,

@@ -139,3 +139,7 @@ replaces_whole n gates new are r few =
 
 pub replaces_more : (n : ℕ) (a b d : List Shape) → Replaces n a b → Replaces n b d → Replaces n a d
 replaces_more n a b d h k = record { gates = k.gates; same = same_trans n a b d h.same k.same; few = k.few }
+
+pub replaces_self : (n : ℕ) (gates : List Shape) → AreGates n gates → length gates ≤ MOST_GATES
+    → Replaces n gates gates
+replaces_self n gates are few = record { gates = are; same = same_refl n gates; few = few }
