@@ -22,25 +22,30 @@ const ROUNDS: usize = 12;
 const ACTS: usize = 1 << 20;
 
 // What some words are told by: the marks of a circuit, and its gates.
+#[derive(Clone, Copy)]
 struct Trial<'a> {
     circuit: &'a Circuit,
     blocks: &'a [u32],
 }
 
-// Puts in the words of a block, among the constants.
-fn put_in(marks: &[Mark], block: u32, rows: &mut [Row; MOST_LINES as usize]) {
+// The rows of the words of a block, put in among the constants.
+fn rows_of(marks: &[Mark], block: u32) -> [Row; MOST_LINES as usize] {
+    let mut rows = [Row::ones(); MOST_LINES as usize];
+    let count = marks.len().min(64);
     let mut bit = 0u8;
-    for step in 0..marks.len().min(64) {
-        let line = marks.len().min(64) - 1 - step;
-        rows[line] = match marks[line] {
+    for step in 0..count {
+        let line = count - 1 - step;
+        let mark = marks[line];
+        rows[line] = match mark {
             Mark::Input => number_row(block, bit % 64),
             Mark::Zero => constant_row(false),
             Mark::One => constant_row(true),
         };
-        if matches!(marks[line], Mark::Input) {
+        if matches!(mark, Mark::Input) {
             bit = bit.wrapping_add(1);
         }
     }
+    rows
 }
 
 // What gates make of rows.
@@ -55,21 +60,24 @@ fn run_on(gates: &[Gate], rows: &mut [Row])
     }
 }
 
+// Whether both have the same rows at the lines that are asked for.
+fn have_same(garbage: &[bool], a: &[Row], b: &[Row]) -> bool {
+    for line in 0..garbage.len().min(a.len()).min(b.len()) {
+        if !garbage[line] && a[line].parts != b[line].parts {
+            return false;
+        }
+    }
+    true
+}
+
 impl Trial<'_> {
     // Whether gates make the same of a block, on the lines that are asked for.
     fn agree_on(&self, gates: &[Gate], block: u32) -> bool {
-        let mut old = [Row::ones(); MOST_LINES as usize];
-        put_in(self.circuit.constant_row(), block, &mut old);
+        let mut old = rows_of(self.circuit.constant_row(), block);
         let mut new = old;
         run_on(self.circuit.gates(), &mut old);
         run_on(gates, &mut new);
-        let garbage = self.circuit.garbage_row();
-        for line in 0..garbage.len().min(64) {
-            if !garbage[line] && old[line].parts != new[line].parts {
-                return false;
-            }
-        }
-        true
+        have_same(self.circuit.garbage_row(), &old, &new)
     }
 
     // Whether gates make the same of all its words.

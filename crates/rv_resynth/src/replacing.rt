@@ -38,6 +38,7 @@ pub(crate) fn have_room(gates: usize, count: usize, new: usize, passed: usize) -
 
 // Puts other gates in the place of a window that was collected from a place on, from so many gates. No second list is
 // made: the window is turned to the end and goes.
+#[tactic(auto, using(crate::proofs::inside::Splitting::in_place))]
 pub(crate) fn replace(
     gates: &mut Vec<Gate>,
     from: usize,

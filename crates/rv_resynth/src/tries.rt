@@ -138,6 +138,7 @@ fn width_of(window: &[Gate], common: &Common) -> usize {
 }
 
 // Puts gates in the place of a window that was collected from a place on, from so many gates, if they make the same.
+#[tactic(auto, using(crate::proofs::inside::Splitting::replaces_self, crate::proofs::inside::Splitting::replaced_by))]
 fn put(
     gates: &mut Vec<Gate>,
     from: usize,
