@@ -1,7 +1,7 @@
 // The flips that bring the line of their target nearest to itself.
 use crate::scale::Scale;
 use crate::space::{Cube, Space};
-use crate::table::{Table, at, put_at};
+use crate::table::{Table, at, put_at, weight_of};
 use std::alloc::{AllocError, Global};
 
 // The key of a flip that changes nothing; the less the better.
@@ -123,7 +123,7 @@ impl<T: Table> Choices<T> {
         for target in 0..space.lines.min(8) {
             if cube.suits(target, space.bundle) {
                 let place = from.wrapping_add(target);
-                let new = at(&measured.forms, place).xor(form).weight(scale);
+                let new = weight_of(at(&measured.forms, place).xor(form), scale);
                 let old = number_at(&measured.weights, place);
                 self.push(Choice {
                     key: key_of(new, old, cube.price),

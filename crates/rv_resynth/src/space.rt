@@ -1,5 +1,6 @@
 // The gates on a few lines among which a search chooses.
 use crate::beam::Target;
+use crate::lower::Least;
 use crate::prices::Prices;
 use crate::table::{PLACES, Table, at, held, put_at};
 use std::alloc::{AllocError, Global};
@@ -63,13 +64,13 @@ pub(crate) struct Space<T> {
     pub(crate) bundle: usize,
     pub(crate) cubes: Vec<Cube>,
     pub(crate) peres: u32,
+    pub(crate) toffoli: u32,
     variables: Vec<T>,
 }
 
-// The cube of a number whose digits, of base 3, tell each line: no control, one that wants 1, one that wants 0.
-fn cube_of(number: usize, lines: usize, bundle: Bundle, prices: &Prices) -> Cube {
+// The controls of a number whose digits, of base 3, tell each line: no control, one that wants 1, one that wants 0.
+fn controls_of(number: usize, lines: usize) -> (u8, u8) {
     let (mut care, mut want, mut rest) = (0u8, 0u8, number);
-    let (mut without, mut turned, mut usable) = (number, number, true);
     for line in 0..lines.min(PLACES) {
         let digit = rest % 3;
         rest /= 3;
@@ -79,28 +80,66 @@ fn cube_of(number: usize, lines: usize, bundle: Bundle, prices: &Prices) -> Cube
         if digit == 1 {
             want |= 1 << line;
         }
-        if digit == 2 {
-            if without == number {
-                turned = number.saturating_sub(CUBES[line]);
-                without = turned.saturating_sub(CUBES[line]);
-            }
-            usable = usable && line != bundle.line;
-        }
     }
+    (care, want)
+}
+
+// The number of the cube without the lowest control that wants 0, and of that in which it wants 1.
+fn told_by(number: usize, care: u8, want: u8) -> (usize, usize) {
+    let lowest = usize::from(care & !want).trailing_zeros() as usize;
+    let power = match CUBES.get(lowest) {
+        Some(power) => *power,
+        None => 0,
+    };
+    let turned = number.saturating_sub(power);
+    (turned.saturating_sub(power), turned)
+}
+
+// The number that stands for one in a list.
+fn number_in(places: &[usize], number: usize) -> usize {
+    match places.get(number) {
+        Some(place) => *place,
+        None => 0,
+    }
+}
+
+// What a flip with these controls costs, of which one may stand for several.
+fn price_of(care: u8, bundle: Bundle, prices: &Prices) -> u32 {
     let mut controls = care.count_ones();
     if bundle.line < PLACES && care >> bundle.line & 1 == 1 {
         controls = controls
             .saturating_add(bundle.size.min(64))
             .saturating_sub(1);
     }
-    Cube {
-        care,
-        want,
-        price: prices.flip(controls),
-        without,
-        turned,
-        usable,
+    prices.flip(controls)
+}
+
+// The cubes of so many lines that have few enough controls.
+fn cubes_of(
+    alloc: Global,
+    lines: usize,
+    bundle: Bundle,
+    controls: u32,
+    prices: &Prices,
+) -> Result<Vec<Cube>, AllocError> {
+    let mut cubes = Vec::new(alloc);
+    let mut places = Vec::new(alloc);
+    for number in 0..CUBES[lines.min(PLACES)] {
+        places.push(cubes.len())?;
+        let (care, want) = controls_of(number, lines);
+        if care.count_ones() <= controls {
+            let (without, turned) = told_by(number, care, want);
+            cubes.push(Cube {
+                care,
+                want,
+                price: price_of(care, bundle, prices),
+                without: number_in(&places, without),
+                turned: number_in(&places, turned),
+                usable: bundle.line >= PLACES || (care & !want) >> bundle.line & 1 == 0,
+            })?;
+        }
     }
+    Ok(cubes)
 }
 
 impl<T: Table> Space<T> {
@@ -108,13 +147,11 @@ impl<T: Table> Space<T> {
         alloc: Global,
         lines: usize,
         bundle: Bundle,
+        controls: u32,
         prices: &Prices,
     ) -> Result<Space<T>, AllocError> {
         let lines = lines.min(PLACES);
-        let mut cubes = Vec::new(alloc);
-        for number in 0..CUBES[lines] {
-            cubes.push(cube_of(number, lines, bundle, prices))?;
-        }
+        let cubes = cubes_of(alloc, lines, bundle, controls, prices)?;
         let mut variables = Vec::new(alloc);
         for line in 0..lines {
             variables.push(T::variable(line))?;
@@ -124,8 +161,23 @@ impl<T: Table> Space<T> {
             bundle: bundle.line,
             cubes,
             peres: prices.peres(),
+            toffoli: prices.flip(2),
             variables,
         })
+    }
+
+    // What gates cost at least.
+    pub(crate) fn least(&self, peres: bool) -> Least {
+        let (product, targets) = if peres {
+            (self.toffoli.min(self.peres), 2)
+        } else {
+            (self.toffoli, 1)
+        };
+        Least {
+            product: product as usize,
+            targets,
+            any: 1,
+        }
     }
 
     // The tables of the permutation that changes no word, and then those of its inverse.

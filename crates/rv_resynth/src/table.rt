@@ -16,6 +16,9 @@ const VARIABLES: [u64; 6] = [
 
 // A function of the words on some lines.
 pub(crate) trait Table: Copy {
+    // How many lines there are.
+    fn lines() -> usize;
+
     // It is 0 on each word.
     fn zero() -> Self;
 
@@ -35,8 +38,8 @@ pub(crate) trait Table: Copy {
     // stands in the form.
     fn form(self) -> Self;
 
-    // What the products of a form weigh together.
-    fn weight(self, scale: &Scale) -> u32;
+    // What the products of a form weigh together, where each has so many lines more.
+    fn weight_with(self, scale: &Scale, more: usize) -> u32;
 
     // A number that tells most tables apart.
     fn hash(self, salt: u64) -> u64;
@@ -48,6 +51,15 @@ pub(crate) trait Table: Copy {
 
     // The table that is 1 on a word too.
     fn with(self, word: usize) -> Self;
+
+    // The form without its constant product.
+    fn without_constant(self) -> Self;
+
+    // The products of a form that have two lines and more.
+    fn products(self) -> Self;
+
+    // The first word on which it is 1.
+    fn first(self) -> Option<usize>;
 }
 
 // One of the first six lines' bit, on 64 words.
@@ -119,13 +131,27 @@ fn mixed(table: u64, salt: u64) -> u64 {
     hash ^ hash >> 29
 }
 
+// What the products of a form weigh together.
+#[inline(always)]
+pub(crate) fn weight_of<T: Table>(form: T, scale: &Scale) -> u32 {
+    form.weight_with(scale, 0)
+}
+
 // On six lines.
 #[derive(Clone, Copy)]
 pub(crate) struct Sixfold {
     words: u64,
 }
 
+// The products of at most one line.
+const LINEAR: u64 = 0x0000_0001_0001_0117;
+
 impl Table for Sixfold {
+    #[inline(always)]
+    fn lines() -> usize {
+        6
+    }
+
     #[inline(always)]
     fn zero() -> Sixfold {
         Sixfold { words: 0 }
@@ -172,8 +198,8 @@ impl Table for Sixfold {
     }
 
     #[inline(always)]
-    fn weight(self, scale: &Scale) -> u32 {
-        scale.weight(self.words, 0)
+    fn weight_with(self, scale: &Scale, more: usize) -> u32 {
+        scale.weight(self.words, more)
     }
 
     #[inline(always)]
@@ -195,187 +221,118 @@ impl Table for Sixfold {
             words: self.words | 1 << (word % 64),
         }
     }
+
+    #[inline(always)]
+    fn without_constant(self) -> Sixfold {
+        Sixfold {
+            words: self.words & !1,
+        }
+    }
+
+    #[inline(always)]
+    fn products(self) -> Sixfold {
+        Sixfold {
+            words: self.words & !LINEAR,
+        }
+    }
+
+    #[inline(always)]
+    fn first(self) -> Option<usize> {
+        if self.words == 0 {
+            return None;
+        }
+        Some(self.words.trailing_zeros() as usize)
+    }
 }
 
-// On seven lines: the words with bit 0 on the last line, and those with bit 1.
+// On one line more: the words with bit 0 on it, and those with bit 1.
 #[derive(Clone, Copy)]
-pub(crate) struct Sevenfold {
-    low: Sixfold,
-    high: Sixfold,
+pub(crate) struct Twofold<T> {
+    low: T,
+    high: T,
 }
 
-impl Table for Sevenfold {
+// On seven lines, and on eight.
+pub(crate) type Sevenfold = Twofold<Sixfold>;
+
+pub(crate) type Eightfold = Twofold<Sevenfold>;
+
+// Whether a word has bit 1 on a line.
+#[inline(always)]
+fn has(word: usize, line: usize) -> bool {
+    word >> line.min(PLACES) & 1 == 1
+}
+
+impl<T: Table> Table for Twofold<T> {
     #[inline(always)]
-    fn zero() -> Sevenfold {
-        let low = Sixfold::zero();
-        Sevenfold { low, high: low }
+    fn lines() -> usize {
+        T::lines().saturating_add(1)
     }
 
     #[inline(always)]
-    fn variable(line: usize) -> Sevenfold {
-        let low = Sixfold::variable(line);
-        let high = if line == 6 { low.not() } else { low };
-        Sevenfold { low, high }
+    fn zero() -> Self {
+        let low = T::zero();
+        Twofold { low, high: low }
     }
 
     #[inline(always)]
-    fn not(self) -> Sevenfold {
-        Sevenfold {
+    fn variable(line: usize) -> Self {
+        let low = T::variable(line);
+        let high = if line == T::lines() { low.not() } else { low };
+        Twofold { low, high }
+    }
+
+    #[inline(always)]
+    fn not(self) -> Self {
+        Twofold {
             low: self.low.not(),
             high: self.high.not(),
         }
     }
 
     #[inline(always)]
-    fn xor(self, other: Sevenfold) -> Sevenfold {
-        Sevenfold {
+    fn xor(self, other: Self) -> Self {
+        Twofold {
             low: self.low.xor(other.low),
             high: self.high.xor(other.high),
         }
     }
 
     #[inline(always)]
-    fn and(self, other: Sevenfold) -> Sevenfold {
-        Sevenfold {
+    fn and(self, other: Self) -> Self {
+        Twofold {
             low: self.low.and(other.low),
             high: self.high.and(other.high),
         }
     }
 
     #[inline(always)]
-    fn exchanged(self, line: usize) -> Sevenfold {
-        if line == 6 {
-            return Sevenfold {
+    fn exchanged(self, line: usize) -> Self {
+        if line == T::lines() {
+            return Twofold {
                 low: self.high,
                 high: self.low,
             };
         }
-        Sevenfold {
+        Twofold {
             low: self.low.exchanged(line),
             high: self.high.exchanged(line),
         }
     }
 
     #[inline(always)]
-    fn form(self) -> Sevenfold {
+    fn form(self) -> Self {
         let low = self.low.form();
-        Sevenfold {
+        Twofold {
             low,
             high: low.xor(self.high.form()),
         }
     }
 
     #[inline(always)]
-    fn weight(self, scale: &Scale) -> u32 {
-        scale
-            .weight(self.low.words, 0)
-            .wrapping_add(scale.weight(self.high.words, 1))
-    }
-
-    #[inline(always)]
-    fn hash(self, salt: u64) -> u64 {
-        mixed(self.high.words, self.low.hash(salt))
-    }
-
-    #[inline(always)]
-    fn is(self, other: Sevenfold) -> bool {
-        self.low.is(other.low) && self.high.is(other.high)
-    }
-
-    fn bit(self, word: usize) -> bool {
-        if word & 64 == 0 {
-            return self.low.bit(word);
-        }
-        self.high.bit(word)
-    }
-
-    fn with(self, word: usize) -> Sevenfold {
-        if word & 64 == 0 {
-            return Sevenfold {
-                low: self.low.with(word),
-                high: self.high,
-            };
-        }
-        Sevenfold {
-            low: self.low,
-            high: self.high.with(word),
-        }
-    }
-}
-
-// On eight lines: the words with bit 0 on the last line, and those with bit 1.
-#[derive(Clone, Copy)]
-pub(crate) struct Eightfold {
-    low: Sevenfold,
-    high: Sevenfold,
-}
-
-impl Table for Eightfold {
-    #[inline(always)]
-    fn zero() -> Eightfold {
-        let low = Sevenfold::zero();
-        Eightfold { low, high: low }
-    }
-
-    #[inline(always)]
-    fn variable(line: usize) -> Eightfold {
-        let low = Sevenfold::variable(line);
-        let high = if line == 7 { low.not() } else { low };
-        Eightfold { low, high }
-    }
-
-    #[inline(always)]
-    fn not(self) -> Eightfold {
-        Eightfold {
-            low: self.low.not(),
-            high: self.high.not(),
-        }
-    }
-
-    #[inline(always)]
-    fn xor(self, other: Eightfold) -> Eightfold {
-        Eightfold {
-            low: self.low.xor(other.low),
-            high: self.high.xor(other.high),
-        }
-    }
-
-    #[inline(always)]
-    fn and(self, other: Eightfold) -> Eightfold {
-        Eightfold {
-            low: self.low.and(other.low),
-            high: self.high.and(other.high),
-        }
-    }
-
-    #[inline(always)]
-    fn exchanged(self, line: usize) -> Eightfold {
-        if line == 7 {
-            return Eightfold {
-                low: self.high,
-                high: self.low,
-            };
-        }
-        Eightfold {
-            low: self.low.exchanged(line),
-            high: self.high.exchanged(line),
-        }
-    }
-
-    #[inline(always)]
-    fn form(self) -> Eightfold {
-        let low = self.low.form();
-        Eightfold {
-            low,
-            high: low.xor(self.high.form()),
-        }
-    }
-
-    #[inline(always)]
-    fn weight(self, scale: &Scale) -> u32 {
-        let low = self.low.weight(scale);
-        low.wrapping_add(scale.weight(self.high.low.words, 1))
-            .wrapping_add(scale.weight(self.high.high.words, 2))
+    fn weight_with(self, scale: &Scale, more: usize) -> u32 {
+        let low = self.low.weight_with(scale, more);
+        low.wrapping_add(self.high.weight_with(scale, more.wrapping_add(1)))
     }
 
     #[inline(always)]
@@ -384,27 +341,52 @@ impl Table for Eightfold {
     }
 
     #[inline(always)]
-    fn is(self, other: Eightfold) -> bool {
+    fn is(self, other: Self) -> bool {
         self.low.is(other.low) && self.high.is(other.high)
     }
 
     fn bit(self, word: usize) -> bool {
-        if word & 128 == 0 {
-            return self.low.bit(word);
+        if has(word, T::lines()) {
+            return self.high.bit(word);
         }
-        self.high.bit(word)
+        self.low.bit(word)
     }
 
-    fn with(self, word: usize) -> Eightfold {
-        if word & 128 == 0 {
-            return Eightfold {
-                low: self.low.with(word),
-                high: self.high,
+    fn with(self, word: usize) -> Self {
+        if has(word, T::lines()) {
+            return Twofold {
+                low: self.low,
+                high: self.high.with(word),
             };
         }
-        Eightfold {
-            low: self.low,
-            high: self.high.with(word),
+        Twofold {
+            low: self.low.with(word),
+            high: self.high,
         }
+    }
+
+    #[inline(always)]
+    fn without_constant(self) -> Self {
+        Twofold {
+            low: self.low.without_constant(),
+            high: self.high,
+        }
+    }
+
+    #[inline(always)]
+    fn products(self) -> Self {
+        Twofold {
+            low: self.low.products(),
+            high: self.high.without_constant(),
+        }
+    }
+
+    #[inline(always)]
+    fn first(self) -> Option<usize> {
+        if let Some(word) = self.low.first() {
+            return Some(word);
+        }
+        let word = self.high.first()?;
+        Some(word | 1 << T::lines().min(PLACES))
     }
 }
