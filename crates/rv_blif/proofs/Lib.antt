@@ -2,3 +2,4 @@ pub mod RowLaws
 pub mod NodeLaws
 pub mod NameLaws
 pub mod PlacingLaws
+pub mod ValueLaws

@@ -89,11 +89,11 @@ pub operand_rows : (operands : List ℕ) (rows own : List Row) (j : ℕ) → len
 operand_rows operands rows own j count each within =
     ext_get_or false (column own j) (map (bit_of (column rows j)) operands) (length-column own j ∙ count ∙ sym (length-map operands (bit_of (column rows j))))
     (λ k h.
-      let lt : k < length own = omega (arith, length-column own j) in
-      let lt_o : k < length operands = omega (arith, count) in
-      bit_of-column own k j blank lt
-      ∙ ap (λ row. row_bit row j) (each k lt_o)
-      ∙ sym (get_or-map (bit_of (column rows j)) operands k 0 false lt_o ∙ bit_of-column rows (get_or operands k 0) j blank (within k lt_o)))
+    let lt : k < length own = omega (arith, length-column own j) in
+    let lt_o : k < length operands = omega (arith, count) in
+    bit_of-column own k j blank lt
+    ∙ ap (λ row. row_bit row j) (each k lt_o)
+    ∙ sym (get_or-map (bit_of (column rows j)) operands k 0 false lt_o ∙ bit_of-column rows (get_or operands k 0) j blank (within k lt_o)))
 
 -- ---- one node more
 
@@ -116,7 +116,7 @@ node_more nodes rows inputs k node none bits row j lt k_lt is so_far row_is =
     let word : List Bool = column rows j in
     let at : inputs + k < length word = omega (arith, length-column rows j) in
     let value : row_bit row j ≡ node_value node (with_nodes (take k nodes) bits) =
-        row_is ∙ ap (node_value node) (sym (take-map (λ r. row_bit r j) (inputs + k) rows) ∙ so_far) in
+    row_is ∙ ap (node_value node) (sym (take-map (λ r. row_bit r j) (inputs + k) rows) ∙ so_far) in
     let last : inputs + (k + 1) ≡ inputs + k + 1 = omega arith in
     ap (take (inputs + (k + 1))) (column-set rows (inputs + k) row j)
     ∙ ap (λ m. take m (set word (inputs + k) (row_bit row j))) last

@@ -72,7 +72,7 @@ placing_more p cover is cover_is placed =
     record {
       nodes = AreNodes-push p.inputs p.nodes (over_signals p.signals cover.node) is.nodes (over_signals_is p.signals cover.node (p.inputs + length p.nodes) cover_is placed is.signals);
       signals = signal_set p.signals cover.name (p.inputs + length p.nodes) (p.inputs + length (p.nodes ++ over_signals p.signals cover.node ∷ [])) (omega (arith, longer))
-        (are_below_more p.signals (p.inputs + length p.nodes) (p.inputs + length (p.nodes ++ over_signals p.signals cover.node ∷ [])) (omega (arith, longer)) is.signals);
+          (are_below_more p.signals (p.inputs + length p.nodes) (p.inputs + length (p.nodes ++ over_signals p.signals cover.node ∷ [])) (omega (arith, longer)) is.signals);
     }
 
 -- ---- loops

@@ -19,7 +19,6 @@ mod placing;
 mod port;
 mod product;
 mod row;
-
 #[cfg(test)]
 mod tests;
 

@@ -1,6 +1,6 @@
-ghost use Rattle.std.specs.Prelude.{◌≡◌, ◌≤◌, ◌<◌, ◌+◌, ℕ, length, map, take, slice_get, Some, All, IfOk};
+ghost use Rattle.std.specs.Prelude.{◌≡◌, ◌≤◌, ◌<◌, ◌+◌, ℕ, Bool, List, length, map, take, slice_get, Some, All, IfOk};
 ghost use Rattle.rv_gate.specs.Word.{bit_of};
-ghost use Rattle.rv_blif.specs.Logic.{IsLogic, values, outputs_of};
+ghost use Rattle.rv_blif.specs.Logic.{Node as TheNode, IsLogic, node_value, values, outputs_of};
 ghost use Rattle.rv_many.specs.Column.{column};
 ghost use Rattle.rv_many.specs.declared.words.TheConstants.{MOST_WORDS};
 
@@ -53,6 +53,14 @@ impl Logic {
         ensures { IsLogic self.now }
     {
         let _ = &self.nodes;
+    }
+
+    /// For proofs: the bit of each node is that of its cover, by the bits of its operands. Does nothing when it runs.
+    pub fn recall_values(&self)
+        ensures { (word : List Bool) → length word ≡ length self.now.inputs → (k : ℕ) (node : TheNode) → slice_get self.now.nodes k ≡ Some node
+            → bit_of (values self.now word) (length self.now.inputs + k) ≡ node_value node (values self.now word) }
+    {
+        self.recall_invariant();
     }
 
     /// The number of inputs.

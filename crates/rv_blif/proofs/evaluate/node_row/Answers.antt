@@ -13,8 +13,8 @@ returns c = λ j lt.
     let same_operands = c.operands-operands.ensures.value in
     let count = ap length same_operands in
     let own = operand_rows node.operands rows c.loop-i.operand_rows j (omega (arith, count, c.loop-i.invariant.count))
-        (λ k h. c.loop-i.invariant.each k (omega (arith, count, c.loop-i-test.false)) ∙ ap (λ l. get_or rows (get_or l k 0) blank) same_operands)
-        (λ k h. c.requires.operands k 0 h) in
+    (λ k h. c.loop-i.invariant.each k (omega (arith, count, c.loop-i-test.false)) ∙ ap (λ l. get_or rows (get_or l k 0) blank) same_operands)
+    (λ k h. c.requires.operands k 0 h) in
     c.matching.ensures j lt
     ∙ node_bit node rows c.loop-i.operand_rows j _ _
     (c.none_holds.ensures j lt ∙ ap (λ l. not (any_holds l (column c.loop-i.operand_rows j))) c.products.ensures.value)

@@ -7,5 +7,5 @@ invariant-loop-port l = record {
   gives : outputs_by l.names l.signals l.outputs.items (drop l.port-index l.ports) ≡ outputs_by l.names l.signals [] l.ports;
   count : length l.outputs.items ≡ l.port-index;
   below : (most : ℕ) → ((name : ℕ) → IfSome (signal_of l.signals name) (λ signal. signal < most))
-    → All (λ output. output.signal < most) l.outputs.items;
+      → All (λ output. output.signal < most) l.outputs.items;
 }

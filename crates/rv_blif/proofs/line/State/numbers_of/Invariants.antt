@@ -8,7 +8,7 @@ invariant-loop-word l = record {
   within : l.at ≤ length l.line;
   closed : l.self.last ≡ None;
   gives : numbered l.self l.numbers.items (tokens_of false [] (drop l.at l.line))
-    ≡ numbered l.initial.self [] (tokens_of false [] (drop l.from l.line));
+      ≡ numbered l.initial.self [] (tokens_of false [] (drop l.from l.line));
 }
 
 abbrev pub decreases-loop-word : goal.decreases-loop-word

@@ -7,7 +7,7 @@ abbrev pub invariant-loop-word : goal.invariant-loop-word
 invariant-loop-word l = record {
   within : l.at ≤ length l.line;
   gives : outputs_given l.number l.self (tokens_of false [] (drop l.at l.line))
-    ≡ outputs_given l.number l.initial.self (tokens_of false [] (drop l.from l.line));
+      ≡ outputs_given l.number l.initial.self (tokens_of false [] (drop l.from l.line));
 }
 
 abbrev pub decreases-loop-word : goal.decreases-loop-word

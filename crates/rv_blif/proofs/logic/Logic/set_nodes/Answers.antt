@@ -31,7 +31,7 @@ returns-clause-words c = λ j lt.
     let count = ap length c.nodes-nodes.ensures.value in
     let word = column c.args.rows.now j in
     sym (take_all (inputs + c.loop-k.k) (column c.loop-k.rows j)
-      (omega (arith, length-column c.loop-k.rows j, c.requires, c.loop-k.auto.rows, c.input_count-inputs.ensures.value, count, c.loop-k-test.false)))
+    (omega (arith, length-column c.loop-k.rows j, c.requires, c.loop-k.auto.rows, c.input_count-inputs.ensures.value, count, c.loop-k-test.false)))
     ∙ c.loop-k.invariant j lt
     ∙ ap (λ ns. with_nodes ns (take inputs word)) (take_all c.loop-k.k c.nodes-nodes.result.now c.loop-k-test.false ∙ c.nodes-nodes.ensures.value)
     ∙ ap (λ n. with_nodes c.args.self.now.nodes (take n word)) c.input_count-inputs.ensures.value
