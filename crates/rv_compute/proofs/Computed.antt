@@ -7,7 +7,7 @@ use Rattle.rv_gate.specs.Circuit.{Cascade}
 use Rattle.rv_gate.specs.declared.gate.Shape.{Shape}
 use Rattle.rv_blif.specs.Logic.{Logic}
 use Rattle.rv_compute.specs.Lines.{lines_of, logic_lines}
-use Rattle.rv_compute.specs.Computed.{IsComputed, IsComputedWithin}
+use Rattle.rv_compute.specs.Computed.{IsComputedWithin}
 use Rattle.rv_compute.specs.inside.Held.{line_count, Stands, IsDone, AreGates}
 use Rattle.rv_compute.proofs.Marks.{length-line_names}
 use Rattle.rv_compute.proofs.inside.Ends.{ends}

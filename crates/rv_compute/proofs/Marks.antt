@@ -75,6 +75,11 @@ name_next front prefix count line all name h is at =
 
 pub length-line_names : (inputs outputs work : ℕ) → length (line_names inputs outputs work) ≡ inputs + outputs + work
 length-line_names inputs outputs work =
-    omega (arith, length-append (numbered 120 inputs ++ numbered 121 outputs) (numbered 119 work),
-      length-append (numbered 120 inputs) (numbered 121 outputs), length-numbered 120 inputs, length-numbered 121 outputs,
-      length-numbered 119 work)
+    omega (
+      arith,
+      length-append (numbered 120 inputs ++ numbered 121 outputs) (numbered 119 work),
+      length-append (numbered 120 inputs) (numbered 121 outputs),
+      length-numbered 120 inputs,
+      length-numbered 121 outputs,
+      length-numbered 119 work,
+    )

@@ -14,6 +14,7 @@ const MOST_DEPTH: u32 = 2000;
 
 // What taking back a node costs that is needed again, and one that is waited for.
 const AGAIN: u64 = 1 << 20;
+
 const WAITED: u64 = 1 << 40;
 
 /// The order in which outputs are made.
@@ -115,11 +116,20 @@ impl Engine {
         if needs_base && !self.is_standing(base) {
             return false;
         }
-        net.chain_needs(signal).iter().all(|need| self.is_standing(*need))
+        net.chain_needs(signal)
+            .iter()
+            .all(|need| self.is_standing(*need))
     }
 
     // Adds the nodes of a chain to a line, or takes them back.
-    fn toggle(&mut self, net: &Net, signal: u32, line: u8, on_base: bool, back: bool) -> Result<(), AllocError> {
+    fn toggle(
+        &mut self,
+        net: &Net,
+        signal: u32,
+        line: u8,
+        on_base: bool,
+        back: bool,
+    ) -> Result<(), AllocError> {
         let chain = net.chain(signal);
         let count = chain.len();
         for i in 0..count {
@@ -169,7 +179,10 @@ impl Engine {
             return price.saturating_add(WAITED);
         }
         let is_dead = !self.is_wanted(net, signal)
-            && net.users(signal).iter().all(|user| !self.is_standing(*user));
+            && net
+                .users(signal)
+                .iter()
+                .all(|user| !self.is_standing(*user));
         if is_dead {
             return 0;
         }
@@ -234,7 +247,11 @@ impl Engine {
                 return Ok(false);
             }
         }
-        Ok(net.chain_needs(signal).iter().all(|need| self.is_standing(*need)))
+        Ok(
+            net.chain_needs(signal)
+                .iter()
+                .all(|need| self.is_standing(*need)),
+        )
     }
 
     // Makes a signal. `false` where that isn't possible.
@@ -307,7 +324,10 @@ impl Engine {
             let mut last = NONE;
             for line in 0..self.held.len() {
                 let signal = at(&self.held, line, NONE);
-                if signal != NONE && signal as usize >= net.inputs && (last == NONE || signal > last) {
+                if signal != NONE
+                    && signal as usize >= net.inputs
+                    && (last == NONE || signal > last)
+                {
                     last = signal;
                 }
             }

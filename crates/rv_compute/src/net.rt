@@ -299,7 +299,12 @@ impl Net {
                 }
             }
             if place >= self.inputs {
-                put_at(&mut self.weights, place, most.saturating_add(same.max(1)).saturating_sub(u32::from(most > 0)));
+                put_at(
+                    &mut self.weights,
+                    place,
+                    most.saturating_add(same.max(1))
+                        .saturating_sub(u32::from(most > 0)),
+                );
             }
         }
     }
@@ -337,7 +342,12 @@ impl Net {
     }
 
     // The nodes that are made with a node on one line.
-    fn set_chain(&mut self, alloc: Global, place: usize, operands: &[u32]) -> Result<(), AllocError> {
+    fn set_chain(
+        &mut self,
+        alloc: Global,
+        place: usize,
+        operands: &[u32],
+    ) -> Result<(), AllocError> {
         let start = self.start_of(place, operands);
         let mut chain = Vec::new(alloc);
         chain.push(number_of(place))?;

@@ -5,8 +5,8 @@ ghost use Rattle.rv_compute.specs.Computed.{IsComputedWithin};
 ghost use Rattle.rv_compute.specs.inside.Held.{AreGates, Stands, line_count};
 
 use crate::lines::lines_of;
-use crate::plan::{Plan, Step};
 use crate::net::Net;
+use crate::plan::{Plan, Step};
 use crate::start::{first_held, is_done};
 use crate::step::{Work, add, copy};
 use rv_blif::Logic;

@@ -124,9 +124,7 @@ pub(crate) fn add(
     let Some(next) = exchanged(work.held[usize::from(line)], old, Some(signal)) else {
         return Ok(false);
     };
-    put_operands(
-        alloc, logic, passes, work, operands, line, products, next,
-    )
+    put_operands(alloc, logic, passes, work, operands, line, products, next)
 }
 
 /// Copies a signal to a line that holds nothing. `false` where that can't be.

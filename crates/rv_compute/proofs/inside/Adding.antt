@@ -1,19 +1,18 @@
 -- Gates that add a sum of products to a line.
-use Rattle.std.proofs.Common.{◌≡◌, ◌≢◌, ℕ, ◌+◌, ◌<◌, ◌≤◌, Bool, true, false, not, cond, List, [], ◌∷◌, ◌++◌, length, set, take, get_or, refl, sym, subst, ◌∙◌, ap, arith, length-set, get_or-set_same, get_or-set_other}
-use Rattle.std.specs.Prelude.{Option, Some, None}
-use Rattle.std.proofs.lemmas.List.{set-set, set-get_or, take_more, take_all}
+use Rattle.std.proofs.Common.{◌≡◌, ℕ, ◌<◌, ◌≤◌, Bool, true, false, cond, List, [], ◌∷◌, ◌++◌, length, set, take, refl, sym, subst, ◌∙◌, ap, arith, length-set, get_or-set_same, get_or-set_other}
+use Rattle.std.specs.Prelude.{Option}
+use Rattle.std.proofs.lemmas.List.{set-set, set-get_or, take_all}
 use Rattle.rv_gate.specs.Word.{bit_of}
-use Rattle.rv_gate.specs.Gate.{holds, flip, act, run, same, xor}
+use Rattle.rv_gate.specs.Gate.{holds, flip, act, same, xor}
 use Rattle.rv_gate.specs.declared.gate.Shape.{Shape}
 use Rattle.rv_gate.specs.declared.gate.Shape.TheVariants.{Flip}
 use Rattle.rv_gate.proofs.Bits.{xor_false, xor_true, xor_assoc}
 use Rattle.rv_gate.proofs.inside.GateLemmas.{run-append}
 use Rattle.rv_blif.specs.declared.product.Product.{Product}
-use Rattle.rv_compute.specs.declared.controls.Controls.{Controls}
 use Rattle.rv_compute.specs.declared.controls.Controls.TheVariants.{Held, Never}
 use Rattle.rv_compute.specs.declared.place.Place.{Place}
 use Rattle.rv_compute.specs.declared.place.Place.TheVariants.{Line, Constant}
-use Rattle.rv_compute.specs.inside.Places.{place_at, place_value, AreRead, AreBeside, IsBeside}
+use Rattle.rv_compute.specs.inside.Places.{place_value, AreRead, AreBeside, IsBeside}
 use Rattle.rv_compute.specs.inside.Sums.{sum_of}
 use Rattle.rv_compute.specs.inside.Blocks.{AreControls, Adds, AddsMore}
 

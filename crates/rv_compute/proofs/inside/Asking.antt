@@ -1,8 +1,8 @@
 -- Controls that ask for one line more.
 use Rattle.std.proofs.Common.{◌≡◌, ◌≢◌, ℕ, ◌+◌, ◌*◌, ◌%◌, ◌^◌, ◌<◌, ◌≤◌, Bool, true, false, not, cond, ◌&&◌, List, length, refl, sym, subst, ◌∙◌, ap, inl, inr, arith, suc}
-use Rattle.std.specs.Prelude.{bit_or, bit_xor, Option, Some, None, if◌then◌else◌}
+use Rattle.std.specs.Prelude.{bit_or, bit_xor, Option, Some, if◌then◌else◌}
 use Rattle.std.proofs.Math.Bool.{beq}
-use Rattle.std.proofs.lemmas.Bool.{cases_eq, cases_Bool, and_parts, and_from, false≢true, false_from_ne_true}
+use Rattle.std.proofs.lemmas.Bool.{cases_eq, and_parts, and_from, false≢true, false_from_ne_true}
 use Rattle.std.proofs.lemmas.Nat.{one_shl}
 use Rattle.rv_gate.specs.Word.{has, bit_of}
 use Rattle.rv_gate.specs.Gate.{all_below, holds, same}
@@ -14,7 +14,7 @@ use Rattle.rv_blif.specs.declared.product.Product.{Product}
 use Rattle.rv_compute.specs.declared.controls.Controls.{Controls}
 use Rattle.rv_compute.specs.declared.controls.Controls.TheVariants.{Held, Never, Missing}
 use Rattle.rv_compute.specs.declared.place.Place.{Place}
-use Rattle.rv_compute.specs.declared.place.Place.TheVariants.{Line, Constant}
+use Rattle.rv_compute.specs.declared.place.Place.TheVariants.{Line}
 use Rattle.rv_compute.specs.inside.Places.{place_at, place_value, AreRead}
 use Rattle.rv_compute.specs.inside.Blocks.{IsWithLine, IsWithPlace, AreControls}
 

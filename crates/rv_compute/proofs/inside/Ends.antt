@@ -1,18 +1,18 @@
 -- What stands on the lines at the beginning and at the end.
-use Rattle.std.proofs.Common.{◌≡◌, ℕ, zero, suc, ◌+◌, ◌-◌, ◌<◌, ◌≤◌, Bool, true, false, cond, List, [], ◌∷◌, ◌++◌, length, map, replicate, get_or, refl, sym, subst, ◌∙◌, ap, inl, inr, arith, append_assoc, length-append, ext_get_or}
-use Rattle.std.specs.Prelude.{Option, Some, None, ◌⊎◌, nat_lt, slice_get}
+use Rattle.std.proofs.Common.{◌≡◌, ℕ, zero, suc, ◌+◌, ◌-◌, ◌<◌, ◌≤◌, Bool, false, cond, List, [], ◌∷◌, ◌++◌, length, replicate, get_or, refl, sym, ◌∙◌, ap, inl, inr, arith, append_assoc, length-append, ext_get_or}
+use Rattle.std.specs.Prelude.{Option, Some, None, nat_lt, slice_get}
 use Rattle.std.specs.Option.{option_map}
 use Rattle.std.proofs.lemmas.Bool.{cases_lt, lt-ltb, le-ltb}
-use Rattle.std.proofs.lemmas.List.{length-replicate, length-map, get_or-map, get_or-replicate, get_or_append_left, get_or-append_right, get_or_past}
+use Rattle.std.proofs.lemmas.List.{length-replicate, length-map, get_or-map, get_or-replicate, get_or_append_left, get_or-append_right}
 use Rattle.std.proofs.lemmas.Option.{slice_get-get_or, slice_get_past}
 use Rattle.rv_gate.specs.Word.{bit_of}
 use Rattle.rv_gate.specs.Gate.{run, xor}
 use Rattle.rv_gate.specs.declared.gate.Shape.{Shape}
 use Rattle.rv_gate.proofs.Bits.{xor_false}
 use Rattle.rv_gate.proofs.inside.GateLemmas.{length-run}
-use Rattle.rv_blif.specs.Logic.{Logic, Output, values, outputs_of, IsLogic}
+use Rattle.rv_blif.specs.Logic.{Logic, Output, values, outputs_of}
 use Rattle.rv_compute.specs.Computed.{xor_each}
-use Rattle.rv_compute.specs.inside.Held.{held_value, held_at, put_in, line_count, Stands, IsFree, IsDone, due}
+use Rattle.rv_compute.specs.inside.Held.{held_value, held_at, put_in, line_count, Stands, IsDone, due}
 use Rattle.rv_compute.proofs.inside.Signals.{input_bit}
 use Rattle.rv_compute.proofs.inside.Standing.{base_free, length-put_in, none_xor}
 
@@ -166,8 +166,12 @@ ends logic extra held gates stands done x y lx ly =
     let lr = length-run gates (put_in extra x y) ∙ length-put_in extra x y in
     let lc = length-xor_each y (outputs_of logic x) in
     let le : length (ended logic extra x y) ≡ length x + length y + extra =
-    omega (arith, length-append (x ++ xor_each y (outputs_of logic x)) (replicate extra false),
-      length-append x (xor_each y (outputs_of logic x)), length-replicate extra false) in
+    omega (
+      arith,
+      length-append (x ++ xor_each y (outputs_of logic x)) (replicate extra false),
+      length-append x (xor_each y (outputs_of logic x)),
+      length-replicate extra false,
+    ) in
     ext_get_or false _ _ (lr ∙ sym le)
     (λ line lt.
     let within : line < line_count logic extra = omega arith in

@@ -5,7 +5,7 @@ use Rattle.std.proofs.Math.Bool.{beq}
 use Rattle.std.proofs.lemmas.List.{get_or_append_left, get_or-map, length-map}
 use Rattle.std.proofs.Math.Seq.{get_or-append_seam}
 use Rattle.rv_gate.specs.Word.{bit_of}
-use Rattle.rv_blif.specs.Logic.{Logic, Node, values, with_nodes, node_value, operand_word, IsNode, AreNodes, IsLogic}
+use Rattle.rv_blif.specs.Logic.{Logic, Node, values, with_nodes, node_value, AreNodes, IsLogic}
 use Rattle.rv_gate.specs.Gate.{same, xor}
 use Rattle.rv_compute.specs.declared.place.Place.TheVariants.{Line, Constant}
 use Rattle.rv_compute.specs.inside.Sums.{cover_value, start_value, PassesOn, IsStart}

@@ -1,18 +1,18 @@
 -- Steps keep what is told of the lines true.
-use Rattle.std.proofs.Common.{◌≡◌, ◌≢◌, ℕ, zero, suc, ◌+◌, ◌-◌, ◌<◌, ◌≤◌, Bool, true, false, cond, ◌&&◌, eqb, List, [], ◌∷◌, ◌++◌, length, map, replicate, set, get_or, refl, sym, subst, ◌∙◌, ap, inl, inr, arith, length-append, get_or-set_same, get_or-set_other}
-use Rattle.std.specs.Prelude.{Option, Some, None, ◌⊎◌, Result, Ok, Err, IfOk, IfSome, is_some}
+use Rattle.std.proofs.Common.{◌≡◌, ℕ, zero, suc, ◌+◌, ◌-◌, ◌<◌, Bool, true, false, List, [], ◌∷◌, ◌++◌, length, map, replicate, set, get_or, refl, sym, subst, ◌∙◌, ap, inl, inr, arith, length-append, get_or-set_same, get_or-set_other}
+use Rattle.std.specs.Prelude.{Option, Some, None, Result, Ok, Err, IfOk, IfSome, is_some}
 use Rattle.std.proofs.lemmas.Bool.{cases_eq, cases_lt}
 use Rattle.std.proofs.lemmas.List.{length-replicate, length-map, get_or-map, get_or-replicate, get_or_append_left, get_or-append_right, get_or_past, length-set}
 use Rattle.rv_gate.specs.Word.{bit_of}
-use Rattle.rv_gate.specs.Gate.{run, holds, same, xor}
+use Rattle.rv_gate.specs.Gate.{run, holds, xor}
 use Rattle.rv_gate.specs.declared.gate.Shape.{Shape}
-use Rattle.rv_gate.proofs.Bits.{xor_assoc, xor_false}
+use Rattle.rv_gate.proofs.Bits.{xor_assoc}
 use Rattle.rv_gate.proofs.inside.GateLemmas.{run-append, length-run}
 use Rattle.rv_blif.specs.Logic.{Logic, Node, values, IsLogic}
 use Rattle.rv_blif.specs.declared.product.Product.{Product}
 use Rattle.rv_compute.specs.declared.place.Place.{Place}
 use Rattle.rv_compute.specs.inside.Places.{place_at, AreRead}
-use Rattle.rv_compute.specs.inside.Sums.{sum_of, start_value, cover_value, IsSum, IsStart, PassesOn}
+use Rattle.rv_compute.specs.inside.Sums.{sum_of, cover_value, IsSum, IsStart, PassesOn}
 use Rattle.rv_compute.specs.inside.Blocks.{Adds}
 use Rattle.rv_compute.specs.inside.Held.{held_value, held_at, put_in, line_count, Stands, IsFree, Tells, ArePlacesFor, IsChange, IsExchanged, IsPut, IsPutFor, IsSource}
 use Rattle.rv_compute.proofs.inside.Signals.{node_bit, start_bit, source_is}

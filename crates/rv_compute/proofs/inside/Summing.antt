@@ -1,9 +1,9 @@
 -- Sums of products, evaluated at all sets of operands.
-use Rattle.std.proofs.Common.{◌≡◌, ℕ, ◌+◌, ◌^◌, ◌<◌, ◌≤◌, Bool, true, false, not, cond, ◌||◌, List, [], ◌∷◌, length, drop, get_or, refl, sym, subst, ◌∙◌, ap, arith}
+use Rattle.std.proofs.Common.{◌≡◌, ℕ, ◌+◌, ◌^◌, ◌<◌, ◌≤◌, Bool, true, false, not, ◌||◌, List, [], ◌∷◌, length, drop, get_or, refl, sym, subst, ◌∙◌, ap, arith}
 use Rattle.std.specs.Prelude.{Option, Some, None, IfSome}
 use Rattle.std.proofs.Math.Bool.{beq}
 use Rattle.std.proofs.lemmas.List.{at_drop_more, drop_all}
-use Rattle.rv_gate.specs.Word.{has, bit_of, word_with, ones_of}
+use Rattle.rv_gate.specs.Word.{has, word_with, ones_of}
 use Rattle.rv_gate.specs.Gate.{holds, xor}
 use Rattle.rv_gate.specs.inside.WordLaws.{bit_of-word_with}
 use Rattle.rv_gate.proofs.Bits.{xor_false, xor_assoc}

@@ -1,5 +1,5 @@
 -- What stands on the lines while a circuit is made.
-use Rattle.std.specs.Prelude.{ℕ, ◌≡◌, ◌≢◌, ◌+◌, ◌-◌, ◌<◌, ◌≤◌, ◌⊎◌, Bool, true, false, List, ◌++◌, length, replicate, slice_get, slice_index, slice_index_or, Option, Some, None, if◌then◌else◌, nat_lt, map, slice_set, All}
+use Rattle.std.specs.Prelude.{ℕ, ◌≡◌, ◌+◌, ◌-◌, ◌<◌, ◌≤◌, ◌⊎◌, Bool, true, false, List, ◌++◌, length, replicate, slice_get, slice_index, slice_index_or, Option, Some, None, if◌then◌else◌, nat_lt, map, slice_set, All}
 use Rattle.std.specs.Option.{option_map}
 use Rattle.rv_gate.specs.Word.{bit_of}
 use Rattle.rv_gate.specs.Gate.{run, xor, IsGate, FitsIn}

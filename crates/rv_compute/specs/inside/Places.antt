@@ -1,5 +1,5 @@
 -- Where the operands of a node stand.
-use Rattle.std.specs.Prelude.{ℕ, ◌≡◌, ◌≢◌, ◌<◌, Bool, List, length, slice_index_or, Option, Some, None, All}
+use Rattle.std.specs.Prelude.{ℕ, ◌≡◌, ◌≢◌, ◌<◌, Bool, List, slice_index_or, Option, Some, None}
 use Rattle.rv_gate.specs.Word.{bit_of}
 use Rattle.rv_gate.specs.Gate.{same}
 use Rattle.rv_compute.specs.declared.place.Place.{Place}

@@ -1,5 +1,5 @@
 -- Exclusive sums of products over a node's operands.
-use Rattle.std.specs.Prelude.{ℕ, ◌≡◌, ◌^◌, ◌<◌, Bool, true, false, List, [], ◌∷◌, length, slice_index, Option, Some, None, All}
+use Rattle.std.specs.Prelude.{ℕ, ◌≡◌, ◌^◌, ◌<◌, Bool, false, List, [], ◌∷◌, length, slice_index, Option, Some, None, All}
 use Rattle.rv_gate.specs.Word.{bit_of}
 use Rattle.rv_gate.specs.Gate.{holds, same, xor}
 use Rattle.rv_blif.specs.Logic.{Node, any_holds}

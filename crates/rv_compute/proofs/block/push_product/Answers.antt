@@ -2,7 +2,6 @@ use Rattle.std.proofs.Common.{◌≡◌, ◌++◌, ◌∷◌, [], List, ap, sym,
 use Rattle.rv_gate.specs.declared.gate.Shape.{Shape}
 use Rattle.rv_gate.specs.declared.gate.Shape.TheVariants.{Flip}
 use Rattle.rv_compute.specs.declared.controls.Controls.{Controls}
-use Rattle.rv_compute.specs.declared.controls.Controls.TheVariants.{Held, Never}
 use Rattle.rv_compute.specs.inside.Blocks.{AreControls, AddsMore}
 use Rattle.rv_compute.proofs.inside.Adding.{adds_never, adds_flip}
 use Rattle.rv_compute.proofs.block.push_product.Goals as goal

@@ -1,4 +1,3 @@
-use Rattle.rv_compute.specs.inside.Held.{line_count}
 use Rattle.rv_compute.proofs.Gives.{gives_found}
 use Rattle.rv_compute.proofs.circuit.compute.Goals as goal
 

@@ -1,4 +1,4 @@
-use Rattle.std.proofs.Common.{◌≡◌, ◌+◌, true, ap, sym, ◌∙◌, arith, length}
+use Rattle.std.proofs.Common.{◌+◌, ap, sym, ◌∙◌, arith}
 use Rattle.rv_gate.specs.Word.{has}
 use Rattle.rv_compute.specs.declared.controls.Controls.TheVariants.{Held, Never}
 use Rattle.rv_compute.proofs.inside.Asking.{asked_first, asked_none, asked_more, asked_all, asked_never, asked_controls, have_asked}

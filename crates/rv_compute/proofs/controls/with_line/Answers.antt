@@ -1,5 +1,4 @@
-use Rattle.std.proofs.Common.{rules, ap, sym, ◌∙◌, ◌≡◌, true, false, not}
-use Rattle.rv_gate.specs.Word.{has}
+use Rattle.std.proofs.Common.{rules, ap, sym, ◌∙◌, not}
 use Rattle.rv_compute.proofs.inside.Asking.{beq-true, beq-false, asked_again, asked_otherwise, asked_as_wanted, asked_changed}
 use Rattle.rv_compute.proofs.controls.with_line.Goals as goal
 

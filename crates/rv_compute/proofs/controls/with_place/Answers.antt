@@ -1,4 +1,4 @@
-use Rattle.std.proofs.Common.{◌≡◌, ◌&&◌, Bool, List, ap, sym, subst, ◌∙◌}
+use Rattle.std.proofs.Common.{◌&&◌, Bool, ap, sym, subst, ◌∙◌}
 use Rattle.rv_gate.specs.Gate.{holds, same}
 use Rattle.rv_compute.specs.declared.place.Place.{Place}
 use Rattle.rv_compute.specs.inside.Places.{place_value}

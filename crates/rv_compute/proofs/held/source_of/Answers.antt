@@ -1,5 +1,5 @@
-use Rattle.std.proofs.Common.{rules, ◌+◌, ◌-◌, ◌<◌, ℕ, List, length, get_or, ap, subst, ◌∙◌, arith, ◌≡◌}
-use Rattle.std.specs.Prelude.{Option, IfSome}
+use Rattle.std.proofs.Common.{rules, ◌-◌, ℕ, List, length, get_or, ap, subst, ◌∙◌, arith}
+use Rattle.std.specs.Prelude.{IfSome}
 use Rattle.rv_blif.specs.Logic.{Node}
 use Rattle.rv_compute.specs.inside.Sums.{IsStart}
 use Rattle.rv_compute.proofs.inside.Standing.{source_if}

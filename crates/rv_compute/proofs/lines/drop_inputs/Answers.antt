@@ -1,6 +1,6 @@
-use Rattle.std.proofs.Common.{◌+◌, ◌-◌, ◌≡◌, ◌++◌, replicate, set, ◌∙◌, ap, sym, arith, true, false, append_assoc}
+use Rattle.std.proofs.Common.{◌-◌, ◌≡◌, ◌++◌, replicate, set, ◌∙◌, ap, sym, arith, true, false, append_assoc}
 use Rattle.rv_gate.specs.Circuit.{Cascade}
-use Rattle.rv_compute.proofs.Marks.{mark_none, mark_before, with_garbage}
+use Rattle.rv_compute.proofs.Marks.{mark_before, with_garbage}
 use Rattle.std.proofs.lemmas.List.{replicate-append-replicate}
 use Rattle.rv_compute.proofs.lines.drop_inputs.Goals as goal
 

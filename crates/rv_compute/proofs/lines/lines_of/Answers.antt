@@ -10,8 +10,12 @@ new-requires c =
 
 pub hold_zeros-requires-clause-lines : goal.hold_zeros-requires-clause-lines
 hold_zeros-requires-clause-lines c =
-    omega (arith, ap (λ (t : Cascade). length t.names) c.in_ok-circuit.ensures, ap length c.in_ok-names.ensures,
-      length-line_names c.args.inputs c.args.outputs c.args.work)
+    omega (
+      arith,
+      ap (λ (t : Cascade). length t.names) c.in_ok-circuit.ensures,
+      ap length c.in_ok-names.ensures,
+      length-line_names c.args.inputs c.args.outputs c.args.work,
+    )
 
 pub hold_zeros-requires-clause-fresh : goal.hold_zeros-requires-clause-fresh
 hold_zeros-requires-clause-fresh c =
@@ -21,9 +25,13 @@ hold_zeros-requires-clause-fresh c =
 
 pub drop_last-requires-clause-lines : goal.drop_last-requires-clause-lines
 drop_last-requires-clause-lines c =
-    omega (arith, ap (λ (t : Cascade). length t.names) c.hold_zeros.ensures,
-      ap (λ (t : Cascade). length t.names) c.in_ok-circuit.ensures, ap length c.in_ok-names.ensures,
-      length-line_names c.args.inputs c.args.outputs c.args.work)
+    omega (
+      arith,
+      ap (λ (t : Cascade). length t.names) c.hold_zeros.ensures,
+      ap (λ (t : Cascade). length t.names) c.in_ok-circuit.ensures,
+      ap length c.in_ok-names.ensures,
+      length-line_names c.args.inputs c.args.outputs c.args.work,
+    )
 
 pub drop_last-requires-clause-fresh : goal.drop_last-requires-clause-fresh
 drop_last-requires-clause-fresh c =
@@ -34,7 +42,11 @@ drop_last-requires-clause-fresh c =
 
 pub drop_inputs-requires-clause-lines : goal.drop_inputs-requires-clause-lines
 drop_inputs-requires-clause-lines c =
-    omega (arith, ap (λ (t : Cascade). length t.names) c.drop_last.ensures,
+    omega (
+      arith,
+      ap (λ (t : Cascade). length t.names) c.drop_last.ensures,
       ap (λ (t : Cascade). length t.names) c.hold_zeros.ensures,
-      ap (λ (t : Cascade). length t.names) c.in_ok-circuit.ensures, ap length c.in_ok-names.ensures,
-      length-line_names c.args.inputs c.args.outputs c.args.work)
+      ap (λ (t : Cascade). length t.names) c.in_ok-circuit.ensures,
+      ap length c.in_ok-names.ensures,
+      length-line_names c.args.inputs c.args.outputs c.args.work,
+    )

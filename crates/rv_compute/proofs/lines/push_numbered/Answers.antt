@@ -1,5 +1,4 @@
-use Rattle.std.proofs.Common.{length, ◌∙◌, ap, arith, ◌++◌, ◌∷◌, [], sym}
-use Rattle.rv_gate.specs.Names.{numbered}
+use Rattle.std.proofs.Common.{length, ◌∙◌, ap, arith, ◌++◌, ◌∷◌, []}
 use Rattle.rv_gate.proofs.NameLemmas.{length-numbered}
 use Rattle.rv_compute.proofs.Marks.{name_next}
 use Rattle.rv_compute.proofs.lines.push_numbered.Goals as goal

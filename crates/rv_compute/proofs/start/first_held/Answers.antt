@@ -1,5 +1,4 @@
-use Rattle.std.proofs.Common.{ℕ, ◌+◌, ◌≤◌, ◌≡◌, length, subst, arith, ap}
-use Rattle.rv_compute.specs.inside.Held.{line_count}
+use Rattle.std.proofs.Common.{ℕ, subst, arith}
 use Rattle.rv_compute.proofs.inside.Ends.{HaveFirst, first_stands}
 use Rattle.rv_compute.proofs.start.first_held.Goals as goal
 

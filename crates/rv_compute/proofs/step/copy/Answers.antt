@@ -1,4 +1,4 @@
-use Rattle.std.proofs.Common.{rules, ◌≡◌, ◌<◌, ℕ, List, [], ◌∷◌, length, get_or, ap, sym, subst, refl, ◌∙◌}
+use Rattle.std.proofs.Common.{rules, ◌≡◌, ◌<◌, ℕ, [], ◌∷◌, length, get_or, ap, sym, subst, refl, ◌∙◌}
 use Rattle.std.specs.Prelude.{Option, Some, None}
 use Rattle.rv_blif.specs.declared.product.Product.{Product}
 use Rattle.rv_compute.specs.inside.Held.{held_at, IsChange}

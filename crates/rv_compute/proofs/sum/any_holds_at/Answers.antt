@@ -1,4 +1,4 @@
-use Rattle.std.proofs.Common.{sym, ◌∙◌, true}
+use Rattle.std.proofs.Common.{sym, ◌∙◌}
 use Rattle.rv_gate.specs.Word.{word_with}
 use Rattle.rv_compute.proofs.inside.Summing.{any_here}
 use Rattle.rv_compute.proofs.sum.any_holds_at.Goals as goal

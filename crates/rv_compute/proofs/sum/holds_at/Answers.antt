@@ -1,4 +1,4 @@
-use Rattle.std.proofs.Common.{◌≡◌, eqb, ap, ◌∙◌}
+use Rattle.std.proofs.Common.{eqb, ap, ◌∙◌}
 use Rattle.std.specs.Prelude.{bit_and, bit_xor}
 use Rattle.rv_gate.proofs.LineSets.{Within-below}
 use Rattle.rv_gate.proofs.inside.WordLemmas.{held}

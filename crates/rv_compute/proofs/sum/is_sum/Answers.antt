@@ -1,4 +1,4 @@
-use Rattle.std.proofs.Common.{◌≡◌, ◌^◌, ◌≤◌, ◌*◌, ◌%◌, ap, length, arith}
+use Rattle.std.proofs.Common.{◌≡◌, ◌^◌, ◌*◌, ◌%◌, ap, length, arith}
 use Rattle.std.proofs.lemmas.Nat.{one_shl}
 use Rattle.rv_compute.proofs.inside.Summing.{is_sum_all}
 use Rattle.rv_compute.proofs.sum.is_sum.Goals as goal

@@ -1,4 +1,4 @@
-use Rattle.std.proofs.Common.{ap, ◌∙◌, ◌≡◌}
+use Rattle.std.proofs.Common.{ap, ◌∙◌}
 use Rattle.rv_gate.specs.Word.{has}
 use Rattle.rv_compute.proofs.inside.Summing.{start_is, below_start}
 use Rattle.rv_compute.proofs.sum.start_at.Goals as goal

@@ -1,4 +1,4 @@
-use Rattle.std.proofs.Common.{◌≡◌, ap, ◌∙◌, Bool, drop, ◌+◌}
+use Rattle.std.proofs.Common.{ap, ◌∙◌, Bool, drop, ◌+◌}
 use Rattle.rv_gate.specs.Word.{word_with}
 use Rattle.rv_gate.specs.Gate.{xor}
 use Rattle.rv_compute.specs.inside.Sums.{sum_of}
