@@ -1,7 +1,7 @@
 -- What the lines of a text say: names, and what drives them.
 --
 -- A name goes by its number: names are counted in the order in which they first stand in the text.
-use Rattle.std.specs.Prelude.{◌≡◌, ℕ, ◌+◌, Bool, false, List, [], ◌∷◌, length, map, slice_index_or, All, Option, None, Some}
+use Rattle.std.specs.Prelude.{◌≡◌, ℕ, Bool, List, [], map, slice_index_or, All}
 use Rattle.rv_gate.specs.Word.{bit_of}
 use Rattle.rv_blif.specs.declared.port.Port.{Port}
 use Rattle.rv_blif.specs.Logic.{Node, node_value}
