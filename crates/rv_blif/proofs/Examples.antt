@@ -28,3 +28,15 @@ nothing_in_it = refl
 off_cover : table 1 (logic_of (codes ".inputs a\n.outputs y\n.names a y\n1 0\n")) ≡ 1 ∷ 0 ∷ 1 ∷ 0 ∷ 1 ∷ 0 ∷ 1 ∷ 0 ∷ []
 unfolding object_of whole_of line_of directive_of with_name goes_on ones_of holds values outputs_of number_of word_of
 off_cover = refl
+
+-- a full adder, whose sum is written before the cover that it needs
+full_adder : table 3
+    (logic_of
+    (codes ".inputs a b \\\nc\n.outputs s\n.outputs d\n.names p c s\n10 1\n01 1\n.names a b p\n10 1\n01 1\n.names a b c d\n11- 1\n1-1 1\n-11 1\n.end\n"))
+    ≡ 0 ∷ 2 ∷ 2 ∷ 1 ∷ 2 ∷ 1 ∷ 1 ∷ 3 ∷ []
+unfolding object_of whole_of line_of directive_of with_name goes_on ones_of holds values outputs_of number_of word_of
+full_adder = refl
+
+driven_in_a_circle : logic_of (codes ".outputs y\n.names x y\n1 1\n.names y x\n1 1\n") ≡ at 2 16
+unfolding object_of whole_of line_of directive_of with_name goes_on ones_of holds values outputs_of number_of word_of
+driven_in_a_circle = refl
