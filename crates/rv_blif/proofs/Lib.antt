@@ -3,3 +3,4 @@ pub mod NodeLaws
 pub mod NameLaws
 pub mod PlacingLaws
 pub mod ValueLaws
+mod Examples

@@ -1,5 +1,5 @@
 -- What every placing keeps, step by step.
-use Rattle.std.proofs.Common.{◌≡◌, ℕ, zero, suc, ◌+◌, ◌-◌, ◌<◌, ◌≤◌, Bool, true, false, ◌&&◌, List, [], ◌∷◌, ◌++◌, length, get_or, set, map, replicate, drop, slice_get, is_some, All, IfSome, Option, None, Some, refl, sym, ap, ◌∙◌, arith, add-one, drop-cons, length-append}
+use Rattle.std.proofs.Common.{◌≡◌, ℕ, zero, suc, ◌+◌, ◌-◌, ◌<◌, ◌≤◌, true, false, List, [], ◌∷◌, ◌++◌, length, get_or, set, replicate, drop, slice_get, is_some, All, IfSome, Option, None, Some, refl, sym, ap, ◌∙◌, arith, add-one, drop-cons, length-append}
 use Rattle.std.proofs.Common.{eqb}
 use Rattle.std.proofs.lemmas.Bool.{and_parts, ne_eqb, true≢false}
 use Rattle.std.proofs.lemmas.List.{length-map}

@@ -1,10 +1,10 @@
 -- The characters of a row, as sets.
-use Rattle.std.proofs.Common.{◌≡◌, ℕ, ◌+◌, ◌-◌, ◌*◌, ◌^◌, ◌<◌, ◌≤◌, Bool, true, false, cond, List, length, get_or, map, take, drop, refl, sym, ap, ◌∙◌, inl, inr, arith, drop-cons, add-one, nat_eq, ◌||◌}
-use Rattle.std.proofs.lemmas.Bool.{cases_eq, cases_lt, or_left, or_right, true≢false}
+use Rattle.std.proofs.Common.{◌≡◌, ℕ, ◌+◌, ◌-◌, ◌*◌, ◌^◌, ◌<◌, ◌≤◌, Bool, false, cond, List, length, get_or, map, drop, refl, sym, ap, ◌∙◌, inl, inr, arith, drop-cons, add-one, nat_eq}
+use Rattle.std.proofs.lemmas.Bool.{cases_eq, cases_lt, or_right, true≢false}
 use Rattle.std.proofs.lemmas.Nat.{pow_below}
-use Rattle.std.proofs.lemmas.List.{length-drop, length-map, length-take-le, drop_all, get_or-map}
+use Rattle.std.proofs.lemmas.List.{length-drop, length-map, drop_all, get_or-map}
 use Rattle.std.proofs.Math.ListN.{get_or-eq_default}
-use Rattle.rv_gate.specs.Word.{has, ones_of, bit_of}
+use Rattle.rv_gate.specs.Word.{ones_of, bit_of}
 use Rattle.rv_gate.specs.Gate.{WantsControls}
 use Rattle.rv_gate.proofs.inside.Ones.{has-ones_of, ones_of-lt}
 use Rattle.rv_blif.specs.Logic.{IsProduct}

@@ -1,6 +1,6 @@
 -- What the lines of a BLIF text give, one after another.
-use Rattle.std.specs.Prelude.{ℕ, ◌+◌, ◌-◌, ◌≤◌, Bool, true, false, not, List, [], ◌∷◌, ◌++◌, length, take, ◌==◌, ◌&&◌, if◌then◌else◌, nat_lt, slice_index, slice_index_or, slice_set, is_some, Option, Some, None, Result, Ok, Err, codes}
-use Rattle.std.specs.List.{list_all, position}
+use Rattle.std.specs.Prelude.{ℕ, ◌+◌, ◌-◌, Bool, true, false, not, List, [], ◌∷◌, ◌++◌, length, take, ◌==◌, ◌&&◌, if◌then◌else◌, nat_lt, slice_index, slice_index_or, slice_set, Option, Some, None, Result, Ok, Err, codes}
+use Rattle.std.specs.List.{position}
 use Rattle.std.specs.Str.{bytes_eq}
 use Rattle.rv_text.specs.Bytes.{begins_with_dot}
 use Rattle.rv_text.specs.Tokens.{Lexeme, joined}
@@ -10,7 +10,6 @@ use Rattle.rv_blif.specs.declared.code.TheConstants as code
 use Rattle.rv_blif.specs.declared.logic.TheConstants.{MOST_SIGNALS}
 use Rattle.rv_blif.specs.declared.product.Product.{Product}
 use Rattle.rv_blif.specs.declared.product.TheConstants.{MOST_OPERANDS}
-use Rattle.rv_blif.specs.Logic.{Node}
 use Rattle.rv_blif.specs.declared.port.Port.{Port}
 use Rattle.rv_blif.specs.Netlist.{Netlist, Cover}
 use Rattle.rv_blif.specs.Row.{are_literals, input_part, product_of}

@@ -1,5 +1,5 @@
 -- What a BLIF text denotes: a logic network, or its first fault.
-use Rattle.std.specs.Prelude.{ℕ, List, [], ◌∷◌, Option, Result, Ok, Err}
+use Rattle.std.specs.Prelude.{ℕ, List, [], ◌∷◌, Option, Result, Ok}
 use Rattle.std.specs.Result.{result_err}
 use Rattle.rv_text.specs.declared.fault.TextFault.{TextFault}
 use Rattle.rv_reader.specs.Feeding.{faulted, object_of}

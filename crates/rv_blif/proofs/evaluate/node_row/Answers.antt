@@ -1,4 +1,4 @@
-use Rattle.std.proofs.Common.{◌∙◌, ap, arith, sym, get_or, length}
+use Rattle.std.proofs.Common.{◌∙◌, ap, arith, get_or, length}
 use Rattle.rv_many.specs.Column.{column}
 use Rattle.rv_many.proofs.Columns.{blank}
 use Rattle.rv_blif.specs.Logic.{any_holds}

@@ -1,4 +1,4 @@
-use Rattle.std.proofs.Common.{◌∙◌, ap, sym, arith}
+use Rattle.std.proofs.Common.{sym}
 use Rattle.rv_blif.proofs.NodeLaws.{picked_more}
 use Rattle.rv_blif.proofs.logic.picked.Goals as goal
 

@@ -1,6 +1,5 @@
-use Rattle.std.proofs.Common.{◌∙◌, ◌+◌, ◌<◌, ap, arith, sym, drop, length, refl, length-append, ◌∷◌, ◌++◌, []}
+use Rattle.std.proofs.Common.{◌∙◌, ◌<◌, arith, sym, length-append}
 use Rattle.std.proofs.lemmas.List.Elements.{All-push}
-use Rattle.rv_blif.specs.Placing.{outputs_by}
 use Rattle.rv_blif.proofs.PlacingLaws.{port_below, ports_front}
 use Rattle.rv_blif.proofs.network.outputs_by.Goals as goal
 

@@ -1,6 +1,6 @@
 use Rattle.std.proofs.Common.{◌≡◌, ◌∙◌, ◌+◌, ◌*◌, ap, arith, cond, nat_eq}
 use Rattle.rv_blif.specs.Row.{is_bit}
-use Rattle.rv_blif.proofs.RowLaws.{few_from, from_all, from_more, product_is}
+use Rattle.rv_blif.proofs.RowLaws.{from_all, from_more, product_is}
 use Rattle.rv_blif.proofs.row.product_of.Goals as goal
 
 pub loop-i-init : goal.loop-i-init

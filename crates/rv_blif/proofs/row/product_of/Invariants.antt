@@ -1,4 +1,4 @@
-use Rattle.std.proofs.Common.{◌≡◌, ◌≤◌, length, nat_eq}
+use Rattle.std.proofs.Common.{◌≤◌, length, nat_eq}
 use Rattle.rv_blif.specs.Row.{is_bit}
 use Rattle.rv_blif.proofs.RowLaws.{AreFrom}
 use Rattle.rv_blif.proofs.row.product_of.Given as goal

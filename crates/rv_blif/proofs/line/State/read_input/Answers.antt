@@ -1,4 +1,4 @@
-use Rattle.std.proofs.Common.{◌∙◌, ◌+◌, ap, arith, length-append}
+use Rattle.std.proofs.Common.{◌∙◌, ap, arith, length-append}
 use Rattle.rv_blif.specs.Given.{Given, signals_given}
 use Rattle.rv_blif.proofs.line.State.read_input.Goals as goal
 

@@ -1,9 +1,8 @@
-use Rattle.std.proofs.Common.{◌≡◌, ◌∙◌, ap, sym, arith, take, length, map, List}
+use Rattle.std.proofs.Common.{◌≡◌, ◌∙◌, ap, sym, arith, take, length, map}
 use Rattle.std.proofs.lemmas.List.{take-map}
 use Rattle.rv_gate.specs.Word.{bit_of}
 use Rattle.rv_many.specs.Column.{column, row_bit}
-use Rattle.rv_many.specs.declared.row.Row.{Row}
-use Rattle.rv_blif.specs.Logic.{Output, outputs_of, values}
+use Rattle.rv_blif.specs.Logic.{outputs_of, values}
 use Rattle.rv_blif.proofs.NodeLaws.{written_back}
 use Rattle.rv_blif.proofs.logic.Logic.output_rows.Goals as goal
 

@@ -1,4 +1,4 @@
-use Rattle.std.proofs.Common.{◌≡◌, ◌∙◌, ◌+◌, ap, arith, sym, length, take, refl}
+use Rattle.std.proofs.Common.{◌∙◌, ◌+◌, ap, arith, sym, length, take}
 use Rattle.std.proofs.lemmas.List.{length-take-le, take_all}
 use Rattle.rv_many.specs.Column.{column}
 use Rattle.rv_many.proofs.Columns.{length-column}
