@@ -24,7 +24,11 @@ impl Model for Cover {
 
     ghost Value = { TheCover };
 
-    ghost view = { λ c. record { line = c.line; node = record { operands = c.operands.items; products = c.products.items; on = c.on }; name = c.name } };
+    ghost view = { λ c. record {
+      line = c.line;
+      node = record { operands = c.operands.items; products = c.products.items; on = c.on };
+      name = c.name;
+    } };
 
     ghost invariant = { λ c. IsCover (record { operands = c.operands.items; products = c.products.items; on = c.on }) };
 }

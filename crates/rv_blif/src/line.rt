@@ -51,9 +51,31 @@ impl Model for State {
 
     ghost Value = { Given };
 
-    ghost view = { λ s. record { names = s.names; driven = s.driven.items; exported = s.exported.items; inputs = s.inputs.items; outputs = s.outputs.items; covers = s.covers.items; last = s.last; is_named = s.named; begun = s.begun.items; is_ended = s.ended } };
+    ghost view = { λ s. record {
+      names = s.names;
+      driven = s.driven.items;
+      exported = s.exported.items;
+      inputs = s.inputs.items;
+      outputs = s.outputs.items;
+      covers = s.covers.items;
+      last = s.last;
+      is_named = s.named;
+      begun = s.begun.items;
+      is_ended = s.ended;
+    } };
 
-    ghost invariant = { λ s. IsGiven (record { names = s.names; driven = s.driven.items; exported = s.exported.items; inputs = s.inputs.items; outputs = s.outputs.items; covers = s.covers.items; last = s.last; is_named = s.named; begun = s.begun.items; is_ended = s.ended }) };
+    ghost invariant = { λ s. IsGiven (record {
+      names = s.names;
+      driven = s.driven.items;
+      exported = s.exported.items;
+      inputs = s.inputs.items;
+      outputs = s.outputs.items;
+      covers = s.covers.items;
+      last = s.last;
+      is_named = s.named;
+      begun = s.begun.items;
+      is_ended = s.ended;
+    }) };
 }
 
 impl State {
@@ -152,7 +174,8 @@ impl State {
         requires from { from ≤ length line.now }
         requires closed { self.old.last ≡ None }
         ensures closed { OnOk result (self.new.last ≡ None) }
-        ensures numbers { IfOk result (λ numbers. record { given = self.new; numbers = numbers.items } ≡ numbered self.old [] (tokens_of false [] (drop from line.now))) }
+        ensures numbers { IfOk result (λ numbers. record { given = self.new; numbers = numbers.items }
+            ≡ numbered self.old [] (tokens_of false [] (drop from line.now))) }
     {
         let mut numbers = Vec::new(self.alloc);
         let mut at = from;

@@ -32,7 +32,11 @@ impl Model for Logic {
 
     ghost view = { λ l. record { inputs = map (λ name. name.items) l.inputs.items; nodes = l.nodes.items; outputs = l.outputs.items } };
 
-    ghost invariant = { λ l. IsLogic (record { inputs = map (λ name. name.items) l.inputs.items; nodes = l.nodes.items; outputs = l.outputs.items }) };
+    ghost invariant = { λ l. IsLogic (record {
+      inputs = map (λ name. name.items) l.inputs.items;
+      nodes = l.nodes.items;
+      outputs = l.outputs.items;
+    }) };
 }
 
 impl Logic {
@@ -57,7 +61,8 @@ impl Logic {
 
     /// For proofs: the bit of each node is that of its cover, by the bits of its operands. Does nothing when it runs.
     pub fn recall_values(&self)
-        ensures { (word : List Bool) → length word ≡ length self.now.inputs → (k : ℕ) (node : TheNode) → slice_get self.now.nodes k ≡ Some node
+        ensures { (word : List Bool) → length word ≡ length self.now.inputs → (k : ℕ) (node : TheNode)
+            → slice_get self.now.nodes k ≡ Some node
             → bit_of (values self.now word) (length self.now.inputs + k) ≡ node_value node (values self.now word) }
     {
         self.recall_invariant();
@@ -146,7 +151,8 @@ fn signal_rows(alloc: Global, inputs: &[Row], count: usize) -> Result<Vec<Row>, 
 // The rows of outputs, by those of all signals.
 fn picked(alloc: Global, outputs: &[Output], rows: &[Row]) -> Result<Vec<Row>, AllocError>
     requires { All (λ output. output.signal < length rows.now) outputs.now }
-    ensures { IfOk result (λ picked. (j : ℕ) → column picked.items j ≡ map (λ output. bit_of (column rows.now j) output.signal) outputs.now) }
+    ensures { IfOk result (λ picked. (j : ℕ)
+        → column picked.items j ≡ map (λ output. bit_of (column rows.now j) output.signal) outputs.now) }
 {
     let mut picked = Vec::new(alloc);
     for output in outputs {

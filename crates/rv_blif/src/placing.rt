@@ -26,7 +26,12 @@ impl Model for Placing {
 
     ghost view = { λ p. record { inputs = p.inputs; signals = p.signals.items; nodes = p.nodes.items; left = p.left.items } };
 
-    ghost invariant = { λ p. IsPlacing (record { inputs = p.inputs; signals = p.signals.items; nodes = p.nodes.items; left = p.left.items }) };
+    ghost invariant = { λ p. IsPlacing (record {
+      inputs = p.inputs;
+      signals = p.signals.items;
+      nodes = p.nodes.items;
+      left = p.left.items;
+    }) };
 }
 
 fn all_placed(signals: &[Option<u32>], names: &[usize]) -> bool
