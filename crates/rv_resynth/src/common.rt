@@ -78,7 +78,7 @@ pub(crate) fn common_of(gates: &[Gate], lines: u32, random: &mut Random) -> Comm
         return Common::none();
     };
     let wide = first.touched().count_ones() > lines;
-    if !first.is_flip() || !wide && random.below(2) != 0 {
+    if !first.is_flip() || !wide && random.below(3) != 0 {
         return Common::none();
     }
     let reach = 2 + random.below(PARTNERS);

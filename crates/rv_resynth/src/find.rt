@@ -201,15 +201,15 @@ pub(crate) fn find(
     let count = if common.is_none() { count } else { count + 1 };
     match count {
         0..=6 => {
-            let space: Space<Sixfold> = Space::new(alloc, count, bundle, plan.controls, prices)?;
+            let space: Space<Sixfold> = Space::new(alloc, count, bundle, prices)?;
             find_on(&space, alloc, gates, lines, common, plan)
         }
         7 => {
-            let space: Space<Sevenfold> = Space::new(alloc, count, bundle, plan.controls, prices)?;
+            let space: Space<Sevenfold> = Space::new(alloc, count, bundle, prices)?;
             find_on(&space, alloc, gates, lines, common, plan)
         }
         8 => {
-            let space: Space<Eightfold> = Space::new(alloc, count, bundle, plan.controls, prices)?;
+            let space: Space<Eightfold> = Space::new(alloc, count, bundle, prices)?;
             find_on(&space, alloc, gates, lines, common, plan)
         }
         _ => Ok(None),

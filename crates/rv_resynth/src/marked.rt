@@ -230,15 +230,15 @@ pub(crate) fn find_completion(
     match lines {
         0..=5 => Ok(None),
         6 => {
-            let space: Space<Sixfold> = Space::new(alloc, lines, NO_BUNDLE, plan.controls, prices)?;
+            let space: Space<Sixfold> = Space::new(alloc, lines, NO_BUNDLE, prices)?;
             find_completed(&space, alloc, circuit, number, plan)
         }
         7 => {
-            let space: Space<Sevenfold> = Space::new(alloc, lines, NO_BUNDLE, plan.controls, prices)?;
+            let space: Space<Sevenfold> = Space::new(alloc, lines, NO_BUNDLE, prices)?;
             find_completed(&space, alloc, circuit, number, plan)
         }
         8 => {
-            let space: Space<Eightfold> = Space::new(alloc, lines, NO_BUNDLE, plan.controls, prices)?;
+            let space: Space<Eightfold> = Space::new(alloc, lines, NO_BUNDLE, prices)?;
             find_completed(&space, alloc, circuit, number, plan)
         }
         _ => Ok(None),
@@ -274,15 +274,15 @@ pub(crate) fn find_marked(
     }
     match input_lines(circuit) {
         0..=6 => {
-            let space: Space<Sixfold> = Space::new(alloc, lines, NO_BUNDLE, plan.controls, prices)?;
+            let space: Space<Sixfold> = Space::new(alloc, lines, NO_BUNDLE, prices)?;
             find_free(&space, alloc, circuit, plan)
         }
         7 => {
-            let space: Space<Sevenfold> = Space::new(alloc, lines, NO_BUNDLE, plan.controls, prices)?;
+            let space: Space<Sevenfold> = Space::new(alloc, lines, NO_BUNDLE, prices)?;
             find_free(&space, alloc, circuit, plan)
         }
         _ => {
-            let space: Space<Eightfold> = Space::new(alloc, lines, NO_BUNDLE, plan.controls, prices)?;
+            let space: Space<Eightfold> = Space::new(alloc, lines, NO_BUNDLE, prices)?;
             find_free(&space, alloc, circuit, plan)
         }
     }

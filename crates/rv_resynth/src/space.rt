@@ -68,9 +68,10 @@ pub(crate) struct Space<T> {
     variables: Vec<T>,
 }
 
-// The controls of a number whose digits, of base 3, tell each line: no control, one that wants 1, one that wants 0.
-fn controls_of(number: usize, lines: usize) -> (u8, u8) {
+// The cube of a number whose digits, of base 3, tell each line: no control, one that wants 1, one that wants 0.
+fn cube_of(number: usize, lines: usize, bundle: Bundle, prices: &Prices) -> Cube {
     let (mut care, mut want, mut rest) = (0u8, 0u8, number);
+    let (mut without, mut turned, mut usable) = (number, number, true);
     for line in 0..lines.min(PLACES) {
         let digit = rest % 3;
         rest /= 3;
@@ -80,66 +81,28 @@ fn controls_of(number: usize, lines: usize) -> (u8, u8) {
         if digit == 1 {
             want |= 1 << line;
         }
+        if digit == 2 {
+            if without == number {
+                turned = number.saturating_sub(CUBES[line]);
+                without = turned.saturating_sub(CUBES[line]);
+            }
+            usable = usable && line != bundle.line;
+        }
     }
-    (care, want)
-}
-
-// The number of the cube without the lowest control that wants 0, and of that in which it wants 1.
-fn told_by(number: usize, care: u8, want: u8) -> (usize, usize) {
-    let lowest = usize::from(care & !want).trailing_zeros() as usize;
-    let power = match CUBES.get(lowest) {
-        Some(power) => *power,
-        None => 0,
-    };
-    let turned = number.saturating_sub(power);
-    (turned.saturating_sub(power), turned)
-}
-
-// The number that stands for one in a list.
-fn number_in(places: &[usize], number: usize) -> usize {
-    match places.get(number) {
-        Some(place) => *place,
-        None => 0,
-    }
-}
-
-// What a flip with these controls costs, of which one may stand for several.
-fn price_of(care: u8, bundle: Bundle, prices: &Prices) -> u32 {
     let mut controls = care.count_ones();
     if bundle.line < PLACES && care >> bundle.line & 1 == 1 {
         controls = controls
             .saturating_add(bundle.size.min(64))
             .saturating_sub(1);
     }
-    prices.flip(controls)
-}
-
-// The cubes of so many lines that have few enough controls.
-fn cubes_of(
-    alloc: Global,
-    lines: usize,
-    bundle: Bundle,
-    controls: u32,
-    prices: &Prices,
-) -> Result<Vec<Cube>, AllocError> {
-    let mut cubes = Vec::new(alloc);
-    let mut places = Vec::new(alloc);
-    for number in 0..CUBES[lines.min(PLACES)] {
-        places.push(cubes.len())?;
-        let (care, want) = controls_of(number, lines);
-        if care.count_ones() <= controls {
-            let (without, turned) = told_by(number, care, want);
-            cubes.push(Cube {
-                care,
-                want,
-                price: price_of(care, bundle, prices),
-                without: number_in(&places, without),
-                turned: number_in(&places, turned),
-                usable: bundle.line >= PLACES || (care & !want) >> bundle.line & 1 == 0,
-            })?;
-        }
+    Cube {
+        care,
+        want,
+        price: prices.flip(controls),
+        without,
+        turned,
+        usable,
     }
-    Ok(cubes)
 }
 
 impl<T: Table> Space<T> {
@@ -147,11 +110,13 @@ impl<T: Table> Space<T> {
         alloc: Global,
         lines: usize,
         bundle: Bundle,
-        controls: u32,
         prices: &Prices,
     ) -> Result<Space<T>, AllocError> {
         let lines = lines.min(PLACES);
-        let cubes = cubes_of(alloc, lines, bundle, controls, prices)?;
+        let mut cubes = Vec::new(alloc);
+        for number in 0..CUBES[lines] {
+            cubes.push(cube_of(number, lines, bundle, prices))?;
+        }
         let mut variables = Vec::new(alloc);
         for line in 0..lines {
             variables.push(T::variable(line))?;

@@ -1,40 +1,34 @@
-ghost use Rattle.std.specs.Prelude.{◌≡◌, ℕ, ◌+◌, ◌<◌, ◌≤◌, length, take, drop, All, IfOk, OnOk};
+ghost use Rattle.std.specs.Prelude.{◌≡◌, ℕ, ◌+◌, ◌<◌, ◌≤◌, length, All, IfOk, IfSome};
 ghost use Rattle.rv_gate.specs.declared.circuit.TheConstants.{MOST_GATES};
-ghost use Rattle.rv_resynth.specs.inside.Windows.{AreGates, Replaces, Splits};
+ghost use Rattle.rv_resynth.specs.inside.Windows.{AreGates, Replaces};
 
 use crate::beam::Plan;
 use crate::common::{Common, common_of};
 use crate::find::find;
 use crate::prices::Prices;
 use crate::random::Random;
-use crate::lines::span;
-use crate::replacing::{can_replace, have_room, replace};
+use crate::replacing::{can_replace, replaced};
 use crate::scale::SCALES;
 use crate::thin::thinned;
-use crate::window::{Choice, Window, collect};
+use crate::window::{Choice, collect};
 use rv_gate::{Gate, MOST_GATES};
 use std::alloc::{AllocError, Global};
 
 // What a window costs, at most, unless its first gate is dear.
-const LIMITS: [u32; 4] = [60, 120, 240, 480];
+const LIMITS: [u32; 4] = [30, 60, 120, 240];
 
 // What is found in a window costs no more than this.
 const MOST_PRICE: u64 = 4000;
 
-// A window has three lines or more, and mostly no more than six: one in so many has up to eight.
+// The lines of most windows, and one in so many has up to two more.
 const MOST_LINES: usize = 6;
 
-const WIDE: usize = 12;
+const WIDE: usize = 4;
 
 // So many permutations are looked at in a window of much cost, and at most so many of each cost.
-const NODES: u64 = 200;
+const NODES: u64 = 400;
 
 const MOST_WIDTH: u64 = 32;
-
-// How much work it is to look for gates on so many lines.
-const WORK: [u32; 9] = [1, 1, 1, 3, 24, 60, 120, 250, 500];
-
-const MOST_WORK: u32 = 1 << 24;
 
 // So many moves are made of each.
 const MOVES: usize = 100;
@@ -47,7 +41,7 @@ fn chosen(gates: &[Gate], prices: &Prices, random: &mut Random) -> Choice {
     };
     let more = if random.below(WIDE) == 0 { 2 } else { 0 };
     let lines = 3 + random.below(MOST_LINES - 2 + more) as u32;
-    let limit = LIMITS[random.below(LIMITS.len())].max(first.saturating_mul(3).saturating_add(20));
+    let limit = LIMITS[random.below(LIMITS.len())].max(first.saturating_mul(2).saturating_add(20));
     let common = common_of(gates, lines, random);
     let lines = if common.is_none() { lines } else { lines - 1 };
     Choice {
@@ -58,17 +52,8 @@ fn chosen(gates: &[Gate], prices: &Prices, random: &mut Random) -> Choice {
     }
 }
 
-// The most controls of a gate in a window of so many lines: on many lines there are too many gates to look at.
-fn controls_for(width: usize) -> u32 {
-    match width {
-        0..=6 => 8,
-        7 => 4,
-        _ => 3,
-    }
-}
-
-// How gates of some cost on so many lines are searched for.
-fn plan_for(width: usize, price: u64, random: &mut Random) -> Plan {
+// How gates of some cost are searched for.
+fn plan_for(price: u64, random: &mut Random) -> Plan {
     Plan {
         bound: price.min(MOST_PRICE) as usize + 1,
         width: (NODES / price.max(16)).clamp(1, MOST_WIDTH) as usize,
@@ -77,7 +62,7 @@ fn plan_for(width: usize, price: u64, random: &mut Random) -> Plan {
         scale: random.below(SCALES),
         salt: random.next() | 1,
         peres: random.below(2) == 0,
-        controls: controls_for(width),
+        controls: 8,
         patience: usize::MAX,
     }
 }
@@ -97,7 +82,7 @@ fn offered(
             None => None,
         }
     } else {
-        let plan = plan_for(width_of(window, common), prices.gates(window), random);
+        let plan = plan_for(prices.gates(window), random);
         find(alloc, window, common, prices, &plan)?
     };
     let Some(new) = found else {
@@ -109,117 +94,55 @@ fn offered(
     Ok(Some(new))
 }
 
-// A place at which a window may begin: of two, more often that of the dearer gate.
-fn place_in(gates: &[Gate], prices: &Prices, random: &mut Random) -> usize
-    requires { 0 < length gates.now }
-    ensures { result < length gates.now }
-{
-    let one = random.below(gates.len());
-    let other = random.below(gates.len());
-    if random.below(2) == 0 && prices.gate(gates[other]) > prices.gate(gates[one]) {
-        return other;
-    }
-    one
-}
-
-// How much work a search is on so many lines for gates of some cost.
-fn work_of(lines: usize, price: u64) -> u32 {
-    let all = match WORK.get(lines) {
-        Some(work) => *work,
-        None => 1,
-    };
-    1 + all.min(1 << 16) * price.min(16) as u32 / 16
-}
-
-// The lines of a window, and one for the common controls.
-fn width_of(window: &[Gate], common: &Common) -> usize {
-    let own = (span(window) & !common.care).count_ones() as usize;
-    if common.is_none() { own } else { own + 1 }
-}
-
-// Puts gates in the place of a window that was collected from a place on, from so many gates, if they make the same.
-#[tactic(auto, using(crate::proofs::inside::Splitting::replaces_self, crate::proofs::inside::Splitting::replaced_by))]
-fn put(
-    gates: &mut Vec<Gate>,
-    from: usize,
-    count: usize,
-    window: &Window,
-    new: &[Gate],
-    lines: u8,
-) -> Result<(), AllocError>
-    requires gates { AreGates lines gates.old.items }
-    requires few { length gates.old.items ≤ MOST_GATES }
-    requires from { from ≤ length gates.old.items }
-    requires count { count ≤ length (drop from gates.old.items) }
-    requires splits { Splits lines (take count (drop from gates.old.items)) window.now.gates.items window.now.passed.items }
-    ensures { OnOk result (Replaces lines gates.old.items gates.new.items) }
-{
-    let passed = window.passed.len();
-    if can_replace(&window.gates, new, lines) && have_room(gates.len(), count, new.len(), passed) {
-        return replace(gates, from, count, new, &window.passed);
-    }
-    Ok(())
-}
-
-// How much work a window is.
-fn work_for(window: &[Gate], common: &Common, prices: &Prices) -> u32 {
-    if window.len() < 2 {
-        return 1;
-    }
-    work_of(width_of(window, common), prices.gates(window))
-}
-
-// Tries one window. Says how much work it was.
-#[tactic(auto, using(crate::proofs::inside::Splitting::replaces_self))]
+// Tries one window. Answers what the gates become, and `None` if nothing is found that can stand in its place.
 fn attempt(
     alloc: Global,
-    gates: &mut Vec<Gate>,
+    gates: &[Gate],
     lines: u8,
     prices: &Prices,
     random: &mut Random,
-) -> Result<u32, AllocError>
-    requires gates { AreGates lines gates.old.items }
-    requires few { length gates.old.items ≤ MOST_GATES }
-    ensures { OnOk result (Replaces lines gates.old.items gates.new.items) }
+) -> Result<Option<Vec<Gate>>, AllocError>
+    requires gates { AreGates lines gates.now }
+    requires few { length gates.now ≤ MOST_GATES }
+    ensures { IfOk result (λ found. IfSome found (λ new. Replaces lines gates.now new.items)) }
 {
     if gates.is_empty() {
-        return Ok(MOST_WORK);
+        return Ok(None);
     }
-    let from = place_in(gates, prices, random);
-    let (_, rest) = gates.split_at(from);
-    let choice = chosen(rest, prices, random);
-    let (window, count) = collect(alloc, rest, &choice, random)?;
-    let common = &choice.common;
-    let work = work_for(&window.gates, common, prices);
-    let Some(new) = offered(alloc, &window.gates, common, lines, prices, random)? else {
-        return Ok(work);
+    let from = random.below(gates.len());
+    let choice = chosen(&gates[from..], prices, random);
+    let (window, count) = collect(alloc, &gates[from..], &choice, random)?;
+    let Some(new) = offered(alloc, &window.gates, &choice.common, lines, prices, random)? else {
+        return Ok(None);
     };
-    put(gates, from, count, &window, &new, lines)?;
-    Ok(work)
+    if !can_replace(&window.gates, &new, lines) {
+        return Ok(None);
+    }
+    let all = replaced(alloc, gates, from, count, &new, &window.passed)?;
+    if all.len() > MOST_GATES {
+        return Ok(None);
+    }
+    Ok(Some(all))
 }
 
-// Tries windows for so much work.
-#[tactic(auto, using(crate::proofs::inside::Splitting::replaces_self, crate::proofs::inside::Splitting::replaces_more))]
+// Tries so many windows, one after another.
 pub(crate) fn tried(
     alloc: Global,
-    old: Vec<Gate>,
+    old: &[Gate],
     lines: u8,
     prices: &Prices,
-    work: u32,
+    windows: u32,
     random: &mut Random,
 ) -> Result<Vec<Gate>, AllocError>
-    requires gates { AreGates lines old.items }
-    requires few { length old.items ≤ MOST_GATES }
-    ensures { IfOk result (λ new. Replaces lines old.items new.items) }
+    requires gates { AreGates lines old.now }
+    requires few { length old.now ≤ MOST_GATES }
+    ensures { IfOk result (λ new. Replaces lines old.now new.items) }
 {
-    let mut gates = old;
-    let mut done = 0;
-    for _ in 0..work {
-        if done >= work {
-            return Ok(gates);
+    let mut gates = Vec::from_slice(alloc, old)?;
+    for _ in 0..windows {
+        if let Some(better) = attempt(alloc, &gates, lines, prices, random)? {
+            gates = better;
         }
-        let more = attempt(alloc, &mut gates, lines, prices, random)?;
-        done = done.saturating_add(more);
     }
     Ok(gates)
 }
