@@ -39,6 +39,12 @@ impl From<AllocError> for ComputeFault {
 // More nodes than this are not looked at where there are lines for fewer.
 const MOST_NODES: usize = 1 << 16;
 
+// By how many more work lines an order is looked for that doesn't fit.
+static MORE_LINES: [u8; 8] = [1, 2, 4, 8, 16, 32, 64, 128];
+
+// A plan has at most so many.
+const MOST_WORK: u8 = 190;
+
 // At most so many gates a node takes.
 fn node_enough(node: &Node) -> u64
     ensures { result ≤ node_bound node.now }
@@ -70,12 +76,54 @@ fn found(alloc: Global, logic: &Logic, extra: u8) -> Result<Option<Circuit>, All
     }
 }
 
+// How many work lines the best order takes that is found on more than so many.
+fn wanted(alloc: Global, logic: &Logic, extra: u8) -> Result<Option<u8>, AllocError> {
+    let net = net_of(alloc, logic)?;
+    for step in MORE_LINES {
+        if let Some(plan) = best_plan(alloc, &net, extra.saturating_add(step).min(MOST_WORK))? {
+            return Ok(Some(plan.extra));
+        }
+    }
+    Ok(None)
+}
+
+// How many lines a network takes that has no circuit on so many: those of the best order, else one for each node.
+fn too_many_lines(
+    alloc: Global,
+    logic: &Logic,
+    most_lines: u8,
+    lines: u32,
+) -> Result<u32, AllocError>
+    requires few { lines ≤ most_lines }
+    requires lines { lines ≡ length logic.now.inputs + length logic.now.outputs }
+    requires many { most_lines < lines + length logic.now.nodes }
+    ensures { IfOk result (λ found. (most_lines < found) × (found ≤ line_bound logic.now)) }
+{
+    let nodes = logic.nodes().len();
+    let all = lines + nodes as u32;
+    if nodes > MOST_NODES {
+        return Ok(all);
+    }
+    match wanted(alloc, logic, most_lines - lines as u8)? {
+        Some(work) => {
+            let found = lines + u32::from(work);
+            if found > u32::from(most_lines) && found <= all {
+                Ok(found)
+            } else {
+                Ok(all)
+            }
+        }
+        None => Ok(all),
+    }
+}
+
 /// A circuit for a logic network, on at most so many lines.
 ///
 /// Lines `x0`, `x1`, .. are the inputs, which stand as they were at the end and are garbage. Lines `y0`, `y1`, .. are the
 /// outputs, and lines `w0`, `w1`, .. are worked on; all these hold 0, and the work lines are garbage. Whatever the
-/// lines of the outputs hold, the circuit adds the outputs to them. The labels are the names of inputs and outputs,
-/// where these can be labels.
+/// lines of the outputs hold, the circuit adds the outputs to them. The labels are these names, too.
+///
+/// Where no order is found that fits, the lines of the best one are told, or one for each input, output and node.
 pub fn compute(alloc: Global, logic: &Logic, most_lines: u8) -> Result<Circuit, ComputeFault>
     requires { most_lines ≤ MOST_LINES }
     ensures computed { IfOk result (IsComputed logic.now) }
@@ -97,7 +145,7 @@ pub fn compute(alloc: Global, logic: &Logic, most_lines: u8) -> Result<Circuit, 
         }
     }
     if lines + nodes as u32 > u32::from(most_lines) {
-        return Err(ComputeFault::TooManyLines(u32::from(most_lines) + 1));
+        return Err(ComputeFault::TooManyLines(too_many_lines(alloc, logic, most_lines, lines)?));
     }
     if gates_enough(logic) > MOST_GATES as u64 {
         return Err(ComputeFault::TooManyGates);

@@ -13,8 +13,8 @@ macro_rules! over {
 macro_rules! summed {
     ($gates:literal) => {
         concat!(
-            ".version 2.0\n.numvars 4\n.variables x0 x1 x2 y0\n.inputs a b c y0\n",
-            ".outputs x0 x1 x2 s\n.constants ---0\n.garbage 111-\n.begin\n",
+            ".version 2.0\n.numvars 4\n.variables x0 x1 x2 y0\n.inputs x0 x1 x2 y0\n",
+            ".outputs x0 x1 x2 y0\n.constants ---0\n.garbage 111-\n.begin\n",
             $gates,
             ".end\n"
         )
