@@ -8,9 +8,9 @@ ghost use Rattle.rv_faults.specs.Fault.{said_of, template_of};
 ghost use Rattle.rv_faults.specs.Line.{Reports};
 
 use crate::{Fault, InputFault, TextFormat};
+use rv_blif::code::text_of_code as blif_text;
 use rv_gate::{MOST_LINES, has};
 use rv_io::{Sink, WriteFault, Writer};
-use rv_blif::code::text_of_code as blif_text;
 use rv_perm::MOST_NUMBERS;
 use rv_perm::code::text_of_code as permutation_text;
 use rv_pla::code::text_of_code as pla_text;
@@ -95,10 +95,22 @@ fn put_refusal<E: Sink>(writer: &mut Writer, errs: &mut E, why: InputFault)
             put_template(writer, errs, gates, b" gates is longer than ", most);
         }
         InputFault::TooManyLines { count, most } => {
-            put_counted(writer, errs, count, b" lines are more than ", u32::from(most));
+            put_counted(
+                writer,
+                errs,
+                count,
+                b" lines are more than ",
+                u32::from(most),
+            );
         }
         InputFault::TooManyInputs { count, most } => {
-            put_counted(writer, errs, count, b" inputs are more than ", u32::from(most));
+            put_counted(
+                writer,
+                errs,
+                count,
+                b" inputs are more than ",
+                u32::from(most),
+            );
         }
         InputFault::TooManyGates { count, most } => {
             put_counted(writer, errs, count, b" gates are more than ", most);

@@ -29,12 +29,7 @@ pub(crate) fn compute<F: Files>(
 }
 
 // Reads the input of this name, and finds a circuit for it.
-fn computed<F: Files>(
-    alloc: Global,
-    name: &str,
-    files: &mut F,
-    lines: u8,
-) -> Result<Made, Unmade>
+fn computed<F: Files>(alloc: Global, name: &str, files: &mut F, lines: u8) -> Result<Made, Unmade>
     requires { lines ≤ MOST_LINES }
     ensures { Makes (compute_row lines) (name.now ∷ []) (F.view files.old) (F.view files.new) result }
 {

@@ -149,8 +149,8 @@ outputs_given outputs values given j counted each within =
     let bit : Output → Bool = λ o. bit_of (column values j) o.signal in
     ext_get_or false (column given j) (map bit outputs) (length-column given j ∙ counted ∙ sym (length-map outputs bit))
     (λ i lt.
-      let here : i < length given = omega (arith, lt, length-column given j) in
-      let there : i < length outputs = omega (arith, here, counted) in
-      bit_of-column given i j blank here ∙ ap (λ r. row_bit r j) (each i nothing here)
-      ∙ sym (bit_of-column values (get_or outputs i nothing).signal j blank (within i nothing there))
-      ∙ sym (get_or-map bit outputs i nothing false there))
+    let here : i < length given = omega (arith, lt, length-column given j) in
+    let there : i < length outputs = omega (arith, here, counted) in
+    bit_of-column given i j blank here ∙ ap (λ r. row_bit r j) (each i nothing here)
+    ∙ sym (bit_of-column values (get_or outputs i nothing).signal j blank (within i nothing there))
+    ∙ sym (get_or-map bit outputs i nothing false there))

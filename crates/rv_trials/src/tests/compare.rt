@@ -218,9 +218,19 @@ fn a_circuit_is_compared_with_a_logic_network(rt: HostRuntime) -> Result<(), Fai
         (SUMS, ADDER, 0, "same\n"),
         (EXCHANGED, ADDER, 1, "differs at word 001\n"),
         (COPY, ADDER, 1, "differs in inputs 1 and 3\n"),
-        (typed!(3, "a b c", ""), ADDER, 1, "differs in outputs 3 and 2\n"),
+        (
+            typed!(3, "a b c", ""),
+            ADDER,
+            1,
+            "differs in outputs 3 and 2\n",
+        ),
         (COPY, ".inputs a\n.outputs a\n", 0, "same\n"),
-        (COPY, ".inputs a\n.outputs b\n.names a b\n0 1\n", 1, "differs at word 0\n"),
+        (
+            COPY,
+            ".inputs a\n.outputs b\n.names a b\n0 1\n",
+            1,
+            "differs at word 0\n",
+        ),
         (WIDE, ADDER, 5, "c.real: 25 inputs are more than 24"),
         (
             COPY,

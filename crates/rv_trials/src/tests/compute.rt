@@ -39,7 +39,12 @@ fn a_node_is_added_to_its_output(rt: HostRuntime) -> Result<(), Fail> {
         ),
         // Without rows it is 0, and with a row of no operands 1.
         ("compute", over!("s", ".names s\n"), 0, summed!("")),
-        ("compute", over!("s", ".names s\n1\n"), 0, summed!("t1 y0\n")),
+        (
+            "compute",
+            over!("s", ".names s\n1\n"),
+            0,
+            summed!("t1 y0\n"),
+        ),
         // A buffer and an inverter take no line.
         (
             "compute",
@@ -57,7 +62,10 @@ fn a_node_is_added_to_its_output(rt: HostRuntime) -> Result<(), Fail> {
         // A line that ends with a backslash goes on, `#` begins a comment, and what Yosys remarks is dropped.
         (
             "compute",
-            over!("\\\n s # the sum", ".names a b \\\nc s\n.attrib src 1\n1-1 1\n"),
+            over!(
+                "\\\n s # the sum",
+                ".names a b \\\nc s\n.attrib src 1\n1-1 1\n"
+            ),
             0,
             summed!("t3 x0 x2 y0\n"),
         ),
@@ -71,11 +79,31 @@ fn a_text_that_denotes_no_network_is_refused(rt: HostRuntime) -> Result<(), Fail
     const CASES: [(&str, &str, u8, &str); 23] = [
         ("compute", over!("s", ".latch a s\n"), 3, "-:4: latch"),
         ("compute", over!("s", ".mlatch a s\n"), 3, "-:4: latch"),
-        ("compute", over!("s", ".subckt m a=a\n"), 3, "-:4: not supported"),
-        ("compute", over!("s", ".gate and2 A=a\n"), 3, "-:4: not supported"),
+        (
+            "compute",
+            over!("s", ".subckt m a=a\n"),
+            3,
+            "-:4: not supported",
+        ),
+        (
+            "compute",
+            over!("s", ".gate and2 A=a\n"),
+            3,
+            "-:4: not supported",
+        ),
         ("compute", over!("s", ".exdc\n"), 3, "-:4: not supported"),
-        ("compute", over!("s", ".search f\n"), 3, "-:4: not supported"),
-        ("compute", over!("s", ".clock c\n"), 3, "-:4: unknown directive"),
+        (
+            "compute",
+            over!("s", ".search f\n"),
+            3,
+            "-:4: not supported",
+        ),
+        (
+            "compute",
+            over!("s", ".clock c\n"),
+            3,
+            "-:4: unknown directive",
+        ),
         ("compute", ".i 2\n", 3, "-:1: unknown directive"),
         ("compute", over!("s", ".model n\n"), 3, "-:4: second model"),
         ("compute", over!("s", ".names\n"), 3, "-:4: missing name"),
@@ -85,7 +113,12 @@ fn a_text_that_denotes_no_network_is_refused(rt: HostRuntime) -> Result<(), Fail
             3,
             "-:4: too many operands",
         ),
-        ("compute", over!("s", ".names a b\n1 1\n"), 3, "-:4: driven twice"),
+        (
+            "compute",
+            over!("s", ".names a b\n1 1\n"),
+            3,
+            "-:4: driven twice",
+        ),
         ("compute", over!("s", ".inputs b\n"), 3, "-:4: driven twice"),
         (
             "compute",
@@ -93,14 +126,49 @@ fn a_text_that_denotes_no_network_is_refused(rt: HostRuntime) -> Result<(), Fail
             3,
             "-:6: driven twice",
         ),
-        ("compute", over!("s s", ".names s\n"), 3, "-:3: repeated output"),
+        (
+            "compute",
+            over!("s s", ".names s\n"),
+            3,
+            "-:3: repeated output",
+        ),
         ("compute", over!("s", "11 1\n"), 3, "-:4: row out of place"),
-        ("compute", over!("s", ".names a b s\n111 1\n"), 3, "-:5: wrong row length"),
-        ("compute", over!("s", ".names a b s\n1x 1\n"), 3, "-:5: wrong character"),
-        ("compute", over!("s", ".names a b s\n11 -\n"), 3, "-:5: wrong character"),
-        ("compute", over!("s", ".names a b s\n11 1\n00 0\n"), 3, "-:6: mixed rows"),
-        ("compute", ".inputs a\n.names a b\n1 1\n.end\n", 3, "-:4: no outputs"),
-        ("compute", over!("s", ".names a d s\n11 1\n"), 3, "-:4: never driven"),
+        (
+            "compute",
+            over!("s", ".names a b s\n111 1\n"),
+            3,
+            "-:5: wrong row length",
+        ),
+        (
+            "compute",
+            over!("s", ".names a b s\n1x 1\n"),
+            3,
+            "-:5: wrong character",
+        ),
+        (
+            "compute",
+            over!("s", ".names a b s\n11 -\n"),
+            3,
+            "-:5: wrong character",
+        ),
+        (
+            "compute",
+            over!("s", ".names a b s\n11 1\n00 0\n"),
+            3,
+            "-:6: mixed rows",
+        ),
+        (
+            "compute",
+            ".inputs a\n.names a b\n1 1\n.end\n",
+            3,
+            "-:4: no outputs",
+        ),
+        (
+            "compute",
+            over!("s", ".names a d s\n11 1\n"),
+            3,
+            "-:4: never driven",
+        ),
         (
             "compute",
             over!("s", ".names a t s\n11 1\n.names s t\n1 1\n"),
@@ -120,10 +188,20 @@ fn a_network_that_does_not_fit_is_refused(rt: HostRuntime) -> Result<(), Fail> {
     );
     const CASES: [(&str, &str, u8, &str); 5] = [
         ("compute --lines 4", ADDER, 5, "-: 5 lines are more than 4"),
-        ("compute --lines 1", over!("a", ""), 5, "-: 4 lines are more than 1"),
+        (
+            "compute --lines 1",
+            over!("a", ""),
+            5,
+            "-: 4 lines are more than 1",
+        ),
         ("compute --lines 0", ADDER, 2, "bad value for --lines"),
         ("compute --lines 65", ADDER, 2, "bad value for --lines"),
-        ("compute --seed 1", ADDER, 2, "option --seed not used by compute"),
+        (
+            "compute --seed 1",
+            ADDER,
+            2,
+            "option --seed not used by compute",
+        ),
     ];
     expect_each(&rt, rt.alloc(), &CASES)
 }

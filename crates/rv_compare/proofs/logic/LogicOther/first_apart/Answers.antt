@@ -17,12 +17,12 @@ returns-clause-first c =
     let bits : List Bool → List Output → List Bool = λ word outputs. map (λ o. bit_of word o.signal) outputs in
     first_failing-as c.args.count (λ j. row_bit c.agreement_with.result j) (λ j. GivesOutputs circuit logic (at j)) c.first_zero.result
     (λ j lt.
-      let few : j < MOST_WORDS = omega (arith, lt, c.requires.few) in
-      let all : column c.give_values.new.rows j ≡ values logic (at j) =
-          c.give_values.ensures.words j few ∙ ap (λ m. values logic (word_of m (number j))) (sym c.requires.inputs) in
-      let given : bits (column c.give_values.new.rows j) c.outputs.result.now ≡ bits (values logic (at j)) logic.outputs =
-          ap (λ w. bits w c.outputs.result.now) all ∙ ap (bits (values logic (at j))) c.outputs.ensures.value in
-      let To : List Bool → Type 0 = λ w. Decides (row_bit c.agreement_with.result j) (w ≡ bits (values logic (at j)) logic.outputs) in
-      subst To (c.give_outputs-kept.ensures.words j few)
-      (subst (λ w. Decides (row_bit c.agreement_with.result j) (column (take c.give_outputs-kept.result c.give_outputs-kept.new.rows) j ≡ w)) given (c.agreement_with.ensures j few)))
+    let few : j < MOST_WORDS = omega (arith, lt, c.requires.few) in
+    let all : column c.give_values.new.rows j ≡ values logic (at j) =
+    c.give_values.ensures.words j few ∙ ap (λ m. values logic (word_of m (number j))) (sym c.requires.inputs) in
+    let given : bits (column c.give_values.new.rows j) c.outputs.result.now ≡ bits (values logic (at j)) logic.outputs =
+    ap (λ w. bits w c.outputs.result.now) all ∙ ap (bits (values logic (at j))) c.outputs.ensures.value in
+    let To : List Bool → Type 0 = λ w. Decides (row_bit c.agreement_with.result j) (w ≡ bits (values logic (at j)) logic.outputs) in
+    subst To (c.give_outputs-kept.ensures.words j few)
+    (subst (λ w. Decides (row_bit c.agreement_with.result j) (column (take c.give_outputs-kept.result c.give_outputs-kept.new.rows) j ≡ w)) given (c.agreement_with.ensures j few)))
     c.first_zero.ensures
