@@ -1,4 +1,0 @@
-pub mod Basis
-pub mod Flips
-pub mod Reread
-pub mod Eased
