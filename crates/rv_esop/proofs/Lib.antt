@@ -1,0 +1,4 @@
+mod Marks
+mod Added
+mod Costs
+pub mod inside
