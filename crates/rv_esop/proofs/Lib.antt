@@ -1,6 +1,4 @@
 mod Marks
 mod Added
 mod Costs
-mod Reread
-mod Eased
 pub mod inside

@@ -1,4 +1,2 @@
 pub mod Basis
 pub mod Flips
-pub mod Reread
-pub mod Eased

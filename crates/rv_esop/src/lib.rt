@@ -7,8 +7,6 @@
 mod basis;
 mod circuit;
 mod count;
-mod ease;
-mod inputs;
 mod lines;
 mod shared;
 

@@ -7,7 +7,7 @@ use super::cube::sum_of;
 use super::finder::Finder;
 use super::free::Free;
 use rv_pla::{Cube, MOST_INPUTS};
-use std::alloc::{AllocError, Global};
+use std::alloc::AllocError;
 
 /// No slot.
 pub const NONE: usize = usize::MAX;
@@ -130,17 +130,4 @@ pub fn add_but(
         return Ok(());
     }
     add(cubes, finder, cube, inputs)
-}
-
-/// The cubes, made one as long as two of them can be. Nothing rests on the answer.
-pub fn merged(alloc: Global, cubes: &[Cube], inputs: u8) -> Result<Vec<Cube>, AllocError>
-    requires { inputs ≤ MOST_INPUTS }
-{
-    let mut all = Vec::new(alloc);
-    let mut finder = Finder::new(alloc, &all)?;
-    for cube in cubes {
-        finder.fit(alloc, &all)?;
-        add(&mut all, &mut finder, *cube, inputs)?;
-    }
-    Ok(all)
 }

@@ -1,10 +1,10 @@
-ghost use Rattle.std.specs.Prelude.{◌≡◌, ◌<◌, ◌≤◌, ◌∷◌, ◌++◌, ℕ, List, codes, decimal, length};
+ghost use Rattle.std.specs.Prelude.{◌≡◌, ◌<◌, ◌≤◌, ◌∷◌, ◌++◌, ℕ, List, decimal, length};
 ghost use Rattle.rv_io.specs.Writer.{Adds};
-ghost use Rattle.rv_text.specs.Spelled.{more_words, words_line};
+ghost use Rattle.rv_text.specs.Spelled.{more_words};
 ghost use Rattle.rv_gate.specs.Gate.{FitsIn, Within};
 ghost use Rattle.rv_gate.specs.declared.gate.Shape.{Shape};
 ghost use Rattle.rv_gate.specs.declared.word.TheConstants.{MOST_LINES};
-ghost use Rattle.rv_real.specs.Text.{control_word, controls_from, gate_words, name_at};
+ghost use Rattle.rv_real.specs.Text.{control_word, controls_from, name_at};
 ghost use Rattle.rv_picture.specs.Titles.{gate_title, op_title, written_names};
 
 use crate::label::{Markup, put_label};
