@@ -139,7 +139,7 @@ impl<T: Table> Space<T> {
             (self.toffoli, 1)
         };
         Least {
-            product: product as usize,
+            product: usize::try_from(product).unwrap_or(0),
             targets,
             any: 1,
         }
