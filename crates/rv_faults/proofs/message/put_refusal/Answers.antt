@@ -18,19 +18,20 @@ returns-in-WrongLength g c = rw c.in-WrongLength.is c.put_counted.ensures
 pub returns-in-TooManyLines : goal.returns-in-TooManyLines
 returns-in-TooManyLines g c =
     rw c.in-TooManyLines.is
-    (adds_as (ap (λ (n : ℕ). counted_to n (codes " lines are more than ") c.from-in-TooManyLines-2.result) c.from-in-TooManyLines.ensures
-    ∙ ap (λ (n : ℕ). counted_to c.in-TooManyLines.count (codes " lines are more than ") n) c.from-in-TooManyLines-2.ensures)
+    (adds_as (ap (λ (n : ℕ). counted_to c.in-TooManyLines.count (codes " lines are more than ") n) c.from-in-TooManyLines.ensures)
     c.put_counted-in-TooManyLines.ensures)
 
 pub returns-in-TooManyInputs : goal.returns-in-TooManyInputs
 returns-in-TooManyInputs g c =
     rw c.in-TooManyInputs.is
-    (adds_as (ap (λ (n : ℕ). counted_to n (codes " inputs are more than ") c.from-in-TooManyInputs-2.result) c.from-in-TooManyInputs.ensures
-    ∙ ap (λ (n : ℕ). counted_to c.in-TooManyInputs.count (codes " inputs are more than ") n) c.from-in-TooManyInputs-2.ensures)
+    (adds_as (ap (λ (n : ℕ). counted_to c.in-TooManyInputs.count (codes " inputs are more than ") n) c.from-in-TooManyInputs.ensures)
     c.put_counted-in-TooManyInputs.ensures)
 
 pub returns-in-TooManyGates : goal.returns-in-TooManyGates
 returns-in-TooManyGates g c = rw c.in-TooManyGates.is c.put_counted-in-TooManyGates.ensures
+
+pub returns-in-MoreGates : goal.returns-in-MoreGates
+returns-in-MoreGates g c = rw c.in-MoreGates.is c.put_more_gates.ensures
 
 pub returns-in-TooManyOps : goal.returns-in-TooManyOps
 returns-in-TooManyOps g c = rw c.in-TooManyOps.is c.put_counted-in-TooManyOps.ensures
