@@ -1,8 +1,10 @@
+use Rattle.rv_words.specs.declared.command.Command.{Command}
 use Rattle.rv_words.specs.declared.command.Command.TheVariants as command
+use Rattle.rv_words.specs.Values.{IsLineCount}
 use Rattle.rv_cmd.proofs.Laws.Demo.{demo-makes}
 use Rattle.rv_cmd.proofs.inside.Naming.{names_read-by, names_read-nothing}
 use Rattle.rv_cmd.proofs.commands.make.Goals as goal
-use Rattle.std.proofs.Common.{refl}
+use Rattle.std.proofs.Common.{refl, subst}
 
 pub of_one-requires : goal.of_one-requires
 of_one-requires g c = names_read-by c.args.settings.now command.Synth c.requires.asked c.in-Synth.is refl
@@ -46,14 +48,26 @@ compare-requires g c = names_read-by c.args.settings.now command.Compare c.requi
 pub resynth-requires : goal.resynth-requires
 resynth-requires g c = names_read-by c.args.settings.now command.Resynth c.requires.asked c.in-Resynth.is refl
 
-pub compute-requires : goal.compute-requires
-compute-requires g c = names_read-by c.args.settings.now command.Compute c.requires.asked c.in-Compute.is refl
+pub compute-requires-input : goal.compute-requires-input
+compute-requires-input g c = names_read-by c.args.settings.now command.Compute c.requires.asked c.in-Compute.is refl
+
+pub compute-requires-lines : goal.compute-requires-lines
+compute-requires-lines g c =
+    let Few : Command → Type 0 = λ doing. IsLineCount doing c.args.settings.now.lines in (subst Few c.in-Compute.is c.requires.asked.lines).1
 
 pub cost-requires : goal.cost-requires
 cost-requires g c = names_read-by c.args.settings.now command.Cost c.requires.asked c.in-Cost.is refl
 
 pub flow-requires : goal.flow-requires
 flow-requires g c = names_read-by c.args.settings.now command.Flow c.requires.asked c.in-Flow.is refl
+
+pub demo-requires-some : goal.demo-requires-some
+demo-requires-some g c =
+    let Few : Command → Type 0 = λ doing. IsLineCount doing c.args.settings.now.lines in (subst Few c.in-Demo.is c.requires.asked.lines).0
+
+pub demo-requires-few : goal.demo-requires-few
+demo-requires-few g c =
+    let Few : Command → Type 0 = λ doing. IsLineCount doing c.args.settings.now.lines in (subst Few c.in-Demo.is c.requires.asked.lines).1
 
 pub returns-in-Demo : goal.returns-in-Demo
 returns-in-Demo g c =
