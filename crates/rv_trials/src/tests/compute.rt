@@ -64,7 +64,7 @@ fn a_node_is_added_to_its_output(rt: HostRuntime) -> Result<(), Fail> {
             "compute",
             over!(
                 "\\\n s # the sum",
-                ".names a b \\\nc s\n.attrib src 1\n1-1 1\n"
+                ".names a b \\\nc s\n1-1 1\n.attrib src 1\n"
             ),
             0,
             summed!("t3 x0 x2 y0\n"),
