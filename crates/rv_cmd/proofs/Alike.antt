@@ -13,7 +13,7 @@ use Rattle.rv_words.specs.declared.command.PictureForm.{PictureForm}
 use Rattle.rv_words.specs.declared.command.Goal.{Goal}
 use Rattle.rv_words.specs.declared.command.Form.TheVariants as form
 use Rattle.rv_mct.specs.declared.aux.Aux.{Aux}
-use Rattle.rv_flow.specs.declared.flowing.Synthesis.{Synthesis}
+use Rattle.rv_flow.specs.declared.synthesis.Synthesis.{Synthesis}
 use Rattle.rv_faults.specs.declared.fault.Fault.TheVariants.{TooLong}
 use Rattle.rv_faults.specs.declared.fault.Refusal.{Refusal}
 use Rattle.rv_faults.specs.declared.fault.Unmade.{Unmade}

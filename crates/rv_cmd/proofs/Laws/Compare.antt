@@ -105,11 +105,11 @@ logic-refused-by c network (CircuitInputs n) many =
     (omega arith, refused-first 0 n_of MOST_INPUTS (TooManyInputs n_of MOST_INPUTS) (TooManyInputs n MOST_INPUTS) rest (ap (λ k. TooManyInputs k MOST_INPUTS) many.0) over)
 logic-refused-by c network (LogicInputs n) many =
     let n_of = length network.inputs in
-    let over : MOST_INPUTS < n_of = omega (arith, many.1.0, many.1.1) in
+    let over : MOST_INPUTS < n_of = omega (arith, many.1, many.2) in
     let last = at_most 1 n_of MOST_INPUTS (TooManyInputs n_of MOST_INPUTS) in (
       omega arith,
       refused-after (of_inputs 0 c ∷ []) (last ∷ []) (many.0, tt)
-          ∙ refused-first 1 n_of MOST_INPUTS (TooManyInputs n_of MOST_INPUTS) (TooManyInputs n MOST_INPUTS) [] (ap (λ k. TooManyInputs k MOST_INPUTS) many.1.0) over,
+          ∙ refused-first 1 n_of MOST_INPUTS (TooManyInputs n_of MOST_INPUTS) (TooManyInputs n MOST_INPUTS) [] (ap (λ k. TooManyInputs k MOST_INPUTS) many.1) over,
     )
 logic-refused-by c network Mem many = tt
 

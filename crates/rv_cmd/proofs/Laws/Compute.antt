@@ -39,7 +39,7 @@ pub compute-refuses : (most : ℕ) (network : Logic) (why : ComputeFault) (name 
     → Makes (compute_row most) (name ∷ []) old new (Err it)
 compute-refuses most network (fault.TooManyLines found) name old new it lines gates is keeps has =
     finds-none logic compute_limits (EndsInVain most) (IsComputation most) name old new network (TooManyLines found most) it is keeps has tt
-    (refl, (refl, lines found refl))
+    (refl, (refl, (lines found refl).0, (lines found refl).1))
 compute-refuses most network fault.TooManyGates name old new it lines gates is keeps has =
     finds-none logic compute_limits (EndsInVain most) (IsComputation most) name old new network (MoreGates MOST_GATES) it is keeps has tt
     (refl, (refl, gates refl))

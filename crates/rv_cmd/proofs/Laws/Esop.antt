@@ -28,7 +28,7 @@ use Rattle.rv_cube.specs.declared.list.TheConstants.{MOST_CUBES}
 use Rattle.rv_real.specs.Text.{text_of}
 use Rattle.rv_real.proofs.inside.ReadBack.{read_back}
 use Rattle.rv_words.specs.declared.command.Form.{Form}
-use Rattle.rv_words.specs.declared.command.Form.TheVariants.{Real, Pla, Qasm, Perm}
+use Rattle.rv_words.specs.declared.command.Form.TheVariants.{Real, Pla, Qasm, Perm, Blif}
 use Rattle.rv_cube.proofs.Irreducible.{irreducible_for}
 use Rattle.rv_cmd.specs.declared.product.Product.{Product}
 use Rattle.rv_cmd.specs.declared.product.Product.TheVariants.{Circuit, Cubes}
@@ -71,6 +71,7 @@ not_listed Real pla product other is = is
 not_listed Pla pla product other is = absurd (other refl)
 not_listed Qasm pla product other is = is
 not_listed Perm pla product other is = is
+not_listed Blif pla product other is = is
 
 pub not_listed-refused : (to : Form) (pla : TwoLevel) (refused : Refusal) → (to ≡ Pla → ⊥) → IsRefusalOf 1 (cascade_report (reduced_list pla)).limits refused
     → IsRefusalOf 1 (esop_report to pla).limits refused
@@ -78,6 +79,7 @@ not_listed-refused Real pla refused other is = is
 not_listed-refused Pla pla refused other is = absurd (other refl)
 not_listed-refused Qasm pla refused other is = is
 not_listed-refused Perm pla refused other is = is
+not_listed-refused Blif pla refused other is = is
 
 -- ---- as a PLA
 
@@ -229,6 +231,7 @@ not_listed-found Real goal pla product other is = is
 not_listed-found Pla goal pla product other is = absurd (other refl)
 not_listed-found Qasm goal pla product other is = is
 not_listed-found Perm goal pla product other is = is
+not_listed-found Blif goal pla product other is = is
 
 pub not_listed-limits : (to : Form) (pla : TwoLevel) (refused : Refusal) → (to ≡ Pla → ⊥) → IsRefusalOf 1 (cascade_report (reduced_list pla)).limits refused
     → IsRefusalOf 1 (found_limits to pla) refused
@@ -236,3 +239,4 @@ not_listed-limits Real pla refused other is = is
 not_listed-limits Pla pla refused other is = absurd (other refl)
 not_listed-limits Qasm pla refused other is = is
 not_listed-limits Perm pla refused other is = is
+not_listed-limits Blif pla refused other is = is

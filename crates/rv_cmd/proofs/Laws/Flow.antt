@@ -10,7 +10,7 @@ use Rattle.rv_embed.proofs.Embeds.{embedding-embeds}
 use Rattle.rv_mct.specs.Widened.{helper_count, lines_with_helpers}
 use Rattle.rv_mct.specs.declared.aux.Aux.{Aux}
 use Rattle.rv_flow.specs.Flow.{circuit_for}
-use Rattle.rv_flow.specs.declared.flowing.Synthesis.{Synthesis}
+use Rattle.rv_flow.specs.declared.synthesis.Synthesis.{Synthesis}
 use Rattle.rv_flow.proofs.Carrying.{carries-permutation}
 use Rattle.rv_flow.proofs.Circuits.{circuit-lines}
 use Rattle.rv_faults.specs.declared.fault.Refusal.{Refusal}

@@ -12,8 +12,8 @@ use Rattle.rv_qasm.specs.Reading.{in_register_q, qasm_of}
 use Rattle.rv_qasm.specs.Text.{text_of}
 use Rattle.rv_perm.specs.Perm.{permuted}
 use Rattle.rv_flow.specs.Flow.{circuit_for}
-use Rattle.rv_flow.specs.declared.flowing.Synthesis.{Synthesis}
-use Rattle.rv_flow.specs.declared.flowing.Synthesis.TheVariants.{Rows, SingleTargets}
+use Rattle.rv_flow.specs.declared.synthesis.Synthesis.{Synthesis}
+use Rattle.rv_flow.specs.declared.synthesis.Synthesis.TheVariants.{Rows, SingleTargets}
 use Rattle.rv_words.specs.declared.command.Blocks.{Blocks}
 use Rattle.rv_words.specs.declared.command.Synthesis as asked
 use Rattle.rv_words.specs.declared.command.Synthesis.TheVariants as asks

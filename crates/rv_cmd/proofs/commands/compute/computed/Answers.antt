@@ -7,19 +7,19 @@ use Rattle.rv_cmd.proofs.Laws.Compute.{compute-answers, compute-refuses}
 use Rattle.rv_cmd.proofs.inside.Made.{finds-one, finds-unread}
 use Rattle.rv_cmd.proofs.commands.compute.computed.Goals as goal
 
-pub returns-in-Ok-compute : goal.returns-in-Ok-compute
-returns-in-Ok-compute g c =
+pub returns-in-Ok-circuit_for : goal.returns-in-Ok-circuit_for
+returns-in-Ok-circuit_for g c =
     let most = c.args.lines in
-    let e = c.in-Ok-compute.ensures in
+    let e = c.in-Ok-circuit_for.ensures in
     finds-one logic compute_limits (EndsInVain most) (IsComputation most) c.args.name.now (g.F.Files.view c.args.files.now)
-    (g.F.Files.view c.read_one.new.files) c.in-Ok.network (Circuit c.in-Ok-compute.circuit) c.alike.result c.alike.ensures
+    (g.F.Files.view c.read_one.new.files) c.in-Ok.network (Circuit c.in-Ok-circuit_for.circuit) c.alike.result c.alike.ensures
     c.read_one.ensures.keeps c.in-Ok.ensures.read
-    (compute-answers most c.in-Ok.network c.in-Ok-compute.circuit c.recall_invariant.ensures e.computed e.gives e.lines)
+    (compute-answers most c.in-Ok.network c.in-Ok-circuit_for.circuit c.recall_invariant.ensures e.computed e.gives e.lines)
 
 pub returns-in-Ok : goal.returns-in-Ok
 returns-in-Ok g c =
-    let e = c.in-Err-compute.ensures in
-    compute-refuses c.args.lines c.in-Ok.network c.in-Err-compute.fault c.args.name.now (g.F.Files.view c.args.files.now)
+    let e = c.in-Err-circuit_for.ensures in
+    compute-refuses c.args.lines c.in-Ok.network c.in-Err-circuit_for.fault c.args.name.now (g.F.Files.view c.args.files.now)
     (g.F.Files.view c.read_one.new.files) c.unmade.result (λ found is. e.too_many_lines found (ap Err is)) (λ is. e.too_many_gates (ap Err is))
     (c.unmade.ensures ∙ ap unmade_by c.in_vain.ensures) c.read_one.ensures.keeps c.in-Ok.ensures.read
 

@@ -30,8 +30,8 @@ returns-then-is_no_dearer-clause-made c =
     shared.lines shared.adds.adds shared.no_dearer (subst Cheap c.in-Ok.ensures.list (c.is_no_dearer.ensures c.if-is_no_dearer.true))
     c.recall_invariant-then-is_no_dearer.ensures
 
-pub returns-else-is_no_dearer-clause-made : goal.returns-else-is_no_dearer-clause-made
-returns-else-is_no_dearer-clause-made c =
+pub returns-in-Ok-shared_cascade-clause-made : goal.returns-in-Ok-shared_cascade-clause-made
+returns-in-Ok-shared_cascade-clause-made c =
     let few = few-by fault.TooManyGates (flip_count c.in-Ok.list) MOST_GATES c.in-Ok-cascade.circuit c.in-Ok-cascade.ensures.too_many in
     let plain = c.in-Ok-cascade.ensures in
     found-plain c.args.self.now.goal c.args.pla.now c.in-Ok.list c.in-Ok-cascade.circuit c.in-Ok.ensures.list c.in-Ok.ensures.value c.recall_invariant.ensures.bounded few plain.circuit plain.adds
