@@ -48,11 +48,11 @@ compare-requires g c = names_read-by c.args.settings.now command.Compare c.requi
 pub resynth-requires : goal.resynth-requires
 resynth-requires g c = names_read-by c.args.settings.now command.Resynth c.requires.asked c.in-Resynth.is refl
 
-pub compute-requires-input : goal.compute-requires-input
-compute-requires-input g c = names_read-by c.args.settings.now command.Compute c.requires.asked c.in-Compute.is refl
+pub compute-requires-clause-input : goal.compute-requires-clause-input
+compute-requires-clause-input g c = names_read-by c.args.settings.now command.Compute c.requires.asked c.in-Compute.is refl
 
-pub compute-requires-lines : goal.compute-requires-lines
-compute-requires-lines g c =
+pub compute-requires-clause-lines : goal.compute-requires-clause-lines
+compute-requires-clause-lines g c =
     let Few : Command → Type 0 = λ doing. IsLineCount doing c.args.settings.now.lines in (subst Few c.in-Compute.is c.requires.asked.lines).1
 
 pub cost-requires : goal.cost-requires
@@ -61,12 +61,12 @@ cost-requires g c = names_read-by c.args.settings.now command.Cost c.requires.as
 pub flow-requires : goal.flow-requires
 flow-requires g c = names_read-by c.args.settings.now command.Flow c.requires.asked c.in-Flow.is refl
 
-pub demo-requires-some : goal.demo-requires-some
-demo-requires-some g c =
+pub demo-requires-clause-some : goal.demo-requires-clause-some
+demo-requires-clause-some g c =
     let Few : Command → Type 0 = λ doing. IsLineCount doing c.args.settings.now.lines in (subst Few c.in-Demo.is c.requires.asked.lines).0
 
-pub demo-requires-few : goal.demo-requires-few
-demo-requires-few g c =
+pub demo-requires-clause-few : goal.demo-requires-clause-few
+demo-requires-clause-few g c =
     let Few : Command → Type 0 = λ doing. IsLineCount doing c.args.settings.now.lines in (subst Few c.in-Demo.is c.requires.asked.lines).1
 
 pub returns-in-Demo : goal.returns-in-Demo
