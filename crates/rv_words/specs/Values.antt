@@ -12,7 +12,7 @@ use Rattle.rv_mct.specs.declared.aux.Aux.TheVariants.{Borrowed, Clean}
 use Rattle.rv_words.specs.declared.command.Command.{Command}
 use Rattle.rv_words.specs.declared.command.Command.TheVariants.{Compare, Compute, Esop, Flow, Resynth}
 use Rattle.rv_words.specs.declared.command.Blocks.{Blocks}
-use Rattle.rv_words.specs.declared.command.Blocks.TheVariants.{Exact, Relative, Toffoli}
+use Rattle.rv_words.specs.declared.command.Blocks.TheVariants.{Exact, Relative, Toffoli, Near}
 use Rattle.rv_words.specs.declared.command.Synthesis.{Synthesis}
 use Rattle.rv_words.specs.declared.command.Synthesis.TheVariants.{Rows, SingleTargets}
 use Rattle.rv_words.specs.declared.command.Goal.{Goal}
@@ -105,7 +105,8 @@ blocks_of value =
     if bytes_eq value (codes "exact") then Some Exact
     else (if bytes_eq value (codes "relative") then Some Relative
     else (if bytes_eq value (codes "toffoli") then Some Toffoli
-    else None))
+    else (if bytes_eq value (codes "near") then Some Near
+    else None)))
 
 abbrev pub picture_of : List ℕ → Option PictureForm
 picture_of value =

@@ -179,6 +179,7 @@ fn blocks_of(value: &str) -> Option<Blocks>
         "exact" => Some(Blocks::Exact),
         "relative" => Some(Blocks::Relative),
         "toffoli" => Some(Blocks::Toffoli),
+        "near" => Some(Blocks::Near),
         _ => None,
     }
 }

@@ -216,6 +216,8 @@ pub enum Blocks {
     Relative,
     /// The Toffoli gates themselves.
     Toffoli,
+    /// Blocks in which CNOT joins neighbours, where a gate's lines are a row.
+    Near,
 }
 
 /// The form of a drawing.

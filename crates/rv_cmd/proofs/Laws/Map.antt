@@ -12,11 +12,13 @@ use Rattle.rv_ladder.specs.declared.mapping.RelativeFault.{RelativeFault}
 use Rattle.rv_ladder.specs.declared.mapping.RelativeFault.TheVariants as ladders
 use Rattle.rv_expand.specs.Toffoli.{toffoli_net, toffoli_ops}
 use Rattle.rv_expand.proofs.Classical.{maps-toffoli}
+use Rattle.rv_near.specs.Near.{near_net, near_ops}
+use Rattle.rv_near.proofs.Maps.{maps-near}
 use Rattle.rv_qasm.specs.Text.{text_of}
 use Rattle.rv_qasm.proofs.inside.ReadBack.{read-back}
 use Rattle.rv_faults.specs.declared.fault.Refusal.{Refusal}
 use Rattle.rv_words.specs.declared.command.Blocks.{Blocks}
-use Rattle.rv_words.specs.declared.command.Blocks.TheVariants.{Exact, Relative, Toffoli}
+use Rattle.rv_words.specs.declared.command.Blocks.TheVariants.{Exact, Near, Relative, Toffoli}
 use Rattle.rv_cmd.specs.declared.product.Product.{Product}
 use Rattle.rv_cmd.specs.declared.product.Product.TheVariants as product
 use Rattle.rv_cmd.specs.Commands.Decompose.{decomposition_limits}
@@ -34,6 +36,7 @@ pub maps-on : (blocks : Blocks) (aux : Aux) (c : Cascade) (net : Network) → Ma
 maps-on Exact aux c net m = record { valid = m.valid; lines = m.lines; carries = m.carries }
 maps-on Relative aux c net m = record { valid = m.valid; lines = ap (λ (n : Network). n.lines) m.is; carries = m.carries }
 maps-on Toffoli aux c net m = record { valid = m.valid; lines = m.lines; carries = m.carries }
+maps-on Near aux c net m = record { valid = m.valid; lines = m.lines; carries = m.carries }
 
 meant : (blocks : Blocks) (aux : Aux) (c : Cascade) → MapsBy blocks aux c (mapped blocks aux c) → IsMapping blocks aux c (text_of (mapped blocks aux c))
 meant blocks aux c law =
@@ -51,6 +54,11 @@ pub toffoli-answers : (aux : Aux) (c : Cascade) → IsCascade c → AreKept (dec
     → IsProductOf (map_report Toffoli aux c) (IsMapping Toffoli aux c) (product.Toffolis (toffoli_net (decomposed aux c)))
 toffoli-answers aux c given kept valid few =
     record { kept = (kept.0, (kept.1.0, (few, tt))); is = refl; means = meant Toffoli aux c (maps-toffoli aux c given kept.0 valid few) }
+
+pub near-answers : (aux : Aux) (c : Cascade) → IsCascade c → AreKept (decomposition_limits aux c) → IsCascade (decomposed aux c)
+    → length (near_ops (decomposed aux c).gates) ≤ MOST_OPS → IsProductOf (map_report Near aux c) (IsMapping Near aux c) (product.Network (near_net (decomposed aux c)))
+near-answers aux c given kept valid few =
+    record { kept = (kept.0, (kept.1.0, (few, tt))); is = refl; means = meant Near aux c (maps-near aux c given kept.0 valid few) }
 
 -- the code makes a product of this circuit, which has so many operations
 module _ (blocks : Blocks) (aux : Aux) (c : Cascade) (size : Cascade → ℕ) (written : Cascade → Product) where

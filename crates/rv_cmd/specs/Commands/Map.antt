@@ -4,6 +4,7 @@ use Rattle.rv_gate.specs.Circuit.{Cascade}
 use Rattle.rv_gate.specs.declared.word.TheConstants.{MOST_LINES}
 use Rattle.rv_mct.specs.Widened.{decomposed, gate_count, lines_with_helpers}
 use Rattle.rv_mct.specs.declared.aux.Aux.{Aux}
+use Rattle.rv_near.specs.Near.{MapsNear, near_net, near_ops}
 use Rattle.rv_net.specs.Mapping.{Maps}
 use Rattle.rv_net.specs.Network.{expanded, operation_count}
 use Rattle.rv_net.specs.Op.{Network}
@@ -13,23 +14,26 @@ use Rattle.rv_expand.specs.Toffoli.{MapsToffoli, toffoli_net, toffoli_ops}
 use Rattle.rv_qasm.specs.Reading.{in_register_q, qasm_of}
 use Rattle.rv_qasm.specs.Text.{text_of}
 use Rattle.rv_words.specs.declared.command.Blocks.{Blocks}
-use Rattle.rv_words.specs.declared.command.Blocks.TheVariants.{Exact, Relative, Toffoli}
+use Rattle.rv_words.specs.declared.command.Blocks.TheVariants.{Exact, Near, Relative, Toffoli}
 use Rattle.rv_inputs.specs.Formats.{circuit}
 use Rattle.rv_cmd.specs.Limits.{Limit, LimitedText, of_gates, of_lines, of_ops}
 use Rattle.rv_cmd.specs.Row.{ReadsFirst, one}
 
 -- The network of a circuit, on its lines and the helper lines of its decomposition: each gate of the decomposed circuit becomes
--- operations of its own; or each gate of the circuit a ladder whose phases cancel; or each of the decomposed circuit one operation.
+-- operations of its own; or each gate of the circuit a ladder whose phases cancel; or each of the decomposed circuit one operation;
+-- or each of these operations on neighbours, where its lines are a row.
 abbrev pub mapped : Blocks → Aux → Cascade → Network
 mapped Exact aux c = expanded (decomposed aux c)
 mapped Relative aux c = relative_net aux c
 mapped Toffoli aux c = toffoli_net (decomposed aux c)
+mapped Near aux c = near_net (decomposed aux c)
 
 -- the gates of the decomposed circuit, where it is made of them, then its operations
 abbrev pub network_limits : Blocks → Aux → Cascade → List Limit
 network_limits Exact aux c = of_gates (gate_count aux c) ∷ of_ops (operation_count (decomposed aux c).gates) ∷ []
 network_limits Relative aux c = of_ops (relative_count operations aux c) ∷ []
 network_limits Toffoli aux c = of_gates (gate_count aux c) ∷ of_ops (length (toffoli_ops (decomposed aux c).gates)) ∷ []
+network_limits Near aux c = of_gates (gate_count aux c) ∷ of_ops (length (near_ops (decomposed aux c).gates)) ∷ []
 
 -- the lines come first
 abbrev pub map_limits : Blocks → Aux → Cascade → List Limit
@@ -42,6 +46,7 @@ abbrev pub MapsBy : Blocks → Aux → Cascade → Network → Type 0
 MapsBy Exact aux c net = Maps aux c net
 MapsBy Relative aux c net = MapsRelative aux c net
 MapsBy Toffoli aux c net = MapsToffoli aux c net
+MapsBy Near aux c net = MapsNear aux c net
 
 -- Read back, the text is a network, in one register q, that carries the circuit: with the exact amplitudes of its permutation on the
 -- lines and helper lines of the decomposed circuit.

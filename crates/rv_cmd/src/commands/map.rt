@@ -1,9 +1,10 @@
 ghost use Rattle.std.specs.Prelude.{◌≡◌, ◌≤◌, ◌∷◌, [], All, IfOk, IfErr, length};
 ghost use Rattle.rv_expand.specs.Toffoli.{toffoli_net, toffoli_ops};
 ghost use Rattle.rv_mct.specs.Extends.{IsPlain};
+ghost use Rattle.rv_near.specs.Near.{near_net, near_ops};
 ghost use Rattle.rv_net.specs.Network.{expanded, operation_count};
 ghost use Rattle.rv_net.specs.declared.net.TheConstants.{MOST_OPS};
-ghost use Rattle.rv_words.specs.declared.command.Blocks.TheVariants.{Exact, Relative, Toffoli};
+ghost use Rattle.rv_words.specs.declared.command.Blocks.TheVariants.{Exact, Near, Relative, Toffoli};
 ghost use Rattle.rv_cmd.specs.declared.product.Product.TheVariants as products;
 ghost use Rattle.rv_cmd.specs.Commands.Map.{IsMapping, map_limits, map_report};
 ghost use Rattle.rv_cmd.specs.Limits.{of_ops};
@@ -18,6 +19,8 @@ use rv_faults::Refusal;
 use rv_gate::{Circuit, MOST_LINES};
 use rv_ladder::{RelativeFault, relative};
 use rv_mct::Aux;
+use rv_near::near;
+use rv_net::ExpandFault;
 use rv_real::RealReader;
 use rv_words::Blocks;
 use std::alloc::Global;
@@ -55,6 +58,7 @@ pub(crate) fn mapping(
         Blocks::Exact => exact(alloc, aux, circuit),
         Blocks::Relative => of_ladders(alloc, aux, circuit),
         Blocks::Toffoli => of_toffolis(alloc, aux, circuit),
+        Blocks::Near => on_neighbours(alloc, aux, circuit),
     }
 }
 
@@ -123,5 +127,33 @@ fn toffolis(circuit: Circuit) -> Result<Product, Refusal>
     match Toffolis::of_circuit(circuit) {
         Ok(toffolis) => Ok(Product::Toffolis(toffolis)),
         Err(count) => Err(too_many_ops(count)),
+    }
+}
+
+// Of the decomposed circuit, with blocks on neighbours for gates whose lines are a row.
+fn on_neighbours(alloc: Global, aux: Aux, circuit: &Circuit) -> Result<Product, Refusal>
+    ensures made { IfOk result (IsProductOf (map_report Near aux circuit.now) (IsMapping Near aux circuit.now)) }
+    ensures unmade { IfErr result (IsRefusalOf 1 (map_limits Near aux circuit.now)) }
+{
+    circuit.recall_invariant();
+    match decomposition(alloc, aux, circuit) {
+        Ok(decomposed) => {
+            decomposed.recall_invariant();
+            near_network(alloc, decomposed)
+        }
+        Err(refusal) => Err(refusal),
+    }
+}
+
+fn near_network(alloc: Global, circuit: Circuit) -> Result<Product, Refusal>
+    requires { All IsPlain circuit.gates }
+    ensures few { IfOk result (λ product. length (near_ops circuit.gates) ≤ MOST_OPS) }
+    ensures made { IfOk result (λ product. product ≡ products.Network (near_net circuit)) }
+    ensures unmade { IfErr result (IsRefusalOf 1 (of_ops (length (near_ops circuit.gates)) ∷ [])) }
+{
+    match near(alloc, &circuit) {
+        Ok(net) => Ok(Product::Network(net)),
+        Err(ExpandFault::TooManyOps(count)) => Err(too_many_ops(count)),
+        Err(ExpandFault::Mem) => Err(Refusal::OutOfMemory),
     }
 }

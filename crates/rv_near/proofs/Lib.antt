@@ -1,0 +1,6 @@
+pub mod Blocks
+pub mod Flips
+pub mod Rows
+pub mod Operations
+pub mod Counting
+pub mod Maps
