@@ -30,7 +30,7 @@ complete -c rev -n '__fish_seen_subcommand_from synth' -l method -x -a 'best out
 complete -c rev -n '__fish_seen_subcommand_from flow' -l method -x -a 'best out both single' -d 'how the circuit is found: by transformations, or by single-target gates'
 complete -c rev -n '__fish_seen_subcommand_from templates' -l library -r -F -d 'a circuit that is one more template, after the built-in ones'
 complete -c rev -n '__fish_seen_subcommand_from flow' -l simplify -d 'the circuit is simplified by pairs and the built-in templates before it is decomposed'
-complete -c rev -n '__fish_seen_subcommand_from map flow' -l blocks -x -a 'exact relative toffoli' -d 'blocks of their own for each gate, blocks whose phases cancel, or the Toffoli gates themselves'
+complete -c rev -n '__fish_seen_subcommand_from map flow' -l blocks -x -a 'exact relative toffoli near' -d 'blocks of their own for each gate, blocks whose phases cancel, the Toffoli gates themselves, or blocks with CNOT between neighbours'
 complete -c rev -n '__fish_seen_subcommand_from decompose map flow' -l aux -x -a 'borrowed clean' -d 'whether helper lines may hold anything, or hold 0'
 complete -c rev -n '__fish_seen_subcommand_from simulate compare' -l all -d 'all lines are inputs and outputs, whatever their marks'
 complete -c rev -n '__fish_seen_subcommand_from draw' -l as -x -a 'text svg latex' -d 'the form of the drawing'

@@ -58,7 +58,69 @@ fn networks_of_all_blocks_do_what_the_circuit_does(rt: HostRuntime) -> Result<()
     let alloc = rt.alloc();
     expect_same_networks(&rt, alloc, "map --blocks exact")?;
     expect_same_networks(&rt, alloc, "map --blocks relative")?;
-    expect_same_networks(&rt, alloc, "map --blocks toffoli")
+    expect_same_networks(&rt, alloc, "map --blocks toffoli")?;
+    expect_same_networks(&rt, alloc, "map --blocks near")
+}
+
+// By the line that stands between the others: the second control, the target, and the first control of two, which wants 0.
+#[test]
+fn three_lines_in_a_row_are_joined_as_neighbours(rt: HostRuntime) -> Result<(), Fail> {
+    const CONTROL: &str = concat!(
+        "OPENQASM 2.0;\ninclude \"qelib1.inc\";\nqreg q[3];\n",
+        "h q[2];\nt q[0];\nt q[1];\nt q[2];\ncx q[0],q[1];\ntdg q[1];\ncx q[1],q[2];\n",
+        "t q[2];\ncx q[0],q[1];\ncx q[1],q[2];\ntdg q[2];\ncx q[0],q[1];\ncx q[1],q[2];\n",
+        "tdg q[2];\ncx q[0],q[1];\ncx q[1],q[2];\nh q[2];\n",
+    );
+    const TARGET: &str = concat!(
+        "OPENQASM 2.0;\ninclude \"qelib1.inc\";\nqreg q[3];\n",
+        "h q[1];\nt q[0];\nt q[1];\nt q[2];\ncx q[0],q[1];\ntdg q[1];\ncx q[1],q[2];\n",
+        "t q[2];\ncx q[0],q[1];\ncx q[1],q[2];\ntdg q[2];\ncx q[0],q[1];\ncx q[1],q[2];\n",
+        "tdg q[2];\ncx q[0],q[1];\ncx q[1],q[2];\nh q[1];\n",
+    );
+    const ZERO: &str = concat!(
+        "OPENQASM 2.0;\ninclude \"qelib1.inc\";\nqreg q[3];\n",
+        "x q[1];\nh q[0];\nt q[2];\nt q[1];\nt q[0];\ncx q[2],q[1];\ntdg q[1];\n",
+        "cx q[1],q[0];\nt q[0];\ncx q[2],q[1];\ncx q[1],q[0];\ntdg q[0];\ncx q[2],q[1];\n",
+        "cx q[1],q[0];\ntdg q[0];\ncx q[2],q[1];\ncx q[1],q[0];\nh q[0];\nx q[1];\n",
+    );
+    const CASES: [(&str, &str, u8, &str); 4] = [
+        (
+            "map --blocks near",
+            typed!(3, "a b c", "t3 a b c\n"),
+            0,
+            CONTROL,
+        ),
+        (
+            "map --blocks=near -",
+            typed!(3, "a b c", "t3 c a b\n"),
+            0,
+            TARGET,
+        ),
+        (
+            "map --blocks near",
+            typed!(3, "a b c", "t3 -b c a\n"),
+            0,
+            ZERO,
+        ),
+        (
+            "flow --from perm --blocks near",
+            "0 1 2 3 4 5 7 6\n",
+            0,
+            CONTROL,
+        ),
+    ];
+    expect_each(&rt, rt.alloc(), &CASES)
+}
+
+// Lines that are no row have the usual block.
+#[test]
+fn lines_apart_have_the_usual_block(rt: HostRuntime) -> Result<(), Fail> {
+    const APART: &str = typed!(4, "a b c d", "t3 a c d\nt2 a d\nt3 d a -b\n");
+    let alloc = rt.alloc();
+    let near = output_of(&rt, alloc, "map --blocks near", APART.as_bytes())?;
+    let exact = output_of(&rt, alloc, "map", APART.as_bytes())?;
+    assert!(rt; near.bytes() == exact.bytes());
+    Ok(())
 }
 
 // By n controls: 20n - 24 operations with T 8n - 8, over clean lines 18n - 21 with T 8n - 9; a split has each half twice.
