@@ -10,10 +10,10 @@ ghost use Rattle.rv_draw.specs.Symbols.{op_symbol_on, symbol_on};
 ghost use Rattle.rv_picture.specs.Cut.{text_of_lines};
 ghost use Rattle.rv_picture.specs.Latex.{is_on};
 ghost use Rattle.rv_picture.specs.SvgReading.{svg_shown_by};
-ghost use Rattle.rv_picture.specs.Svg.{all_gate_lines, begins_wide, block_lines, break_at, breaks, down_if, gate_lines, head};
+ghost use Rattle.rv_picture.specs.Svg.{all_gate_lines, block_lines, break_at, breaks, down_if, gate_lines, head};
 ghost use Rattle.rv_picture.specs.Svg.{input_body, input_end, line_lines, margin, mark_lines, middle_of, output_body};
 ghost use Rattle.rv_picture.specs.Svg.{output_end, placed, reach, shape, size, stroke, stroke_lines, svg_with, up_if};
-ghost use Rattle.rv_picture.specs.Svg.{widest, width, wire};
+ghost use Rattle.rv_picture.specs.Svg.{begins_wide, widest, width, wire};
 ghost use Rattle.rv_picture.specs.Titles.{gate_title, op_title};
 ghost use Rattle.rv_picture.specs.inside.Within.{symbol_within};
 
