@@ -25,14 +25,14 @@ pub record Cell : Type 0 where
   pub symbol : Symbol
   pub is_joined : Bool
 
--- a symbol that no vertical leaves
+-- a symbol that no vertical leaves; wires and verticals lead to the middle of a cross
 abbrev pub symbol_text : Symbol → List ℕ
 symbol_text Wire = codes " \\qw"
 symbol_text Crossing = codes " \\qw{}"
 symbol_text Positive = codes " \\control{}"
 symbol_text Negative = codes " \\ocontrol{}"
 symbol_text Target = codes " \\targ{}"
-symbol_text Exchanged = codes " \\targX{}"
+symbol_text Exchanged = codes " \\targX[outer sep=-.5em]{}"
 symbol_text Middle = codes " \\gate[style={circle,inner sep=-2pt}]{\\bullet}"
 symbol_text Zero = codes " \\push{0}"
 symbol_text One = codes " \\push{1}"
@@ -49,7 +49,6 @@ symbol_text Y = codes " \\gate{Y}"
 abbrev pub joined_text : Symbol → List ℕ
 joined_text Positive = codes " \\ctrl{1}"
 joined_text Negative = codes " \\octrl{1}"
-joined_text Exchanged = codes " \\swap{1}"
 joined_text symbol = symbol_text symbol ++ codes "\\vqw{1}"
 
 -- a cell of the array

@@ -1,7 +1,7 @@
 -- A picture in SVG: a group for each block, in it the labels and wires of its lines and a group for each gate, in that
 -- a group for each symbol.
 use Rattle.std.specs.Prelude.{ℕ, ◌+◌, ◌-◌, ◌*◌, ◌==◌, ◌&&◌, Bool, true, false, not, List, [], ◌∷◌, ◌++◌, codes, decimal}
-use Rattle.std.specs.Prelude.{length, max, min, slice_index_or, if◌then◌else◌}
+use Rattle.std.specs.Prelude.{length, max, min, nat_lt, slice_index_or, if◌then◌else◌}
 use Rattle.std.specs.Fork.{slice_chunk}
 use Rattle.std.specs.List.{count_by, flat_map, range_with_len}
 use Rattle.rv_gate.specs.Circuit.{Cascade}
@@ -193,9 +193,14 @@ abbrev pub block_lines : {G : Type 0} → (G → ℕ → Symbol) → (List (List
     → List (List ℕ)
 block_lines draws title per_block c gates block = block_of draws title c block (slice_chunk gates per_block block)
 
--- how many characters a label has, as it is shown
+-- whether a byte begins a character of three or four bytes: most of these are as wide as two others
+abbrev pub begins_wide : ℕ → Bool
+begins_wide byte = not (nat_lt byte 224)
+
+-- how wide a label is, as it is shown
 abbrev pub width : List ℕ → ℕ
-width label = if is_printable label then count_by begins_character label else 2 * length label + 2
+width label =
+    if is_printable label then count_by begins_character label + count_by begins_wide label else 2 * length label + 2
 
 abbrev pub widest : List (List ℕ) → ℕ
 widest [] = 0

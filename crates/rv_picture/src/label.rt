@@ -1,9 +1,10 @@
-ghost use Rattle.std.specs.Prelude.{◌≡◌, ◌<◌, [], ◌∷◌, MatchOption};
+ghost use Rattle.std.specs.Prelude.{◌≡◌, ◌<◌, [], ◌∷◌, MatchOption, is_some};
 ghost use Rattle.std.specs.List.{flat_map, list_all};
 ghost use Rattle.std.specs.Str.{is_utf8};
 ghost use Rattle.rv_io.specs.Writer.{Adds};
-ghost use Rattle.rv_picture.specs.Labels.{digit, digits, escaped, is_printable, is_visible, written_label};
+ghost use Rattle.rv_picture.specs.Labels.{digit, digits, escaped, is_printable, is_special, is_visible, written_label};
 ghost use Rattle.rv_picture.specs.Markup.{escapes};
+ghost use Rattle.rv_picture.specs.inside.Plain.{is_plain};
 
 use rv_io::{Sink, Writer};
 use std::str::from_utf8;
@@ -17,8 +18,9 @@ pub(crate) enum Markup {
 
 // What is written for a byte that has another meaning.
 fn latex_escape(byte: u8) -> Option<&'static [u8]>
-    ensures { MatchOption result (escaped (escapes Markup.Latex) byte ≡ byte ∷ [])
+    ensures text { MatchOption result (escaped (escapes Markup.Latex) byte ≡ byte ∷ [])
         (λ text. text.now ≡ escaped (escapes Markup.Latex) byte) }
+    ensures special { is_some result ≡ is_special (escapes Markup.Latex) byte }
 {
     if byte == b' ' {
         Some(b"\\ ")
@@ -56,8 +58,9 @@ fn latex_escape(byte: u8) -> Option<&'static [u8]>
 }
 
 fn svg_escape(byte: u8) -> Option<&'static [u8]>
-    ensures { MatchOption result (escaped (escapes Markup.Svg) byte ≡ byte ∷ [])
+    ensures text { MatchOption result (escaped (escapes Markup.Svg) byte ≡ byte ∷ [])
         (λ text. text.now ≡ escaped (escapes Markup.Svg) byte) }
+    ensures special { is_some result ≡ is_special (escapes Markup.Svg) byte }
 {
     if byte == b'&' {
         Some(b"&amp;")
@@ -75,8 +78,9 @@ fn svg_escape(byte: u8) -> Option<&'static [u8]>
 }
 
 fn escape(markup: Markup, byte: u8) -> Option<&'static [u8]>
-    ensures { MatchOption result (escaped (escapes markup) byte ≡ byte ∷ [])
+    ensures text { MatchOption result (escaped (escapes markup) byte ≡ byte ∷ [])
         (λ text. text.now ≡ escaped (escapes markup) byte) }
+    ensures special { is_some result ≡ is_special (escapes markup) byte }
 {
     match markup {
         Markup::Latex => latex_escape(byte),
@@ -96,6 +100,33 @@ fn put_byte<O: Sink>(writer: &mut Writer, sink: &mut O, markup: Markup, byte: u8
 
 /// Adds a label to the text.
 pub(crate) fn put_label<O: Sink>(writer: &mut Writer, sink: &mut O, markup: Markup, label: &[u8])
+    ensures { Adds writer.old (O.view sink.old)
+        (written_label (escapes markup) label.now)
+        writer.new (O.view sink.new) }
+{
+    if are_plain(markup, label) {
+        writer.put(sink, label);
+    } else {
+        put_escaped(writer, sink, markup, label);
+    }
+}
+
+// Whether each byte stands as it is: so do most labels, in one piece.
+fn are_plain(markup: Markup, label: &[u8]) -> bool
+    ensures { result ≡ list_all (is_plain (escapes markup)) label.now }
+{
+    label.iter().all(|byte| is_plain(markup, *byte))
+}
+
+// Whether a byte is of ASCII, and stands as it is.
+fn is_plain(markup: Markup, byte: u8) -> bool
+    ensures { result ≡ is_plain (escapes markup) byte }
+{
+    byte < 128 && is_visible(byte) && escape(markup, byte).is_none()
+}
+
+// Adds a label byte by byte.
+fn put_escaped<O: Sink>(writer: &mut Writer, sink: &mut O, markup: Markup, label: &[u8])
     ensures { Adds writer.old (O.view sink.old)
         (written_label (escapes markup) label.now)
         writer.new (O.view sink.new) }

@@ -13,7 +13,7 @@ ghost use Rattle.rv_picture.specs.SvgReading.{svg_shown_by};
 ghost use Rattle.rv_picture.specs.Svg.{all_gate_lines, block_lines, break_at, breaks, down_if, gate_lines, head};
 ghost use Rattle.rv_picture.specs.Svg.{input_body, input_end, line_lines, margin, mark_lines, middle_of, output_body};
 ghost use Rattle.rv_picture.specs.Svg.{output_end, placed, reach, shape, size, stroke, stroke_lines, svg_with, up_if};
-ghost use Rattle.rv_picture.specs.Svg.{widest, width, wire};
+ghost use Rattle.rv_picture.specs.Svg.{begins_wide, widest, width, wire};
 ghost use Rattle.rv_picture.specs.Titles.{gate_title, op_title};
 ghost use Rattle.rv_picture.specs.inside.Within.{symbol_within};
 
@@ -144,7 +144,7 @@ fn margin(lines: &Circuit) -> u128
     8 * widest_label(lines) + 56
 }
 
-// How many characters the widest label has.
+// How wide the widest label is.
 fn widest_label(lines: &Circuit) -> u128
     ensures value { result ≡ max (widest lines.now.input_labels) (widest lines.now.output_labels) }
     ensures few { result < 2 ^ 70 }
@@ -166,13 +166,13 @@ fn wider(most: u128, label: &[u8]) -> u128
     most.max(width(label))
 }
 
-// How many characters a label has, as it is shown.
+// How wide a label is, as it is shown.
 fn width(label: &[u8]) -> u128
     ensures value { result ≡ width label.now }
     ensures few { result < 2 ^ 70 }
 {
     if is_printable(label) {
-        character_count(label) as u128
+        character_count(label) as u128 + wide_count(label) as u128
     } else {
         2 * label.len() as u128 + 2
     }
@@ -183,6 +183,13 @@ fn character_count(label: &[u8]) -> usize
     ensures { result ≡ count_by begins_character label.now }
 {
     label.iter().filter(|&byte| byte / 64 != 2).count()
+}
+
+// How many bytes begin a character of three or four.
+fn wide_count(label: &[u8]) -> usize
+    ensures { result ≡ count_by begins_wide label.now }
+{
+    label.iter().filter(|&byte| *byte >= 224).count()
 }
 
 fn put_blocks<O: Sink, G: Titled>(
