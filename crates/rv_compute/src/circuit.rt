@@ -127,7 +127,8 @@ fn too_many_lines(
 /// outputs, and lines `w0`, `w1`, .. are worked on; all these hold 0, and the work lines are garbage. Whatever the
 /// lines of the outputs hold, the circuit adds the outputs to them. The labels are these names, too.
 ///
-/// Where no order is found that fits, the lines of the best one are told, or one for each input, output and node.
+/// Where no order is found that fits, the lines of the best one are told, or one for each input, output and node. Where
+/// each of these can have a line, and the gates for their words are few enough, there is a circuit.
 pub fn compute(alloc: Global, logic: &Logic, most_lines: u8) -> Result<Circuit, ComputeFault>
     requires { most_lines ≤ MOST_LINES }
     ensures computed { IfOk result (IsComputed logic.now) }
