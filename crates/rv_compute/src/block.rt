@@ -2,7 +2,7 @@
 ghost use Rattle.std.specs.Prelude.{◌≡◌, ◌+◌, ◌<◌, ◌≤◌, ℕ, length, IfOk, IfSome, IsTrue, is_some};
 ghost use Rattle.rv_gate.specs.declared.word.TheConstants.{MOST_LINES};
 ghost use Rattle.rv_blif.specs.declared.product.TheConstants.{MOST_OPERANDS};
-ghost use Rattle.rv_compute.specs.inside.Blocks.{Adds, AddsMore, AreFew, AreGates};
+ghost use Rattle.rv_compute.specs.inside.Blocks.{Adds, AddsMore, AreFew};
 ghost use Rattle.rv_compute.specs.inside.Places.{AreBeside, AreThere};
 
 use crate::controls::{Controls, controls_of};
