@@ -8,7 +8,8 @@ use Rattle.rv_gate.specs.declared.gate.Shape.{Shape}
 use Rattle.rv_blif.specs.Logic.{Logic}
 use Rattle.rv_compute.specs.Lines.{lines_of, logic_lines}
 use Rattle.rv_compute.specs.Computed.{IsComputedWithin}
-use Rattle.rv_compute.specs.inside.Held.{line_count, Stands, IsDone, AreGates}
+use Rattle.rv_compute.specs.inside.Held.{line_count, Stands, IsDone}
+use Rattle.rv_compute.specs.inside.Blocks.{AreGates}
 use Rattle.rv_compute.proofs.Marks.{length-line_names}
 use Rattle.rv_compute.proofs.inside.Ends.{ends}
 use Rattle.rv_compute.proofs.inside.Standing.{by_default}

@@ -5,3 +5,5 @@ pub mod Signals
 pub mod Placing
 pub mod Standing
 pub mod Ends
+pub mod AllAsked
+pub mod Owning

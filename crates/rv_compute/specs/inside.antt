@@ -2,3 +2,4 @@ pub mod Sums
 pub mod Places
 pub mod Blocks
 pub mod Held
+pub mod Own

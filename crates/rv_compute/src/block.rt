@@ -1,9 +1,9 @@
 // The gates that add a sum of products to a line.
-ghost use Rattle.std.specs.Prelude.{◌≡◌, ◌<◌, ◌≤◌, length, IfOk, IfSome, IsTrue};
+ghost use Rattle.std.specs.Prelude.{◌≡◌, ◌+◌, ◌<◌, ◌≤◌, ℕ, length, IfOk, IfSome, IsTrue, is_some};
 ghost use Rattle.rv_gate.specs.declared.word.TheConstants.{MOST_LINES};
 ghost use Rattle.rv_blif.specs.declared.product.TheConstants.{MOST_OPERANDS};
-ghost use Rattle.rv_compute.specs.inside.Blocks.{Adds, AddsMore};
-ghost use Rattle.rv_compute.specs.inside.Places.{AreBeside};
+ghost use Rattle.rv_compute.specs.inside.Blocks.{Adds, AddsMore, AreFew};
+ghost use Rattle.rv_compute.specs.inside.Places.{AreBeside, AreThere};
 
 use crate::controls::{Controls, controls_of};
 use crate::place::Place;
@@ -23,8 +23,11 @@ fn push_product(
     requires few { length places.now ≤ MOST_OPERANDS }
     requires target { target < lines }
     requires beside { AreBeside lines target places.now }
-    ensures { IfOk result (λ done. IsTrue done
+    ensures adds { IfOk result (λ done. IsTrue done
         → AddsMore lines places.now target product gates.old.items gates.new.items) }
+    ensures done { AreThere places.now → IfOk result (λ done. IsTrue done) }
+    ensures few { AreThere places.now → IfOk result (λ _. (count : ℕ) → AreFew lines count gates.old.items
+        → AreFew lines (count + 1) gates.new.items) }
 {
     match controls_of(lines, product, places) {
         Controls::Missing => Ok(false),
@@ -51,7 +54,10 @@ pub(crate) fn block_of(
     requires few { length places.now ≤ MOST_OPERANDS }
     requires target { target < lines }
     requires beside { AreBeside lines target places.now }
-    ensures { IfOk result (λ block. IfSome block (λ gates. Adds lines places.now target products.now gates.items)) }
+    ensures adds { IfOk result (λ block. IfSome block (λ gates. Adds lines places.now target products.now gates.items)) }
+    ensures there { AreThere places.now → IfOk result (λ block. IsTrue (is_some block)) }
+    ensures few { AreThere places.now
+        → IfOk result (λ block. IfSome block (λ gates. AreFew lines (length products.now) gates.items)) }
 {
     let mut gates = Vec::new(alloc);
     for product in products {

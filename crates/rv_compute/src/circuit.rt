@@ -1,5 +1,5 @@
 // The circuit of a logic network.
-ghost use Rattle.std.specs.Prelude.{◌≡◌, ◌<◌, ◌≤◌, ◌+◌, ℕ, length, IfOk, IfSome};
+ghost use Rattle.std.specs.Prelude.{◌≡◌, ◌<◌, ◌≤◌, ◌+◌, ◌↔◌, ℕ, length, IfOk, IfSome, IsTrue};
 ghost use Rattle.rv_gate.specs.declared.circuit.TheConstants.{MOST_GATES};
 ghost use Rattle.rv_gate.specs.declared.word.TheConstants.{MOST_LINES};
 ghost use Rattle.rv_compute.specs.Bounds.{line_bound, node_bound, gate_bound};
@@ -8,6 +8,7 @@ ghost use Rattle.rv_compute.specs.inside.Held.{line_count};
 ghost use Rattle.rv_compute.specs.declared.circuit.ComputeFault.TheVariants.{Mem};
 
 use crate::net::net_of;
+use crate::own::on_own_lines;
 use crate::run::certified;
 use crate::search::best_plan;
 use rv_blif::{Logic, Node};
@@ -45,23 +46,26 @@ static MORE_LINES: [u8; 8] = [1, 2, 4, 8, 16, 32, 64, 128];
 // A plan has at most so many.
 const MOST_WORK: u8 = 190;
 
-// At most so many gates a node takes.
-fn node_enough(node: &Node) -> u64
-    ensures { result ≤ node_bound node.now }
+// So many gates are enough for a node.
+fn gates_for(node: &Node) -> u64
+    ensures { result ≡ node_bound node.now }
 {
-    let count = node.operands().len();
-    if count < 32 { 2u64 << count } else { 0 }
+    2 * (1u64 << node.operands().len())
 }
 
-// At most so many gates take the words of all nodes' operands, and the outputs.
-fn gates_enough(logic: &Logic) -> u64
-    ensures { result ≤ gate_bound logic.now }
+// Whether a circuit has room for the words of all nodes' operands, and the outputs.
+fn gates_fit(logic: &Logic) -> bool
+    ensures { IsTrue result ↔ (gate_bound logic.now ≤ MOST_GATES) }
 {
+    let most = MOST_GATES as u64;
     let mut gates = 0u64;
     for node in logic.nodes() {
-        gates = gates.saturating_add(node_enough(node));
+        gates = gates.saturating_add(gates_for(node));
+        if gates > most {
+            return false;
+        }
     }
-    gates.saturating_add(u64::from(logic.output_count()))
+    gates.saturating_add(u64::from(logic.output_count())) <= most
 }
 
 // The circuit that was found, if there is one.
@@ -123,7 +127,8 @@ fn too_many_lines(
 /// outputs, and lines `w0`, `w1`, .. are worked on; all these hold 0, and the work lines are garbage. Whatever the
 /// lines of the outputs hold, the circuit adds the outputs to them. The labels are these names, too.
 ///
-/// Where no order is found that fits, the lines of the best one are told, or one for each input, output and node.
+/// Where no order is found that fits, the lines of the best one are told, or one for each input, output and node. Where
+/// each of these can have a line, and the gates for their words are few enough, there is a circuit.
 pub fn compute(alloc: Global, logic: &Logic, most_lines: u8) -> Result<Circuit, ComputeFault>
     requires { most_lines ≤ MOST_LINES }
     ensures computed { IfOk result (IsComputed logic.now) }
@@ -147,8 +152,9 @@ pub fn compute(alloc: Global, logic: &Logic, most_lines: u8) -> Result<Circuit, 
     if lines + nodes as u32 > u32::from(most_lines) {
         return Err(ComputeFault::TooManyLines(too_many_lines(alloc, logic, most_lines, lines)?));
     }
-    if gates_enough(logic) > MOST_GATES as u64 {
+    if !gates_fit(logic) {
         return Err(ComputeFault::TooManyGates);
     }
-    Err(ComputeFault::Mem)
+    let circuit = on_own_lines(alloc, logic)?;
+    Ok(circuit)
 }

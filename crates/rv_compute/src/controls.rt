@@ -1,8 +1,9 @@
 // The controls by which a product of operands is read on lines.
-ghost use Rattle.std.specs.Prelude.{◌≡◌, ◌<◌, ◌≤◌, length};
+ghost use Rattle.std.specs.Prelude.{◌≡◌, ◌≢◌, ◌<◌, ◌≤◌, ℕ, length};
 ghost use Rattle.rv_gate.specs.declared.word.TheConstants.{MOST_LINES};
 ghost use Rattle.rv_blif.specs.declared.product.TheConstants.{MOST_OPERANDS};
-ghost use Rattle.rv_compute.specs.inside.Blocks.{AreControls, IsWithLine, IsWithPlace};
+ghost use Rattle.rv_compute.specs.inside.Blocks.{AreControls, DoServe, IsWithLine, IsWithPlace, Serve};
+ghost use Rattle.rv_compute.specs.inside.Places.{AreBeside, AreThere, IsBeside};
 
 use crate::place::Place;
 use rv_blif::{MOST_OPERANDS, Product};
@@ -20,7 +21,9 @@ pub(crate) enum Controls {
 // A line more is asked for, which is to have this bit.
 fn with_line(care: LineSet, want: LineSet, line: u8, bit: bool) -> Controls
     requires { line < MOST_LINES }
-    ensures { IsWithLine care want line bit result }
+    ensures asks { IsWithLine care want line bit result }
+    ensures serves { (lines target : ℕ) → line < lines → line ≢ target → Serve lines target care want
+        → DoServe lines target result }
 {
     let as_wanted = has(want, line) == bit;
     if has(care, line) {
@@ -39,7 +42,9 @@ fn with_line(care: LineSet, want: LineSet, line: u8, bit: bool) -> Controls
 // What is read at a place is asked for, and is to be this bit.
 fn with_place(lines: u8, care: LineSet, want: LineSet, place: Place, bit: bool) -> Controls
     requires { lines ≤ MOST_LINES }
-    ensures { IsWithPlace lines care want place bit result }
+    ensures asks { IsWithPlace lines care want place bit result }
+    ensures serves { (target : ℕ) → IsBeside lines target place → Serve lines target care want
+        → DoServe lines target result }
 {
     match place {
         Place::Constant(value) => {
@@ -63,7 +68,9 @@ fn with_place(lines: u8, care: LineSet, want: LineSet, place: Place, bit: bool) 
 pub(crate) fn controls_of(lines: u8, product: Product, places: &[Option<Place>]) -> Controls
     requires lines { lines ≤ MOST_LINES }
     requires few { length places.now ≤ MOST_OPERANDS }
-    ensures { AreControls lines places.now product result }
+    ensures asks { AreControls lines places.now product result }
+    ensures serves { (target : ℕ) → AreBeside lines target places.now → AreThere places.now
+        → DoServe lines target result }
 {
     let (mut care, mut want) = (0u64, 0u64);
     for i in 0..places.len() {

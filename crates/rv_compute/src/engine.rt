@@ -192,7 +192,7 @@ impl Engine {
     // A line that holds nothing, if need be after a node was taken back.
     fn free_line(&mut self, net: &Net) -> Result<Option<u8>, AllocError> {
         let first = net.inputs.saturating_add(net.outputs.len());
-        let end = first.saturating_add(self.extra).min(64);
+        let end = first.saturating_add(self.extra).min(usize::from(NO_LINE));
         let (mut least, mut best) = (u64::MAX, NONE);
         for line in first..end {
             let signal = at(&self.held, line, NONE);

@@ -13,6 +13,7 @@ mod esop;
 mod held;
 mod lines;
 mod net;
+mod own;
 mod place;
 mod plan;
 mod run;

@@ -1,8 +1,11 @@
 // A plan run step by step, each step certified.
 ghost use Rattle.std.specs.Prelude.{◌≡◌, ◌≤◌, length, IfOk, IfSome, IsTrue};
+ghost use Rattle.rv_gate.specs.declared.circuit.TheConstants.{MOST_GATES};
 ghost use Rattle.rv_gate.specs.declared.word.TheConstants.{MOST_LINES};
 ghost use Rattle.rv_compute.specs.Computed.{IsComputedWithin};
-ghost use Rattle.rv_compute.specs.inside.Held.{AreGates, Stands, line_count};
+ghost use Rattle.rv_compute.specs.inside.Held.{Stands, line_count};
+ghost use Rattle.rv_compute.specs.inside.Blocks.{AreGates};
+ghost use Rattle.rv_compute.specs.inside.Own.{Ended};
 
 use crate::lines::lines_of;
 use crate::net::Net;
@@ -86,6 +89,24 @@ fn run_steps(
     Ok(Some(work))
 }
 
+/// The circuit of gates that end in what is due.
+pub(crate) fn circuit_of(
+    alloc: Global,
+    logic: &Logic,
+    extra: u8,
+    gates: Vec<Gate>,
+) -> Result<Circuit, AllocError>
+    requires lines { line_count logic.now extra ≤ MOST_LINES }
+    requires few { length gates.items ≤ MOST_GATES }
+    requires ended { Ended logic.now extra gates.items }
+    ensures { IfOk result (IsComputedWithin logic.now (line_count logic.now extra)) }
+{
+    let (inputs, outputs) = (logic.input_count() as u8, logic.output_count() as u8);
+    let mut circuit = lines_of(alloc, inputs, outputs, extra)?;
+    circuit.set_gates(gates);
+    Ok(circuit)
+}
+
 // The circuit, if each line holds what is due.
 fn finished(
     alloc: Global,
@@ -97,16 +118,14 @@ fn finished(
     requires stands { Stands logic.now extra work.held.items work.gates.items }
     ensures { IfOk result (λ o. IfSome o (IsComputedWithin logic.now (line_count logic.now extra))) }
 {
-    let (inputs, outputs) = (logic.input_count() as u8, logic.output_count() as u8);
-    let lines = inputs + outputs + extra;
+    let lines = logic.input_count() as u8 + logic.output_count() as u8 + extra;
     if !is_done(logic, &work.held) || work.gates.len() > MOST_GATES {
         return Ok(None);
     }
     if !all_fit(&work.gates, lines) {
         return Ok(None);
     }
-    let mut circuit = lines_of(alloc, inputs, outputs, extra)?;
-    circuit.set_gates(work.gates);
+    let circuit = circuit_of(alloc, logic, extra, work.gates)?;
     Ok(Some(circuit))
 }
 

@@ -1,5 +1,5 @@
 // Sums of products that give the bit of a node.
-ghost use Rattle.std.specs.Prelude.{◌≡◌, ℕ, ◌<◌, ◌≤◌, ◌^◌, length, IsTrue, All, IfSome, Option};
+ghost use Rattle.std.specs.Prelude.{◌≡◌, ℕ, ◌<◌, ◌≤◌, ◌^◌, length, IsTrue, All, IfOk, IfSome, None, Option};
 ghost use Rattle.rv_gate.specs.Word.{word_with};
 ghost use Rattle.rv_gate.specs.Gate.{holds};
 ghost use Rattle.rv_blif.specs.Logic.{any_holds};
@@ -8,6 +8,7 @@ ghost use Rattle.rv_compute.specs.inside.Sums.{sum_of, start_value, cover_value,
 
 use rv_blif::{MOST_OPERANDS, Node, Product};
 use rv_gate::has;
+use std::alloc::{AllocError, Global};
 
 // Whether a product holds of the operands of a set.
 fn holds_at(product: Product, set: u32, count: u8) -> bool
@@ -52,6 +53,25 @@ fn start_at(start: Option<u8>, set: u32, count: u8) -> bool
         None => false,
         Some(operand) => has(u64::from(set), operand),
     }
+}
+
+/// The products that ask for all operands, one for each set of operands at which a node is 1.
+pub(crate) fn words_of(alloc: Global, node: &Node) -> Result<Vec<Product>, AllocError>
+    ensures sum { IfOk result (λ products. IsSum node.now None products.items) }
+    ensures few { IfOk result (λ products. length products.items ≤ 2 ^ length node.now.operands) }
+{
+    let count = node.operands().len() as u8;
+    let care = ((1u32 << count) - 1) as u16;
+    let mut products = Vec::new(alloc);
+    for set in 0..1u32 << count {
+        if any_holds_at(node.products(), set, count) == node.on() {
+            products.push(Product {
+                care,
+                want: set as u16,
+            })?;
+        }
+    }
+    Ok(products)
 }
 
 fn are_within(products: &[Product], count: u8) -> bool

@@ -1,20 +1,22 @@
 -- Gates that add a sum of products to a line.
-use Rattle.std.proofs.Common.{◌≡◌, ℕ, ◌<◌, ◌≤◌, Bool, true, false, cond, List, [], ◌∷◌, ◌++◌, length, set, take, refl, sym, subst, ◌∙◌, ap, arith, length-set, get_or-set_same, get_or-set_other}
+use Rattle.std.proofs.Common.{◌≡◌, ℕ, zero, suc, ◌+◌, ◌<◌, ◌≤◌, Bool, true, false, cond, List, [], ◌∷◌, ◌++◌, length, set, take, refl, sym, subst, ◌∙◌, ap, inl, inr, arith, ne_eqb, length-append, length-set, get_or-set_same, get_or-set_other}
 use Rattle.std.specs.Prelude.{Option}
+use Rattle.std.proofs.lemmas.Bool.{cases_eq}
 use Rattle.std.proofs.lemmas.List.{set-set, set-get_or, take_all}
-use Rattle.rv_gate.specs.Word.{bit_of}
-use Rattle.rv_gate.specs.Gate.{holds, flip, act, same, xor}
+use Rattle.std.proofs.lemmas.List.Elements.{All-append}
+use Rattle.rv_gate.specs.Word.{has, bit_of}
+use Rattle.rv_gate.specs.Gate.{holds, flip, act, same, xor, IsGate, FitsIn}
 use Rattle.rv_gate.specs.declared.gate.Shape.{Shape}
 use Rattle.rv_gate.specs.declared.gate.Shape.TheVariants.{Flip}
-use Rattle.rv_gate.proofs.Bits.{xor_false, xor_true, xor_assoc}
+use Rattle.rv_gate.proofs.Bits.{xor_false, xor_true, xor_assoc, or_off}
 use Rattle.rv_gate.proofs.inside.GateLemmas.{run-append}
 use Rattle.rv_blif.specs.declared.product.Product.{Product}
 use Rattle.rv_compute.specs.declared.controls.Controls.TheVariants.{Held, Never}
 use Rattle.rv_compute.specs.declared.place.Place.{Place}
 use Rattle.rv_compute.specs.declared.place.Place.TheVariants.{Line, Constant}
-use Rattle.rv_compute.specs.inside.Places.{place_value, AreRead, AreBeside, IsBeside}
+use Rattle.rv_compute.specs.inside.Places.{place_value, AreRead, AreBeside, AreThere, IsBeside}
 use Rattle.rv_compute.specs.inside.Sums.{sum_of}
-use Rattle.rv_compute.specs.inside.Blocks.{AreControls, Adds, AddsMore}
+use Rattle.rv_compute.specs.inside.Blocks.{AreControls, Adds, AddsMore, AreFew, AreGates, Serve}
 
 -- ---- sums
 
@@ -113,3 +115,41 @@ pub adds_all : (lines : ℕ) (places : List (Option Place)) (target : ℕ) (prod
 adds_all lines places target products k gates le h =
     let P : List Product → Type 0 = λ l. Adds lines places target l gates in
     subst P (take_all k products le) h
+
+-- ---- how many, and on which lines
+
+pub few_append : (lines a b c : ℕ) (old block : List Shape) → AreFew lines a old → AreFew lines b block → a + b ≤ c
+    → AreFew lines c (old ++ block)
+few_append lines a b c old block x y le = record {
+  few = let s = x.few in let t = y.few in omega (arith, length-append old block);
+  fit = All-append (λ gate. IsGate gate × FitsIn gate lines) old block x.fit y.fit;
+}
+
+pub few_none : (lines : ℕ) → AreFew lines 0 []
+few_none lines = record { few = omega arith; fit = λ k d lt. absurd (omega arith) }
+
+pub few_flip : (lines care want target count : ℕ) (old : List Shape) → IsGate (Flip care want target) → target < lines
+    → Serve lines target care want → AreFew lines count old → AreFew lines (count + 1) (old ++ Flip care want target ∷ [])
+few_flip lines care want target count old valid lt serve few =
+    few_append lines count 1 (count + 1) old (Flip care want target ∷ []) few
+    (record {
+      few = omega arith;
+      fit = one;
+    }) (omega arith)
+  where
+    fits : FitsIn (Flip care want target) lines
+    fits line on =
+        elim (cases_eq line target) [
+          | inl e ↦ (omega arith)
+          | inr ne ↦ (serve.within line (sym (or_off (has care line) _ (ne_eqb line target ne)) ∙ on))
+        ]
+
+    one : AreGates lines (Flip care want target ∷ [])
+    one zero d il = (valid, fits)
+    one (suc k) d il = absurd (omega arith)
+
+-- after so many products
+pub record HaveAdded (lines : ℕ) (places : List (Option Place)) (target : ℕ) (products : List Product) (k : ℕ)
+    (gates : List Shape) : Type 0 where
+  pub adds : Adds lines places target (take k products) gates
+  pub few : AreThere places → AreFew lines k gates

@@ -8,15 +8,15 @@ use Rattle.rv_gate.specs.Word.{has, bit_of}
 use Rattle.rv_gate.specs.Gate.{all_below, holds, same}
 use Rattle.rv_gate.proofs.AllBelow.{all_below-at, all_below-from}
 use Rattle.rv_gate.proofs.Bits.{same_bool, same_true, same_from}
-use Rattle.rv_gate.proofs.LineSets.{with_same, with_other, has-changed_same, has-changed_other}
+use Rattle.rv_gate.proofs.LineSets.{has-none, with_same, with_other, has-changed_same, has-changed_other}
 use Rattle.rv_gate.proofs.inside.GateLemmas.{holds_Decides, holds_none}
 use Rattle.rv_blif.specs.declared.product.Product.{Product}
 use Rattle.rv_compute.specs.declared.controls.Controls.{Controls}
 use Rattle.rv_compute.specs.declared.controls.Controls.TheVariants.{Held, Never, Missing}
 use Rattle.rv_compute.specs.declared.place.Place.{Place}
 use Rattle.rv_compute.specs.declared.place.Place.TheVariants.{Line}
-use Rattle.rv_compute.specs.inside.Places.{place_at, place_value, AreRead}
-use Rattle.rv_compute.specs.inside.Blocks.{IsWithLine, IsWithPlace, AreControls}
+use Rattle.rv_compute.specs.inside.Places.{place_at, place_value, AreRead, AreBeside, IsBeside}
+use Rattle.rv_compute.specs.inside.Blocks.{IsWithLine, IsWithPlace, AreControls, Serve, DoServe}
 
 pub beq-true : (x y : Bool) → beq x y ≡ true → x ≡ y
 beq-true true true e = refl
@@ -142,15 +142,59 @@ placed lines care want line on bit Never lt h =
     λ word len. sym (ap (λ t. t && holds care want word) (same-beq (bit_of word line) bit on)) ∙ h word (omega arith)
 placed lines care want line on bit Missing lt h = tt
 
+-- ---- controls that serve for a flip
+
+pub serve_none : (lines target : ℕ) → Serve lines target 0 0
+serve_none lines target = record {
+  within = λ line on. absurd (false≢true (sym (has-none line) ∙ on));
+  beside = has-none target;
+  wanted = λ line on. absurd (false≢true (sym (has-none line) ∙ on));
+}
+
+serve_more : (lines target care want new line : ℕ) → line < lines → line ≢ target
+    → ((other : ℕ) → other ≢ line → has new other ≡ has want other) → Serve lines target care want
+    → Serve lines target (bit_or care (2 ^ line)) new
+serve_more lines target care want new line lt apart others s = record {
+  within = λ l on.
+      elim (cases_eq l line) [
+        | inl e ↦ (omega arith)
+        | inr ne ↦ (s.within l (sym (with_other care line l ne) ∙ on))
+      ];
+  beside = with_other care line target (λ e. apart (sym e)) ∙ s.beside;
+  wanted = λ l on.
+      elim (cases_eq l line) [
+        | inl e ↦ (ap (has (bit_or care (2 ^ line))) e ∙ with_same care line)
+        | inr ne ↦ (with_other care line l ne ∙ s.wanted l (sym (others l ne) ∙ on))
+      ];
+}
+
+pub serve_as_wanted : (lines target care want line : ℕ) → line < 64 → line < lines → line ≢ target
+    → Serve lines target care want → Serve lines target (bit_or care (1 * 2 ^ line % 2 ^ 64)) want
+serve_as_wanted lines target care want line few lt apart s =
+    let P : ℕ → Type 0 = λ m. Serve lines target (bit_or care m) want in
+    subst P (sym (one_shl line 64 few)) (serve_more lines target care want want line lt apart (λ other ne. refl) s)
+
+pub serve_changed : (lines target care want line : ℕ) → line < 64 → line < lines → line ≢ target
+    → Serve lines target care want
+    → Serve lines target (bit_or care (1 * 2 ^ line % 2 ^ 64)) (bit_xor want (1 * 2 ^ line % 2 ^ 64))
+serve_changed lines target care want line few lt apart s =
+    let P : ℕ → Type 0 = λ m. Serve lines target (bit_or care m) (bit_xor want m) in
+    subst P (sym (one_shl line 64 few))
+    (serve_more lines target care want (bit_xor want (2 ^ line)) line lt apart (λ other ne. has-changed_other want line other ne) s)
+
 -- ---- the walk over the operands
 
 -- after so many operands
 pub record HaveAsked (lines : ℕ) (places : List (Option Place)) (product : Product) (count care want : ℕ) : Type 0 where
   pub held : (word bits : List Bool) → length word ≡ lines → length bits ≡ length places → AreRead places word bits
       → holds care want word ≡ all_below (is_asked product bits) count
+  pub serve : (target : ℕ) → AreBeside lines target places → Serve lines target care want
 
 pub asked_first : (lines : ℕ) (places : List (Option Place)) (product : Product) → HaveAsked lines places product 0 0 0
-asked_first lines places product = record { held = λ word bits lw lb read. holds_none word }
+asked_first lines places product = record {
+  held = λ word bits lw lb read. holds_none word;
+  serve = λ target beside. serve_none lines target;
+}
 
 -- an operand that isn't asked for
 pub asked_none : (lines : ℕ) (places : List (Option Place)) (product : Product) (i care want : ℕ)
@@ -161,6 +205,7 @@ asked_none lines places product i care want so_far off = record {
       so_far.held word bits lw lb read
       ∙ sym (ap (λ t. cond t (same (bit_of bits i) (has product.want i)) true && all_below (is_asked product bits) i) off)
       ∙ sym (all_below-suc (is_asked product bits) i);
+  serve = so_far.serve;
 }
 
 step : (places : List (Option Place)) (product : Product) (i : ℕ) (place : Place) (word bits : List Bool)
@@ -174,13 +219,15 @@ pub asked_more : (lines : ℕ) (places : List (Option Place)) (product : Product
     (place : Place)
     → HaveAsked lines places product i care want → has product.care i ≡ true → place_at places i ≡ Some place
     → IsWithPlace lines care want place (has product.want i) (Held new_care new_want)
+    → ((target : ℕ) → IsBeside lines target place → Serve lines target care want → Serve lines target new_care new_want)
     → HaveAsked lines places product (i + 1) new_care new_want
-asked_more lines places product i care want new_care new_want place so_far on at h = record {
+asked_more lines places product i care want new_care new_want place so_far on at h serves = record {
   held = λ word bits lw lb read.
       h word lw
       ∙ ap (λ t. same (place_value word place) (has product.want i) && t) (so_far.held word bits lw lb read)
       ∙ ap (λ t. t && all_below (is_asked product bits) i) (sym (step places product i place word bits on at read))
       ∙ sym (all_below-suc (is_asked product bits) i);
+  serve = λ target beside. serves target (beside i place at) (so_far.serve target beside);
 }
 
 pub asked_all : (lines : ℕ) (places : List (Option Place)) (product : Product) (i care want : ℕ) → i ≡ length places
@@ -204,6 +251,10 @@ asked_never lines places product i care want place lt so_far on at h word bits l
     ∙ h word lw)
 
 -- ---- as the code has them
+
+pub told_serve : (lines target : ℕ) (told controls : Controls) → told ≡ controls → DoServe lines target told
+    → DoServe lines target controls
+told_serve lines target told controls e h = subst (λ (t : Controls). DoServe lines target t) e h
 
 pub asked_controls : (lines care want : ℕ) (place : Place) (bit asked : Bool) (told controls : Controls) → bit ≡ asked
     → told ≡ controls → IsWithPlace lines care want place bit told → IsWithPlace lines care want place asked controls

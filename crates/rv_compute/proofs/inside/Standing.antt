@@ -60,7 +60,7 @@ told logic extra held gates x y stands lx ly line lt free =
     ∙ none_xor _
 
 -- an operand that has a place is among the operands
-place_within : (places : List (Option Place)) (operand : ℕ) (place : Place) → place_at places operand ≡ Some place
+pub place_within : (places : List (Option Place)) (operand : ℕ) (place : Place) → place_at places operand ≡ Some place
     → operand < length places
 place_within places operand place at =
     elim (cases_lt operand (length places)) [

@@ -1,7 +1,7 @@
 -- Gates that add a sum of products to a line.
-use Rattle.std.specs.Prelude.{ℕ, ◌≡◌, ◌<◌, Bool, false, ◌&&◌, List, [], ◌∷◌, ◌++◌, length, slice_set, Option}
-use Rattle.rv_gate.specs.Word.{bit_of}
-use Rattle.rv_gate.specs.Gate.{holds, run, same, xor}
+use Rattle.std.specs.Prelude.{ℕ, ◌≡◌, ◌<◌, ◌≤◌, Bool, false, ◌&&◌, List, [], ◌∷◌, ◌++◌, length, slice_set, Option, IsFalse, All}
+use Rattle.rv_gate.specs.Word.{bit_of, has}
+use Rattle.rv_gate.specs.Gate.{holds, run, same, xor, Within, WantsControls, IsGate, FitsIn}
 use Rattle.rv_gate.specs.declared.gate.Shape.{Shape}
 use Rattle.rv_blif.specs.declared.product.Product.{Product}
 use Rattle.rv_compute.specs.declared.controls.Controls.{Controls}
@@ -38,6 +38,27 @@ IsWithPlace lines care want place bit (Held new_care new_want) =
 IsWithPlace lines care want place bit Never =
     (word : List Bool) → length word ≡ lines → (same (place_value word place) bit && holds care want word) ≡ false
 IsWithPlace lines care want place bit Missing = Unit {0}
+
+-- controls that serve for a flip of a line of so many
+pub record Serve (lines target care want : ℕ) : Type 0 where
+  pub within : Within care lines
+  pub beside : IsFalse (has care target)
+  pub wanted : WantsControls care want
+
+-- controls that are told serve, and some are told
+abbrev pub DoServe : ℕ → ℕ → Controls → Type 0
+DoServe lines target (Held care want) = Serve lines target care want
+DoServe lines target Never = Unit {0}
+DoServe lines target Missing = ⊥
+
+-- these are gates on so many lines
+abbrev pub AreGates : ℕ → List Shape → Type 0
+AreGates lines gates = All (λ gate. IsGate gate × FitsIn gate lines) gates
+
+-- at most so many gates, on so many lines
+pub record AreFew (lines count : ℕ) (gates : List Shape) : Type 0 where
+  pub few : length gates ≤ count
+  pub fit : AreGates lines gates
 
 -- the gates add the products to a line of so many, and keep the others
 pub record Adds (lines : ℕ) (places : List (Option Place)) (target : ℕ) (products : List Product) (gates : List Shape)

@@ -1,8 +1,8 @@
 -- What stands on the lines while a circuit is made.
-use Rattle.std.specs.Prelude.{ℕ, ◌≡◌, ◌+◌, ◌-◌, ◌<◌, ◌≤◌, ◌⊎◌, Bool, true, false, List, ◌++◌, length, replicate, slice_get, slice_index, slice_index_or, Option, Some, None, if◌then◌else◌, nat_lt, map, slice_set, All}
+use Rattle.std.specs.Prelude.{ℕ, ◌≡◌, ◌+◌, ◌-◌, ◌<◌, ◌≤◌, ◌⊎◌, Bool, true, false, List, ◌++◌, length, replicate, slice_get, slice_index, slice_index_or, Option, Some, None, if◌then◌else◌, nat_lt, map, slice_set}
 use Rattle.std.specs.Option.{option_map}
 use Rattle.rv_gate.specs.Word.{bit_of}
-use Rattle.rv_gate.specs.Gate.{run, xor, IsGate, FitsIn}
+use Rattle.rv_gate.specs.Gate.{run, xor}
 use Rattle.rv_gate.specs.declared.gate.Shape.{Shape}
 use Rattle.rv_blif.specs.Logic.{Logic, values}
 use Rattle.rv_compute.specs.declared.place.Place.{Place}
@@ -117,7 +117,3 @@ IsPutFor logic signals line products next old_held old_gates held gates false =
     (held ≡ old_held) × (gates ≡ old_gates)
 IsPutFor logic signals line products next old_held old_gates held gates true =
     PutsFor logic signals line products next old_held old_gates held gates
-
--- these are gates on so many lines
-abbrev pub AreGates : ℕ → List Shape → Type 0
-AreGates lines gates = All (λ gate. IsGate gate × FitsIn gate lines) gates

@@ -1,5 +1,5 @@
 -- Where the operands of a node stand.
-use Rattle.std.specs.Prelude.{ℕ, ◌≡◌, ◌≢◌, ◌<◌, Bool, List, slice_index_or, Option, Some, None}
+use Rattle.std.specs.Prelude.{ℕ, ◌≡◌, ◌≢◌, ◌<◌, Bool, List, length, slice_index_or, Option, Some, None}
 use Rattle.rv_gate.specs.Word.{bit_of}
 use Rattle.rv_gate.specs.Gate.{same}
 use Rattle.rv_compute.specs.declared.place.Place.{Place}
@@ -21,6 +21,10 @@ IsBeside lines target (Constant bit) = Unit {0}
 
 abbrev pub AreBeside : ℕ → ℕ → List (Option Place) → Type 0
 AreBeside lines target places = (operand : ℕ) (place : Place) → place_at places operand ≡ Some place → IsBeside lines target place
+
+-- each operand has its place
+abbrev pub AreThere : List (Option Place) → Type 0
+AreThere places = (operand : ℕ) → operand < length places → place_at places operand ≢ None
 
 -- a value is read at a place
 abbrev pub IsRead : List Bool → Option Place → Bool → Type 0

@@ -1,8 +1,0 @@
-use Rattle.std.proofs.Common.{◌≤◌, ◌+◌, drop}
-use Rattle.std.specs.List.{sum_by}
-use Rattle.rv_compute.specs.Bounds.{node_bound}
-use Rattle.rv_compute.proofs.circuit.gates_enough.Given as goal
-
-abbrev pub invariant-loop-node : goal.invariant-loop-node
-invariant-loop-node l =
-    l.gates + sum_by node_bound (drop l.node-index l.node-items) ≤ sum_by node_bound l.node-items
