@@ -74,8 +74,8 @@ pub fn turned(
     Ok(all)
 }
 
-// What cubes cost if those of each set of outputs are written the cheaper way.
-fn cost_of_sets(alloc: Global, cubes: &[Cube], goal: Goal) -> Result<u64, AllocError> {
+/// What cubes cost if those of each set of outputs are written the cheaper way.
+pub fn cost_of_sets(alloc: Global, cubes: &[Cube], goal: Goal) -> Result<u64, AllocError> {
     let mut sorted = Vec::from_slice(alloc, cubes)?;
     sorted.sort_unstable_by_key(|cube| cube.outs);
     let mut cost = 0u64;

@@ -5,10 +5,15 @@
 #![tactic(auto)]
 
 mod basis;
+mod bends;
 mod circuit;
+mod cost;
 mod count;
 mod lines;
+mod link;
+mod parts;
 mod shared;
 
 pub use circuit::{EsopFault, cascade};
-pub use shared::{is_no_dearer, shared_cascade};
+pub use cost::is_no_dearer;
+pub use shared::shared_cascade;

@@ -31,8 +31,8 @@ fn is_no_worse(goal: Goal, old: &[Cube], new: &[Cube]) -> bool
     new.len() <= most_of(goal, old.len()) && total(goal, new) <= total(goal, old)
 }
 
-// Whether these are cubes of so many inputs and outputs.
-fn are_cubes(cubes: &[Cube], inputs: u8, outputs: u8) -> bool
+/// Whether these are cubes of so many inputs and outputs.
+pub fn are_cubes(cubes: &[Cube], inputs: u8, outputs: u8) -> bool
     requires few_inputs { inputs ≤ MOST_INPUTS }
     requires few_outputs { outputs ≤ MOST_OUTPUTS }
     ensures { IsTrue result → All (IsCube inputs outputs) cubes.now }

@@ -20,7 +20,7 @@ mod sparse;
 mod table;
 mod way;
 
-pub use found::found_list;
+pub use found::{are_cubes, found_list};
 pub use free::Free;
 pub use goal::{Goal, flip_cost};
 pub use search::shorten;
