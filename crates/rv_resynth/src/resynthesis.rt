@@ -49,6 +49,7 @@ fn found(
     let prices = Prices {
         goal,
         lines: lines_with(lines, circuit.gates()),
+        bounded: true,
     };
     let mut random = Random::new(seed);
     searched(alloc, circuit.gates(), lines, &prices, effort, &mut random)

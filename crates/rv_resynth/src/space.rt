@@ -65,6 +65,7 @@ pub(crate) struct Space<T> {
     pub(crate) cubes: Vec<Cube>,
     pub(crate) peres: u32,
     pub(crate) toffoli: u32,
+    pub(crate) bounded: bool,
     variables: Vec<T>,
 }
 
@@ -127,6 +128,7 @@ impl<T: Table> Space<T> {
             cubes,
             peres: prices.peres(),
             toffoli: prices.flip(2),
+            bounded: prices.bounded,
             variables,
         })
     }
