@@ -113,13 +113,13 @@ fn put(
 {
     let passed = window.passed.len();
     if can_replace(&window.gates, new, lines) && have_room(gates.len(), count, new.len(), passed) {
-        return replace(gates, from, count, new, &window.passed);
+        replace(gates, from, count, new, &window.passed)?;
     }
     Ok(())
 }
 
 // Tries one window.
-#[tactic(auto, using(crate::proofs::inside::Splitting::replaces_self))]
+#[tactic(auto, using(crate::proofs::inside::Splitting::replaces_self, crate::proofs::inside::Splitting::gates_drop))]
 fn attempt(
     alloc: Global,
     gates: &mut Vec<Gate>,
