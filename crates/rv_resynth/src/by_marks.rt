@@ -1,4 +1,4 @@
-ghost use Rattle.std.specs.Prelude.{◌≡◌, ◌↔◌, ℕ, Bool, List, length, IfOk, IsTrue, Err};
+ghost use Rattle.std.specs.Prelude.{◌≡◌, ◌↔◌, ℕ, [], Bool, List, length, IfOk, IsTrue, Err};
 ghost use Rattle.rv_gate.specs.Marks.{input_count};
 ghost use Rattle.rv_compare.specs.Compare.{AreSame, HasManyInputs};
 ghost use Rattle.rv_resynth.specs.Resynthesis.{IsResynthesisByMarks};
@@ -8,7 +8,7 @@ ghost use Rattle.rv_resynth.specs.declared.by_marks.MarksFault.TheVariants.{Mem}
 use crate::Goal;
 use crate::marked_search::found_by_marks;
 use crate::replacing::all_fit;
-use crate::resynthesis::{is_no_dearer, with_gates};
+use crate::resynthesis::{frame_of, is_no_dearer, with_gates};
 use rv_compare::{Comparison, MOST_INPUTS, compare_circuits, input_count};
 use rv_gate::{Circuit, Gate, MOST_GATES};
 use std::alloc::{AllocError, Global};
@@ -45,7 +45,13 @@ fn has_function(circuit: &Circuit, new: &Circuit) -> bool
 
 // The circuit with other gates, if these have the same function by the marks and the goal counts no more of them; else
 // the circuit as it is.
-fn taken(circuit: &Circuit, goal: Goal, gates: Vec<Gate>) -> Result<Circuit, AllocError>
+fn taken(
+    circuit: &Circuit,
+    frame: Circuit,
+    goal: Goal,
+    gates: Vec<Gate>,
+) -> Result<Circuit, AllocError>
+    requires { frame ≡ record circuit.now { gates = [] } }
     ensures { IfOk result (λ new. IsResynthesisByMarks goal circuit.now new) }
 {
     if gates.len() > MOST_GATES
@@ -54,7 +60,7 @@ fn taken(circuit: &Circuit, goal: Goal, gates: Vec<Gate>) -> Result<Circuit, All
     {
         return circuit.copy();
     }
-    let new = with_gates(circuit, gates)?;
+    let new = with_gates(circuit, frame, gates);
     if has_function(circuit, &new) {
         return Ok(new);
     }
@@ -83,6 +89,7 @@ pub fn resynth_by_marks(
     if effort == 0 {
         return Ok(circuit.copy()?);
     }
+    let frame = frame_of(alloc, circuit)?;
     let gates = found_by_marks(alloc, circuit, goal, effort, seed)?;
-    Ok(taken(circuit, goal, gates)?)
+    Ok(taken(circuit, frame, goal, gates)?)
 }

@@ -13,6 +13,7 @@ mod by_marks;
 mod choices;
 mod common;
 mod completion;
+mod dropped;
 mod find;
 mod goal;
 mod lines;

@@ -79,25 +79,28 @@ fn asked_at_end(circuit: &Circuit) -> LineSet {
     asked
 }
 
-// The gates without those that change only what nobody asks for; the last one comes first.
-fn asked_for(alloc: Global, circuit: &Circuit, gates: &[Gate]) -> Result<Vec<Gate>, AllocError> {
+// Leaves the gates without those that change only what nobody asks for.
+fn keep_asked_for(circuit: &Circuit, gates: &mut Vec<Gate>) {
     let mut asked = asked_at_end(circuit);
-    let mut kept = Vec::new(alloc);
-    let count = gates.len();
-    for k in 0..count {
-        let gate = gates[count - 1 - k];
+    let mut kept = 0usize;
+    gates.reverse();
+    for place in 0..gates.len() {
+        let gate = gates[place];
         if gate.targets() & asked != 0 {
             asked |= gate.touched();
-            kept.push(gate)?;
+            if kept < gates.len() {
+                gates[kept] = gate;
+            }
+            kept = kept.wrapping_add(1);
         }
     }
-    Ok(kept)
+    gates.truncate(kept);
+    gates.reverse();
 }
 
 // The gates that a circuit's marks leave.
 pub(crate) fn pruned(alloc: Global, circuit: &Circuit) -> Result<Vec<Gate>, AllocError> {
-    let gates = without_known(alloc, circuit)?;
-    let mut kept = asked_for(alloc, circuit, &gates)?;
-    kept.reverse();
-    Ok(kept)
+    let mut gates = without_known(alloc, circuit)?;
+    keep_asked_for(circuit, &mut gates);
+    Ok(gates)
 }

@@ -1,4 +1,4 @@
-ghost use Rattle.std.specs.Prelude.{◌≡◌, ◌≤◌, length, IfOk, IsTrue};
+ghost use Rattle.std.specs.Prelude.{◌≡◌, ◌≤◌, [], length, IfOk, IfSome, IsTrue};
 ghost use Rattle.rv_gate.specs.declared.circuit.TheConstants.{MOST_GATES};
 ghost use Rattle.rv_resynth.specs.Measure.{measure};
 ghost use Rattle.rv_resynth.specs.Resynthesis.{IsResynthesis};
@@ -23,15 +23,26 @@ pub(crate) fn is_no_dearer(goal: Goal, circuit: &Circuit, gates: &[Gate]) -> boo
     measure(goal, lines, gates) <= measure(goal, lines, circuit.gates())
 }
 
-// The circuit with other gates.
-pub(crate) fn with_gates(circuit: &Circuit, gates: Vec<Gate>) -> Result<Circuit, AllocError>
+// The circuit's lines, without gates.
+pub(crate) fn frame_of(alloc: Global, circuit: &Circuit) -> Result<Circuit, AllocError>
+    ensures { IfOk result (λ frame. frame ≡ record circuit.now { gates = [] }) }
+{
+    let mut frame = circuit.copy()?;
+    frame.set_gates(Vec::new(alloc));
+    Ok(frame)
+}
+
+// The circuit with other gates, on a frame of its own.
+pub(crate) fn with_gates(circuit: &Circuit, frame: Circuit, gates: Vec<Gate>) -> Circuit
+    requires frame { frame ≡ record circuit.now { gates = [] } }
     requires gates { AreGates (length circuit.now.names) gates.items }
     requires few { length gates.items ≤ MOST_GATES }
-    ensures { IfOk result (λ new. new ≡ record circuit.now { gates = gates.items }) }
+    ensures { result ≡ record circuit.now { gates = gates.items } }
 {
-    let mut new = circuit.copy()?;
+    circuit.recall_invariant();
+    let mut new = frame;
     new.set_gates(gates);
-    Ok(new)
+    new
 }
 
 // What a search makes of the gates of a circuit.
@@ -52,7 +63,28 @@ fn found(
         bounded: true,
     };
     let mut random = Random::new(seed);
-    searched(alloc, circuit.gates(), lines, &prices, effort, &mut random)
+    let gates = Vec::from_slice(alloc, circuit.gates())?;
+    searched(alloc, gates, lines, &prices, effort, &mut random)
+}
+
+// What is found, if the goal counts no more of it.
+fn found_no_dearer(
+    alloc: Global,
+    circuit: &Circuit,
+    goal: Goal,
+    effort: u16,
+    seed: u16,
+) -> Result<Option<Vec<Gate>>, AllocError>
+    ensures gates { IfOk result (λ found. IfSome found (λ gates.
+        Replaces (length circuit.now.names) circuit.now.gates gates.items)) }
+    ensures no_dearer { IfOk result (λ found. IfSome found (λ gates. measure goal (length circuit.now.names) gates.items
+        ≤ measure goal (length circuit.now.names) circuit.now.gates)) }
+{
+    let gates = found(alloc, circuit, goal, effort, seed)?;
+    if is_no_dearer(goal, circuit, &gates) {
+        return Ok(Some(gates));
+    }
+    Ok(None)
 }
 
 /// The circuit with gates that make the same of every word, and of which the goal counts no more.
@@ -72,9 +104,9 @@ pub fn resynth(
     if effort == 0 {
         return circuit.copy();
     }
-    let gates = found(alloc, circuit, goal, effort, seed)?;
-    if !is_no_dearer(goal, circuit, &gates) {
-        return circuit.copy();
+    let frame = frame_of(alloc, circuit)?;
+    match found_no_dearer(alloc, circuit, goal, effort, seed)? {
+        Some(gates) => Ok(with_gates(circuit, frame, gates)),
+        None => circuit.copy(),
     }
-    with_gates(circuit, gates)
 }

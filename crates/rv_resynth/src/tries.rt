@@ -1,16 +1,16 @@
-ghost use Rattle.std.specs.Prelude.{◌≡◌, ℕ, ◌+◌, ◌<◌, ◌≤◌, length, All, IfOk, IfSome};
+ghost use Rattle.std.specs.Prelude.{◌≡◌, ℕ, ◌+◌, ◌<◌, ◌≤◌, length, take, drop, All, IfOk, OnOk};
 ghost use Rattle.rv_gate.specs.declared.circuit.TheConstants.{MOST_GATES};
-ghost use Rattle.rv_resynth.specs.inside.Windows.{AreGates, Replaces};
+ghost use Rattle.rv_resynth.specs.inside.Windows.{AreGates, Replaces, Splits};
 
 use crate::beam::Plan;
 use crate::common::{Common, common_of};
 use crate::find::find;
 use crate::prices::Prices;
 use crate::random::Random;
-use crate::replacing::{can_replace, replaced};
+use crate::replacing::{can_replace, have_room, replace};
 use crate::scale::SCALES;
 use crate::thin::thinned;
-use crate::window::{Choice, collect};
+use crate::window::{Choice, Window, collect};
 use rv_gate::{Gate, MOST_GATES};
 use std::alloc::{AllocError, Global};
 
@@ -94,55 +94,74 @@ fn offered(
     Ok(Some(new))
 }
 
-// Tries one window. Answers what the gates become, and `None` if nothing is found that can stand in its place.
+// Puts gates in the place of a window that was collected from a place on, from so many gates, if they make the same.
+#[tactic(auto, using(crate::proofs::inside::Splitting::replaces_self, crate::proofs::inside::Splitting::replaced_in_room))]
+fn put(
+    gates: &mut Vec<Gate>,
+    from: usize,
+    count: usize,
+    window: &Window,
+    new: &[Gate],
+    lines: u8,
+) -> Result<(), AllocError>
+    requires gates { AreGates lines gates.old.items }
+    requires few { length gates.old.items ≤ MOST_GATES }
+    requires from { from ≤ length gates.old.items }
+    requires count { count ≤ length (drop from gates.old.items) }
+    requires splits { Splits lines (take count (drop from gates.old.items)) window.now.gates.items window.now.passed.items }
+    ensures { OnOk result (Replaces lines gates.old.items gates.new.items) }
+{
+    let passed = window.passed.len();
+    if can_replace(&window.gates, new, lines) && have_room(gates.len(), count, new.len(), passed) {
+        replace(gates, from, count, new, &window.passed)?;
+    }
+    Ok(())
+}
+
+// Tries one window.
+#[tactic(auto, using(crate::proofs::inside::Splitting::replaces_self, crate::proofs::inside::Splitting::gates_drop))]
 fn attempt(
     alloc: Global,
-    gates: &[Gate],
+    gates: &mut Vec<Gate>,
     lines: u8,
     prices: &Prices,
     random: &mut Random,
-) -> Result<Option<Vec<Gate>>, AllocError>
-    requires gates { AreGates lines gates.now }
-    requires few { length gates.now ≤ MOST_GATES }
-    ensures { IfOk result (λ found. IfSome found (λ new. Replaces lines gates.now new.items)) }
+) -> Result<(), AllocError>
+    requires gates { AreGates lines gates.old.items }
+    requires few { length gates.old.items ≤ MOST_GATES }
+    ensures { OnOk result (Replaces lines gates.old.items gates.new.items) }
 {
     if gates.is_empty() {
-        return Ok(None);
+        return Ok(());
     }
     let from = random.below(gates.len());
-    let choice = chosen(&gates[from..], prices, random);
-    let (window, count) = collect(alloc, &gates[from..], &choice, random)?;
-    let Some(new) = offered(alloc, &window.gates, &choice.common, lines, prices, random)? else {
-        return Ok(None);
+    let (_, rest) = gates.split_at(from);
+    let choice = chosen(rest, prices, random);
+    let (window, count) = collect(alloc, rest, &choice, random)?;
+    let common = &choice.common;
+    let Some(new) = offered(alloc, &window.gates, common, lines, prices, random)? else {
+        return Ok(());
     };
-    if !can_replace(&window.gates, &new, lines) {
-        return Ok(None);
-    }
-    let all = replaced(alloc, gates, from, count, &new, &window.passed)?;
-    if all.len() > MOST_GATES {
-        return Ok(None);
-    }
-    Ok(Some(all))
+    put(gates, from, count, &window, &new, lines)
 }
 
 // Tries so many windows, one after another.
+#[tactic(auto, using(crate::proofs::inside::Splitting::replaces_self, crate::proofs::inside::Splitting::replaces_more))]
 pub(crate) fn tried(
     alloc: Global,
-    old: &[Gate],
+    old: Vec<Gate>,
     lines: u8,
     prices: &Prices,
     windows: u32,
     random: &mut Random,
 ) -> Result<Vec<Gate>, AllocError>
-    requires gates { AreGates lines old.now }
-    requires few { length old.now ≤ MOST_GATES }
-    ensures { IfOk result (λ new. Replaces lines old.now new.items) }
+    requires gates { AreGates lines old.items }
+    requires few { length old.items ≤ MOST_GATES }
+    ensures { IfOk result (λ new. Replaces lines old.items new.items) }
 {
-    let mut gates = Vec::from_slice(alloc, old)?;
+    let mut gates = old;
     for _ in 0..windows {
-        if let Some(better) = attempt(alloc, &gates, lines, prices, random)? {
-            gates = better;
-        }
+        attempt(alloc, &mut gates, lines, prices, random)?;
     }
     Ok(gates)
 }

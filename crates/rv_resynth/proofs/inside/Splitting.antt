@@ -1,7 +1,8 @@
 -- Gates that are brought together, and others in their place.
-use Rattle.std.proofs.Common.{◌≡◌, ℕ, ◌≤◌, List, [], ◌∷◌, ◌++◌, length, take, drop, refl, sym, ◌∙◌, ap, append_assoc}
+use Rattle.std.proofs.Common.{◌≡◌, ℕ, ◌≤◌, ◌+◌, ◌-◌, List, [], ◌∷◌, ◌++◌, length, take, drop, refl, sym, ◌∙◌, ap, append_assoc, arith}
 use Rattle.std.specs.Prelude.{All}
-use Rattle.std.proofs.lemmas.List.{take-append-drop}
+use Rattle.std.proofs.Math.Seq.{take-append_seam, take-append-add, drop-append_seam, drop-append-add}
+use Rattle.std.proofs.lemmas.List.{take-append-drop, length-append, length-drop, length-take-le}
 use Rattle.std.proofs.lemmas.List.Elements.{All-head, All-tail, All-append, All-push, All-take, All-drop}
 use Rattle.rv_gate.specs.declared.gate.Shape.{Shape}
 use Rattle.rv_gate.specs.declared.circuit.TheConstants.{MOST_GATES}
@@ -130,6 +131,17 @@ replaced_by n gates from count window passed new are s r few =
       few = few;
     }
 
+-- the same where there is room
+pub replaced_in_room : (n : ℕ) (gates : List Shape) (from count : ℕ) (window passed new : List Shape) → AreGates n gates
+    → from ≤ length gates → count ≤ length (drop from gates) → Splits n (take count (drop from gates)) window passed
+    → CanReplace n window new → length gates + length new + length passed ≤ MOST_GATES + count
+    → Replaces n gates (take from gates ++ (new ++ (passed ++ drop count (drop from gates))))
+replaced_in_room n gates from count window passed new are within fits s r room =
+    let before : List Shape = take from gates in
+    let after : List Shape = drop count (drop from gates) in
+    replaced_by n gates from count window passed new are s r (omega
+    (arith, length-append before (new ++ (passed ++ after)), length-append new (passed ++ after), length-append passed after, length-take-le from gates within, length-drop count (drop from gates), length-drop from gates))
+
 -- ---- all gates at once
 
 pub replaces_whole : (n : ℕ) (gates new : List Shape) → AreGates n gates → CanReplace n gates new
@@ -139,3 +151,65 @@ replaces_whole n gates new are r few =
 
 pub replaces_more : (n : ℕ) (a b d : List Shape) → Replaces n a b → Replaces n b d → Replaces n a d
 replaces_more n a b d h k = record { gates = k.gates; same = same_trans n a b d h.same k.same; few = k.few }
+
+pub replaces_self : (n : ℕ) (gates : List Shape) → AreGates n gates → length gates ≤ MOST_GATES
+    → Replaces n gates gates
+replaces_self n gates are few = record { gates = are; same = same_refl n gates; few = few }
+
+-- ---- a window that is turned to the end of a list, and goes
+
+turned_end : (before window after : List Shape)
+    → drop (length before + length window) (before ++ (window ++ after)) ≡ after
+turned_end before window after =
+    drop-append-add before (window ++ after) (length window) ∙ drop-append_seam window after
+
+turned_start : (before window after : List Shape)
+    → take (length before + length window) (before ++ (window ++ after)) ≡ before ++ window
+turned_start before window after =
+    take-append-add before (window ++ after) (length window) ∙ ap (λ l. before ++ l) (take-append_seam window after)
+
+left_over : (before window after : List Shape)
+    → take (length after + length before) (after ++ (before ++ window)) ≡ after ++ before
+left_over before window after =
+    take-append-add after (before ++ window) (length before) ∙ ap (λ l. after ++ l) (take-append_seam before window)
+
+put_back : (before after new passed : List Shape)
+    → drop (length after) (((after ++ before) ++ new) ++ passed)
+    ++ take (length after) (((after ++ before) ++ new) ++ passed) ≡ before ++ (new ++ (passed ++ after))
+put_back before after new passed =
+    let rest : List Shape = before ++ (new ++ passed) in
+    let e : ((after ++ before) ++ new) ++ passed ≡ after ++ rest =
+    ap (λ l. l ++ passed) (append_assoc after before new) ∙ append_assoc after (before ++ new) passed
+    ∙ ap (λ l. after ++ l) (append_assoc before new passed) in
+    ap (λ l. drop (length after) l ++ take (length after) l) e
+    ∙ ap (λ l. l ++ take (length after) (after ++ rest)) (drop-append_seam after rest)
+    ∙ ap (λ l. rest ++ l) (take-append_seam after rest)
+    ∙ append_assoc before (new ++ passed) after ∙ ap (λ l. before ++ l) (append_assoc new passed after)
+
+-- and others in its place
+pub in_place : (gates new passed : List Shape) (from count end rest : ℕ) → from ≤ length gates
+    → count ≤ length (drop from gates) → end ≡ from + count → rest ≡ length gates - end
+    → drop rest ((take (rest + from) (drop end gates ++ take end gates) ++ new) ++ passed)
+    ++ take rest ((take (rest + from) (drop end gates ++ take end gates) ++ new) ++ passed)
+    ≡ take from gates ++ (new ++ (passed ++ drop count (drop from gates)))
+in_place gates new passed from count end rest within fits is_end is_rest =
+    let before : List Shape = take from gates in
+    let window : List Shape = take count (drop from gates) in
+    let after : List Shape = drop count (drop from gates) in
+    let whole : gates ≡ before ++ (window ++ after) = parts gates from count in
+    let long_before : length before ≡ from = length-take-le from gates within in
+    let long_window : length window ≡ count = length-take-le count (drop from gates) fits in
+    let long_after : length after ≡ rest = omega
+    (arith, length-drop count (drop from gates), length-drop from gates) in
+    let to_end : end ≡ length before + length window = omega arith in
+    let to_rest : rest + from ≡ length after + length before = omega arith in
+    let ended : drop end gates ≡ after =
+    ap (drop end) whole ∙ ap (λ k. drop k (before ++ (window ++ after))) to_end ∙ turned_end before window after in
+    let started : take end gates ≡ before ++ window =
+    ap (take end) whole ∙ ap (λ k. take k (before ++ (window ++ after))) to_end ∙ turned_start before window after in
+    let left : take (rest + from) (drop end gates ++ take end gates) ≡ after ++ before =
+    ap (λ l. take (rest + from) (l ++ take end gates)) ended ∙ ap (λ l. take (rest + from) (after ++ l)) started
+    ∙ ap (λ k. take k (after ++ (before ++ window))) to_rest ∙ left_over before window after in
+    ap (λ l. drop rest ((l ++ new) ++ passed) ++ take rest ((l ++ new) ++ passed)) left
+    ∙ ap (λ k. drop k (((after ++ before) ++ new) ++ passed) ++ take k (((after ++ before) ++ new) ++ passed))
+    (sym long_after) ∙ put_back before after new passed
