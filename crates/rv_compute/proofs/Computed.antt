@@ -6,7 +6,7 @@ use Rattle.rv_gate.specs.Gate.{FitsIn, IsGate}
 use Rattle.rv_gate.specs.Circuit.{Cascade}
 use Rattle.rv_gate.specs.declared.gate.Shape.{Shape}
 use Rattle.rv_blif.specs.Logic.{Logic}
-use Rattle.rv_compute.specs.Lines.{lines_of, logic_lines}
+use Rattle.rv_compute.specs.Lines.{logic_lines}
 use Rattle.rv_compute.specs.Computed.{IsComputedWithin}
 use Rattle.rv_compute.specs.inside.Held.{line_count, Stands, IsDone}
 use Rattle.rv_compute.specs.inside.Blocks.{AreGates}
@@ -17,14 +17,11 @@ use Rattle.rv_compute.proofs.inside.Standing.{by_default}
 abbrev with_gates : Cascade → List Shape → Cascade
 with_gates c gates = record c { gates = gates }
 
-pub computed : (logic : Logic) (extra n o : ℕ) (c base : Cascade) (held : List (Option ℕ)) (gates : List Shape)
-    → n ≡ length logic.inputs → o ≡ length logic.outputs → base ≡ lines_of n o extra → c ≡ with_gates base gates
+pub computed : (logic : Logic) (extra : ℕ) (c base : Cascade) (held : List (Option ℕ)) (gates : List Shape)
+    → base ≡ logic_lines logic extra → c ≡ with_gates base gates
     → Stands logic extra held gates → IsDone logic held → IsComputedWithin logic (line_count logic extra) c
-computed logic extra n o c base held gates en eo eb ec stands done =
-    let is : c ≡ with_gates (logic_lines logic extra) gates =
-    ec ∙ ap (λ t. with_gates t gates) eb
-    ∙ ap (λ k. with_gates (lines_of k o extra) gates) en
-    ∙ ap (λ k. with_gates (lines_of (length logic.inputs) k extra) gates) eo in
+computed logic extra c base held gates eb ec stands done =
+    let is : c ≡ with_gates (logic_lines logic extra) gates = ec ∙ ap (λ t. with_gates t gates) eb in
     let same : c.gates ≡ gates = ap (λ (t : Cascade). t.gates) is in
     let P : List Shape → Type 0 = λ g. Stands logic extra held g in
     record {

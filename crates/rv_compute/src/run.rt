@@ -7,7 +7,7 @@ ghost use Rattle.rv_compute.specs.inside.Held.{Stands, line_count};
 ghost use Rattle.rv_compute.specs.inside.Blocks.{AreGates};
 ghost use Rattle.rv_compute.specs.inside.Own.{Ended};
 
-use crate::lines::lines_of;
+use crate::lines::logic_lines;
 use crate::net::Net;
 use crate::plan::{Plan, Step};
 use crate::start::{first_held, is_done};
@@ -101,8 +101,7 @@ pub(crate) fn circuit_of(
     requires ended { Ended logic.now extra gates.items }
     ensures { IfOk result (IsComputedWithin logic.now (line_count logic.now extra)) }
 {
-    let (inputs, outputs) = (logic.input_count() as u8, logic.output_count() as u8);
-    let mut circuit = lines_of(alloc, inputs, outputs, extra)?;
+    let mut circuit = logic_lines(alloc, logic, extra)?;
     circuit.set_gates(gates);
     Ok(circuit)
 }

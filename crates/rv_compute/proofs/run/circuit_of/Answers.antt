@@ -1,4 +1,4 @@
-use Rattle.std.proofs.Common.{◌≡◌, ◌+◌, length, ap, sym, ◌∙◌}
+use Rattle.std.proofs.Common.{◌≡◌, length, ap, sym, ◌∙◌}
 use Rattle.rv_gate.specs.Circuit.{Cascade}
 use Rattle.rv_compute.specs.inside.Held.{line_count}
 use Rattle.rv_compute.proofs.Computed.{computed, valid_gates, fit_gates}
@@ -11,18 +11,15 @@ set_gates-requires-clause-valid c =
 
 pub set_gates-requires-clause-fits : goal.set_gates-requires-clause-fits
 set_gates-requires-clause-fits c =
-    let n = c.input_count.result in
-    let o = c.output_count.result in
-    let lines : length c.in_ok-circuit.circuit.names ≡ n + o + c.args.extra =
-    ap (λ (t : Cascade). length t.names) c.in_ok-circuit.ensures ∙ length-line_names n o c.args.extra in
-    fit_gates (line_count c.args.logic.now c.args.extra) (length c.in_ok-circuit.circuit.names) c.args.gates.items
-    (sym (lines ∙ ap (λ k. k + o + c.args.extra) c.input_count.ensures.value
-    ∙ ap (λ k. length c.args.logic.now.inputs + k + c.args.extra) c.output_count.ensures.value))
+    let logic = c.args.logic.now in
+    let lines : length c.in_ok-circuit.circuit.names ≡ line_count logic c.args.extra =
+    ap (λ (t : Cascade). length t.names) c.in_ok-circuit.ensures
+    ∙ length-line_names (length logic.inputs) (length logic.outputs) c.args.extra in
+    fit_gates (line_count logic c.args.extra) (length c.in_ok-circuit.circuit.names) c.args.gates.items (sym lines)
     c.requires.ended.fit
 
 pub returns : goal.returns
 returns c =
     let ended = c.requires.ended in
-    computed c.args.logic.now c.args.extra c.input_count.result c.output_count.result c.set_gates.new.self
-    c.in_ok-circuit.circuit ended.held c.args.gates.items c.input_count.ensures.value
-    c.output_count.ensures.value c.in_ok-circuit.ensures c.set_gates.ensures ended.stands ended.done
+    computed c.args.logic.now c.args.extra c.set_gates.new.self c.in_ok-circuit.circuit ended.held c.args.gates.items
+    c.in_ok-circuit.ensures c.set_gates.ensures ended.stands ended.done
