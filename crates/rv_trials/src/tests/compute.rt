@@ -9,12 +9,17 @@ macro_rules! over {
     };
 }
 
-// A circuit on lines for a, b, c and one output s, by its gates.
+// A circuit on lines for a, b, c and one output, by its gates and that output's label, s if none is given.
 macro_rules! summed {
     ($gates:literal) => {
+        summed!($gates, "s")
+    };
+    ($gates:literal, $output:literal) => {
         concat!(
-            ".version 2.0\n.numvars 4\n.variables x0 x1 x2 y0\n.inputs x0 x1 x2 y0\n",
-            ".outputs x0 x1 x2 y0\n.constants ---0\n.garbage 111-\n.begin\n",
+            ".version 2.0\n.numvars 4\n.variables x0 x1 x2 y0\n.inputs a b c y0\n",
+            ".outputs x0 x1 x2 ",
+            $output,
+            "\n.constants ---0\n.garbage 111-\n.begin\n",
             $gates,
             ".end\n"
         )
@@ -24,7 +29,7 @@ macro_rules! summed {
 // Of each there is one circuit with the fewest gates, and with few controls.
 #[test]
 fn a_node_is_added_to_its_output(rt: HostRuntime) -> Result<(), Fail> {
-    const CASES: [(&str, &str, u8, &str); 7] = [
+    const CASES: [(&str, &str, u8, &str); 10] = [
         (
             "compute",
             over!("s", ".names a b c s\n1-1 1\n"),
@@ -69,8 +74,44 @@ fn a_node_is_added_to_its_output(rt: HostRuntime) -> Result<(), Fail> {
             0,
             summed!("t3 x0 x2 y0\n"),
         ),
+        (
+            "compute",
+            over!("s", ".names a b s\n11 1\n.cname add\n.param W 3\n"),
+            0,
+            summed!("t3 x0 x1 y0\n"),
+        ),
+        // Inputs may come again, an input may be an output, and neither `.model` nor `.end` is needed.
+        (
+            "compute",
+            ".inputs a b\n.inputs c\n.outputs a\n",
+            0,
+            summed!("t2 x0 y0\n", "a"),
+        ),
+        // A name that a label can't have leaves the line's own.
+        (
+            "compute",
+            over!("s\"", ".names a s\"\n0 1\n"),
+            0,
+            summed!("t2 -x0 y0\n", "y0"),
+        ),
     ];
     expect_each(&rt, rt.alloc(), &CASES)
+}
+
+// A node that two others need has seven operands.
+#[test]
+fn a_circuit_with_work_lines_gives_the_network(rt: HostRuntime) -> Result<(), Fail> {
+    const NETWORK: &str = concat!(
+        ".inputs a b c d e f g\n.outputs s t\n",
+        ".names a b c d e f g n\n1111111 1\n0000000 1\n.names a b m\n10 1\n01 1\n",
+        ".names n m c s\n11- 1\n--1 1\n.names n m t\n1- 1\n-1 1\n.end\n"
+    );
+    let alloc = rt.alloc();
+    let circuit = output_of(&rt, alloc, "compute", NETWORK.as_bytes())?;
+    let first = ("c.real", circuit.bytes());
+    let second = ("n.blif", NETWORK.as_bytes());
+    let words = "compare --from blif c.real n.blif";
+    expect_over_two(&rt, alloc, words, first, second, told(0, "same\n"))
 }
 
 // The line is that of the first fault.
