@@ -76,6 +76,28 @@ fn each_goal_is_searched_for(rt: HostRuntime) -> Result<(), Fail> {
     expect_each(&rt, rt.alloc(), &CASES)
 }
 
+// By a CNOT between inputs, and by a flip of six controls in parts over the four inputs that are free.
+#[test]
+fn a_cascade_gives_inputs_back(rt: HostRuntime) -> Result<(), Fail> {
+    const CASES: [(&str, &str); 2] = [
+        (
+            ".i 3\n.o 1\n101 1\n011 1\n.e\n",
+            "lines 4\ngates 3\ncontrols 2\nquantum 7\n",
+        ),
+        (
+            ".i 10\n.o 1\n111111---- 1\n.e\n",
+            "lines 11\ngates 16\ncontrols 2\nquantum 80\n",
+        ),
+    ];
+    let alloc = rt.alloc();
+    for (table, head) in CASES {
+        let circuit = output_of(&rt, alloc, "esop --goal quantum", table.as_bytes())?;
+        let cost = output_of(&rt, alloc, "cost", circuit.bytes())?;
+        assert!(rt; cost.bytes().starts_with(head.as_bytes()), "{head}");
+    }
+    Ok(())
+}
+
 // What a search takes has to be asked for.
 #[test]
 fn what_no_search_takes_is_refused(rt: HostRuntime) -> Result<(), Fail> {
