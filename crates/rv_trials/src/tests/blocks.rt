@@ -115,7 +115,7 @@ fn three_lines_in_a_row_are_joined_as_neighbours(rt: HostRuntime) -> Result<(), 
 // Lines that are no row have the usual block.
 #[test]
 fn lines_apart_have_the_usual_block(rt: HostRuntime) -> Result<(), Fail> {
-    const APART: &str = typed!(4, "a b c d", "t3 a c d\nt2 a d\nt3 d a -b\n");
+    const APART: &str = typed!(4, "a b c d", "t3 a c d\nt2 a d\nt3 d -b a\n");
     let alloc = rt.alloc();
     let near = output_of(&rt, alloc, "map --blocks near", APART.as_bytes())?;
     let exact = output_of(&rt, alloc, "map", APART.as_bytes())?;
