@@ -1,11 +1,14 @@
-ghost use Rattle.std.specs.Prelude.{◌≡◌, ◌≤◌, ◌<◌, ◌+◌, ◌-◌, ◌==◌, [], false, drop, length, take, slice_index, true, None, IfOk, OnOk};
+ghost use Rattle.std.specs.Prelude.{◌≡◌, ◌≤◌, ◌<◌, ◌+◌, ◌-◌, ◌==◌, [], false, drop, length, take, slice_index, true};
+ghost use Rattle.std.specs.Prelude.{None, IfOk, OnOk};
 ghost use Rattle.std.specs.List.{list_any};
 ghost use Rattle.rv_text.specs.Bytes.{hash};
 ghost use Rattle.rv_text.specs.Tokens.{joined, tokens_of};
 ghost use Rattle.rv_reader.specs.Gives.{StepGives};
 ghost use Rattle.rv_blif.specs.inside.Denotes.{denotes, finds};
 ghost use Rattle.rv_blif.specs.Line.{body_len, goes_on, is_dropped, is_latch, is_unsupported};
-ghost use Rattle.rv_blif.specs.Given.{closed, cover_given, cover_numbered, directive_of, input_given, inputs_given, line_by, line_rules, names_given, number_of, numbered, output_given, outputs_given, row_added, row_of, signals_given, whole_line, with_name, Numbered};
+ghost use Rattle.rv_blif.specs.Given.{closed, cover_given, cover_numbered, directive_of, input_given, inputs_given};
+ghost use Rattle.rv_blif.specs.Given.{line_by, line_rules, names_given, number_of, numbered, output_given};
+ghost use Rattle.rv_blif.specs.Given.{outputs_given, row_added, row_of, signals_given, whole_line, with_name, Numbered};
 ghost use Rattle.rv_blif.specs.Reading.{as_fault, end_of, fault_in, logic_of};
 ghost use Rattle.rv_blif.specs.declared.product.TheConstants.{MOST_OPERANDS};
 
@@ -242,7 +245,8 @@ impl State {
     ) -> Result<(), Stop>
         requires closed { self.old.last ≡ None }
         requires from { from ≤ length line.now }
-        ensures { StepGives result self.new (directive_of number self.old name.now (tokens_of false [] (drop from line.now))) }
+        ensures { StepGives result self.new
+            (directive_of number self.old name.now (tokens_of false [] (drop from line.now))) }
     {
         if name == b".names".as_slice() {
             self.read_names(number, line, from)

@@ -30,7 +30,8 @@ impl Model for Logic {
 
     ghost Value = { TheLogic };
 
-    ghost view = { λ l. record { inputs = map (λ name. name.items) l.inputs.items; nodes = l.nodes.items; outputs = l.outputs.items } };
+    ghost view = { λ l.
+        record { inputs = map (λ name. name.items) l.inputs.items; nodes = l.nodes.items; outputs = l.outputs.items } };
 
     ghost invariant = { λ l. IsLogic (record {
       inputs = map (λ name. name.items) l.inputs.items;
@@ -42,8 +43,10 @@ impl Model for Logic {
 impl Logic {
     /// A network of inputs by their names, nodes and outputs.
     pub fn new(inputs: Vec<Vec<u8>>, nodes: Vec<Node>, outputs: Vec<Output>) -> Logic
-        requires { IsLogic (record { inputs = map (λ name. name.items) inputs.items; nodes = nodes.items; outputs = outputs.items }) }
-        ensures { result ≡ record { inputs = map (λ name. name.items) inputs.items; nodes = nodes.items; outputs = outputs.items } }
+        requires { IsLogic
+            (record { inputs = map (λ name. name.items) inputs.items; nodes = nodes.items; outputs = outputs.items }) }
+        ensures { result
+            ≡ record { inputs = map (λ name. name.items) inputs.items; nodes = nodes.items; outputs = outputs.items } }
     {
         Logic {
             inputs,
@@ -125,7 +128,8 @@ impl Logic {
     /// The rows of the outputs, by the rows of the inputs.
     pub fn output_rows(&self, alloc: Global, inputs: &[Row]) -> Result<Vec<Row>, AllocError>
         requires { length inputs.now ≡ length self.now.inputs }
-        ensures { IfOk result (λ rows. (j : ℕ) → j < MOST_WORDS → column rows.items j ≡ outputs_of self.now (column inputs.now j)) }
+        ensures { IfOk result (λ rows.
+            (j : ℕ) → j < MOST_WORDS → column rows.items j ≡ outputs_of self.now (column inputs.now j)) }
     {
         let mut rows = signal_rows(alloc, inputs, inputs.len() + self.nodes().len())?;
         self.set_nodes(&mut rows);

@@ -7,7 +7,8 @@ ghost use Rattle.rv_blif.specs.declared.logic.TheConstants.{MOST_SIGNALS};
 ghost use Rattle.rv_blif.specs.Given.{netlist_of};
 ghost use Rattle.rv_blif.specs.Netlist.{name_at};
 ghost use Rattle.rv_blif.specs.inside.State.{Gathered};
-ghost use Rattle.rv_blif.specs.Placing.{first_left, first_undriven, has_driven, ordered, outputs_by, placed, placed_network, signal_of, started};
+ghost use Rattle.rv_blif.specs.Placing.{first_left, first_undriven, has_driven, ordered, outputs_by, placed};
+ghost use Rattle.rv_blif.specs.Placing.{placed_network, signal_of, started};
 
 use crate::code::{CYCLE, NEVER_DRIVEN, NO_OUTPUTS};
 use crate::cover::{Cover, cover_at};
@@ -73,7 +74,8 @@ fn outputs_by(
 ) -> Result<Vec<Output>, BlifFault>
     ensures gives { Gathered result (outputs_by names.now signals.now [] ports.now) }
     ensures count { IfOk result (λ v. length v.items ≡ length ports.now) }
-    ensures below { IfOk result (λ v. (most : ℕ) → ((name : ℕ) → IfSome (signal_of signals.now name) (λ signal. signal < most))
+    ensures below { IfOk result (λ v. (most : ℕ)
+        → ((name : ℕ) → IfSome (signal_of signals.now name) (λ signal. signal < most))
         → All (λ output. output.signal < most) v.items) }
 {
     let mut outputs = Vec::new(alloc);

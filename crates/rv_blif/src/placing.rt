@@ -1,7 +1,8 @@
 // The covers in topological order.
 ghost use Rattle.std.specs.Prelude.{◌≡◌, ◌≤◌, ◌<◌, ◌+◌, ℕ, None, length, replicate, IfOk, IfSome, OnOk};
 ghost use Rattle.rv_blif.specs.declared.logic.TheConstants.{MOST_SIGNALS};
-ghost use Rattle.rv_blif.specs.Placing.{all_placed, over_signals, pass, rounds, signal_of, signals_by, with_cover, with_covers, with_inputs};
+ghost use Rattle.rv_blif.specs.Placing.{all_placed, over_signals, pass, rounds, signal_of, signals_by, with_cover};
+ghost use Rattle.rv_blif.specs.Placing.{with_covers, with_inputs};
 
 use crate::cover::{Cover, cover_at};
 use crate::marks::{set_signal, signal_of};
@@ -24,7 +25,8 @@ impl Model for Placing {
 
     ghost Value = { ThePlacing };
 
-    ghost view = { λ p. record { inputs = p.inputs; signals = p.signals.items; nodes = p.nodes.items; left = p.left.items } };
+    ghost view = { λ p.
+        record { inputs = p.inputs; signals = p.signals.items; nodes = p.nodes.items; left = p.left.items } };
 
     ghost invariant = { λ p. IsPlacing (record {
       inputs = p.inputs;
@@ -155,7 +157,8 @@ pub(crate) fn input_signals(
 ) -> Result<Vec<Option<u32>>, AllocError>
     requires { length inputs.now ≤ MOST_SIGNALS }
     ensures value { IfOk result (λ v. v.items ≡ with_inputs 0 (replicate names None) inputs.now) }
-    ensures below { IfOk result (λ v. (name : ℕ) → IfSome (signal_of v.items name) (λ signal. signal < length inputs.now)) }
+    ensures below { IfOk result (λ v.
+        (name : ℕ) → IfSome (signal_of v.items name) (λ signal. signal < length inputs.now)) }
 {
     let mut signals = vec![in alloc; None; names]?;
     for i in 0..inputs.len() {

@@ -54,7 +54,8 @@ pub(crate) fn block_of(
     requires few { length places.now ≤ MOST_OPERANDS }
     requires target { target < lines }
     requires beside { AreBeside lines target places.now }
-    ensures adds { IfOk result (λ block. IfSome block (λ gates. Adds lines places.now target products.now gates.items)) }
+    ensures adds { IfOk result (λ block.
+        IfSome block (λ gates. Adds lines places.now target products.now gates.items)) }
     ensures there { AreThere places.now → IfOk result (λ block. IsTrue (is_some block)) }
     ensures few { AreThere places.now
         → IfOk result (λ block. IfSome block (λ gates. AreFew lines (length products.now) gates.items)) }

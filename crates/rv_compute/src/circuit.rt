@@ -123,8 +123,8 @@ fn too_many_lines(
 
 /// A circuit for a logic network, on at most so many lines.
 ///
-/// Lines `x0`, `x1`, .. are the inputs, which stand as they were at the end and are garbage. Lines `y0`, `y1`, .. are the
-/// outputs, and lines `w0`, `w1`, .. are worked on; all these hold 0, and the work lines are garbage. Whatever the
+/// Lines `x0`, `x1`, .. are the inputs, which stand as they were at the end and are garbage. Lines `y0`, `y1`, .. are
+/// the outputs, and lines `w0`, `w1`, .. are worked on; all these hold 0, and the work lines are garbage. Whatever the
 /// lines of the outputs hold, the circuit adds the outputs to them. Inputs are labelled by the network's names at the
 /// beginning, and outputs at the end; a name that no label can be labels no line.
 ///

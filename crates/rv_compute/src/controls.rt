@@ -9,8 +9,8 @@ use crate::place::Place;
 use rv_blif::{MOST_OPERANDS, Product};
 use rv_gate::{LineSet, MOST_LINES, has};
 
-/// The controls of a product: lines, with their wanted values; or none, since it never holds, or since an operand that it
-/// asks for stands nowhere.
+/// The controls of a product: lines, with their wanted values; or none, since it never holds, or since an operand that
+/// it asks for stands nowhere.
 #[derive(Clone, Copy, Debug, PartialEq, Eq)]
 pub(crate) enum Controls {
     Held { care: LineSet, want: LineSet },

@@ -14,8 +14,8 @@ const CONSTANT: u32 = u32::MAX - 1;
 const MOST_IN_CHAIN: usize = 64;
 
 /// Of each signal: the products of its node; the signal that it passes on, or itself; what it needs on lines; who needs
-/// it, and how often; the outputs for which it is needed; how many lines it takes about; and the nodes that are made with
-/// it on one line, itself first, what these need, and the input on whose line they begin, if they do.
+/// it, and how often; the outputs for which it is needed; how many lines it takes about; and the nodes that are made
+/// with it on one line, itself first, what these need, and the input on whose line they begin, if they do.
 #[derive(Drop)]
 pub(crate) struct Net {
     pub(crate) inputs: usize,

@@ -137,8 +137,8 @@ fn take_back(alloc: Global, logic: &Logic, gates: &mut Vec<Gate>) -> Result<(), 
     Ok(())
 }
 
-/// The circuit in which each input, output and node has a line of its own: all nodes are added, the first one first, then
-/// the outputs, and then the nodes are taken back.
+/// The circuit in which each input, output and node has a line of its own: all nodes are added, the first one first,
+/// then the outputs, and then the nodes are taken back.
 pub(crate) fn on_own_lines(alloc: Global, logic: &Logic) -> Result<Circuit, AllocError>
     requires lines { line_bound logic.now ≤ MOST_LINES }
     requires gates { gate_bound logic.now ≤ MOST_GATES }

@@ -1,5 +1,5 @@
-/// A step of a plan: a node is added to a line, in place of the operand `start` that stands there, or of nothing; or it is
-/// taken back. Or a signal is copied to a line.
+/// A step of a plan: a node is added to a line, in place of the operand `start` that stands there, or of nothing; or it
+/// is taken back. Or a signal is copied to a line.
 #[derive(Clone, Copy, Debug, PartialEq, Eq)]
 pub(crate) struct Step {
     pub(crate) signal: u32,

@@ -55,7 +55,8 @@ fn put(
     requires few { length places.now ≤ MOST_OPERANDS }
     requires line { line < length work.old.held.items }
     requires beside { AreBeside (length work.old.held.items) line places.now }
-    ensures { IfOk result (IsPut places.now line products.now next work.old.held.items work.old.gates.items
+    ensures { IfOk result (IsPut places.now line products.now next work.old.held.items
+        work.old.gates.items
         work.new.held.items work.new.gates.items) }
 {
     let lines = work.held.len() as u8;
@@ -81,7 +82,8 @@ fn put_operands(
     requires lines { length work.old.held.items ≤ MOST_LINES }
     requires few { length operands.now ≤ MOST_OPERANDS }
     requires line { line < length work.old.held.items }
-    ensures { IfOk result (IsPutFor logic.now operands.now line products.now next work.old.held.items work.old.gates.items
+    ensures { IfOk result (IsPutFor logic.now operands.now line products.now next work.old.held.items
+        work.old.gates.items
         work.new.held.items work.new.gates.items) }
 {
     let asked = asked_of(products);

@@ -2,7 +2,8 @@ ghost use Rattle.std.specs.Prelude.{◌≡◌, ◌+◌, ◌^◌, ◌<◌, ◌≤
 ghost use Rattle.rv_gate.specs.declared.circuit.TheConstants.{MOST_GATES};
 ghost use Rattle.rv_gate.specs.Greatest.{greatest};
 ghost use Rattle.std.specs.List.{sum_by};
-ghost use Rattle.rv_cost.specs.CircuitCost.{circuit_cost, counted_controls, gate_depth, quantum_cost, quantum_flip_cost};
+ghost use Rattle.rv_cost.specs.CircuitCost.{circuit_cost, counted_controls, gate_depth, quantum_cost};
+ghost use Rattle.rv_cost.specs.CircuitCost.{quantum_flip_cost};
 
 use crate::levels::Levels;
 use rv_gate::{Circuit, Gate, MOST_GATES, Shape};
@@ -19,12 +20,13 @@ pub struct CircuitCost {
     pub controls: u8,
     /// The quantum cost, exact: how many elementary gates on one or two qubits are counted for the gates.
     ///
-    /// A Toffoli gate with m controls costs 1 for m up to 1, else 2^(m+1) - 3: its number without a helper line (Barenco
-    /// et al., Elementary gates for quantum computation, 1995). A Peres gate costs 4. The number for a Fredkin gate with m
-    /// controls is this crate's own: 2 more than for a Toffoli gate with m + 1, for the CNOT gates at its ends.
+    /// A Toffoli gate with m controls costs 1 for m up to 1, else 2^(m+1) - 3: its number without a helper line
+    /// (Barenco et al., Elementary gates for quantum computation, 1995). A Peres gate costs 4. The number for a Fredkin
+    /// gate with m controls is this crate's own: 2 more than for a Toffoli gate with m + 1, for the CNOT gates at its
+    /// ends.
     pub quantum: u128,
-    /// The greatest level of a gate, 0 without gates. A gate's level is one more than the greatest level of an earlier one
-    /// that shares a line with it.
+    /// The greatest level of a gate, 0 without gates. A gate's level is one more than the greatest level of an earlier
+    /// one that shares a line with it.
     pub depth: u32,
 }
 

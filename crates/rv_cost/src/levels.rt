@@ -19,7 +19,8 @@ pub(crate) struct Levels {
 fn raise(tops: &mut [u32; LINES], lines: LineSet, level: u32)
     requires { length tops.old ≡ LINES }
     ensures sized { length tops.new ≡ LINES }
-    ensures each { (line : ℕ) → line < LINES → slice_index tops.new line ≡ (if has lines line then level else slice_index tops.old line) }
+    ensures each { (line : ℕ) → line < LINES
+        → slice_index tops.new line ≡ (if has lines line then level else slice_index tops.old line) }
 {
     let mut left = lines;
     while left != 0 {
@@ -53,7 +54,8 @@ impl Levels {
 
     // The greatest level on the lines of a set.
     fn highest_on(&self, lines: LineSet) -> u32
-        ensures value { (tasks : List Task) → IsLevelled self.now tasks → result ≡ highest_on (schedule_of tasks) lines }
+        ensures value { (tasks : List Task) → IsLevelled self.now tasks
+            → result ≡ highest_on (schedule_of tasks) lines }
         ensures few { result ≤ self.now.depth }
     {
         let mut highest = 0u32;
@@ -69,7 +71,8 @@ impl Levels {
     /// Adds a gate or an operation, so many steps above the earlier ones that share a line with it.
     pub(crate) fn add(&mut self, lines: LineSet, steps: u32)
         requires { self.old.depth + steps < 2 ^ 32 }
-        ensures added { (tasks : List Task) → IsLevelled self.old tasks → IsLevelled self.new (record { lines = lines; steps = steps } ∷ tasks) }
+        ensures added { (tasks : List Task) → IsLevelled self.old tasks
+            → IsLevelled self.new (record { lines = lines; steps = steps } ∷ tasks) }
         ensures few { self.new.depth ≤ self.old.depth + steps }
     {
         let level = self.highest_on(lines) + steps;

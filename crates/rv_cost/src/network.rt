@@ -23,8 +23,8 @@ pub struct NetCost {
     pub h: u32,
     /// How many of them are `Cx`.
     pub cnot: u32,
-    /// The greatest level of an operation, 0 without operations. An operation's level is one more than the greatest level
-    /// of an earlier one that shares a line with it.
+    /// The greatest level of an operation, 0 without operations. An operation's level is one more than the greatest
+    /// level of an earlier one that shares a line with it.
     pub depth: u32,
     /// The greatest T-level of an operation, 0 without operations. An operation's T-level is the greatest T-level of an
     /// earlier one that shares a line with it, and one more than that for a `T` or its inverse.

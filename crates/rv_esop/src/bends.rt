@@ -1,5 +1,5 @@
-// Inputs made of inputs: where the cubes get cheaper if an input is replaced by its exclusive or with another one, a CNOT
-// before all flips makes it that, and the same CNOT after all flips brings it back.
+// Inputs made of inputs: where the cubes get cheaper if an input is replaced by its exclusive or with another one, a
+// CNOT before all flips makes it that, and the same CNOT after all flips brings it back.
 ghost use Rattle.std.specs.Prelude.{◌≡◌, ◌≢◌, ◌<◌, ◌≤◌, length, IfOk, IfSome, IsTrue};
 ghost use Rattle.rv_pla.specs.declared.cube.TheConstants.{MOST_INPUTS};
 ghost use Rattle.rv_cube.specs.declared.list.TheConstants.{MOST_CUBES};
@@ -13,8 +13,8 @@ use rv_gate::Word;
 use rv_pla::{Cube, MOST_INPUTS, has};
 use std::alloc::{AllocError, Global};
 
-// Adds what a cube becomes: a literal of the input `to` is one of its exclusive or with the input `from`, and where that
-// has none, two cubes take its place. Nothing rests on the answer.
+// Adds what a cube becomes: a literal of the input `to` is one of its exclusive or with the input `from`, and where
+// that has none, two cubes take its place. Nothing rests on the answer.
 fn push_bent(all: &mut Vec<Cube>, cube: Cube, from: u8, to: u8) -> Result<(), AllocError>
     requires from { from < MOST_INPUTS }
     requires to { to < MOST_INPUTS }

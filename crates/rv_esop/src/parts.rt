@@ -104,8 +104,8 @@ fn in_parts(alloc: Global, circuit: &Circuit, goal: Goal) -> Result<Circuit, Pus
 }
 
 /// The circuit with its flips in parts where that is cheaper by the goal. The parts of a flip are flips over lines that
-/// it doesn't touch, and these end as they began, whatever they hold. It is the circuit itself where there would be more
-/// than `MOST_GATES` gates.
+/// it doesn't touch, and these end as they began, whatever they hold. It is the circuit itself where there would be
+/// more than `MOST_GATES` gates.
 pub fn with_parts(alloc: Global, circuit: Circuit, goal: Goal) -> Result<Circuit, AllocError>
     ensures same { IfOk result (Rewrites circuit) }
     ensures no_dearer { IfOk result (λ c. cost_of goal c.gates ≤ cost_of goal circuit.gates) }

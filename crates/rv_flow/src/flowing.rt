@@ -83,11 +83,14 @@ fn found_for(
     }
 }
 
-// The network of the circuit's decomposition. A permutation's lines are so few that the decomposition never has too many.
+// The network of the circuit's decomposition. A permutation's lines are so few that the decomposition never has too
+// many.
 fn network_by(alloc: Global, circuit: &Circuit, aux: Aux) -> Result<Net, FlowFault>
     requires { length circuit.now.names ≤ MOST_PERM_LINES }
-    ensures answer { MatchResult result (λ net. network_by aux circuit.now ≡ Ok net) (λ fault. (fault ≡ Mem) ⊎ (network_by aux circuit.now ≡ Err fault)) }
-    ensures carries { IfOk result (λ net. Carries aux (length circuit.now.names) (helper_count aux circuit.now) net.ops (run circuit.now.gates)) }
+    ensures answer { MatchResult result (λ net. network_by aux circuit.now ≡ Ok net) (λ fault.
+        (fault ≡ Mem) ⊎ (network_by aux circuit.now ≡ Err fault)) }
+    ensures carries { IfOk result (λ net.
+        Carries aux (length circuit.now.names) (helper_count aux circuit.now) net.ops (run circuit.now.gates)) }
     ensures lines { IfOk result (λ net. net.lines ≡ lines_with_helpers aux circuit.now) }
     ensures few { IfOk result (λ net. net.lines ≤ length circuit.now.names + 13) }
 {
@@ -118,9 +121,13 @@ pub fn flow(
     simplify: bool,
     aux: Aux,
 ) -> Result<Net, FlowFault>
-    ensures answer { MatchResult result (λ net. flow_of synthesis simplify aux spec.now ≡ Ok net) (λ fault. (fault ≡ Mem) ⊎ (flow_of synthesis simplify aux spec.now ≡ Err fault)) }
-    ensures carries { IfOk result (λ net. Carries aux spec.now.table.lines (helper_count aux (circuit_for synthesis simplify spec.now)) net.ops (permuted spec.now.table)) }
-    ensures lines { IfOk result (λ net. net.lines ≡ spec.now.table.lines + helper_count aux (circuit_for synthesis simplify spec.now)) }
+    ensures answer { MatchResult result (λ net. flow_of synthesis simplify aux spec.now ≡ Ok net) (λ fault.
+        (fault ≡ Mem) ⊎ (flow_of synthesis simplify aux spec.now ≡ Err fault)) }
+    ensures carries { IfOk result (λ net.
+        Carries aux spec.now.table.lines (helper_count aux (circuit_for synthesis simplify spec.now)) net.ops
+        (permuted spec.now.table)) }
+    ensures lines { IfOk result (λ net.
+        net.lines ≡ spec.now.table.lines + helper_count aux (circuit_for synthesis simplify spec.now)) }
     ensures few { IfOk result (λ net. net.lines ≤ spec.now.table.lines + 13) }
 {
     spec.recall_invariant();

@@ -1,4 +1,5 @@
-ghost use Rattle.std.specs.Prelude.{◌≡◌, ◌+◌, ◌^◌, ◌<◌, ◌≤◌, ◌↔◌, [], ◌∷◌, ◌++◌, false, length, map, replicate, slice_get, slice_set, All, IfOk, OnOk, OnErr};
+ghost use Rattle.std.specs.Prelude.{◌≡◌, ◌+◌, ◌^◌, ◌<◌, ◌≤◌, ◌↔◌, [], ◌∷◌, ◌++◌, false, length, map, replicate};
+ghost use Rattle.std.specs.Prelude.{slice_get, slice_set, All, IfOk, OnOk, OnErr};
 ghost use Rattle.std.specs.List.{list_all};
 ghost use Rattle.rv_gate.specs.Gate.{run, FitsIn, IsGate};
 ghost use Rattle.rv_gate.specs.Circuit.{IsCascade, IsLabel, is_label_byte, fresh};
@@ -132,7 +133,8 @@ fn copy_of(alloc: Global, labels: &[Vec<u8>]) -> Result<Vec<Vec<u8>>, AllocError
 
 impl Inputs {
     fn new(names: &Names) -> Result<Inputs, AllocError>
-        ensures { IfOk result (λ inputs. (labels_in inputs.labels ≡ names.now) × (inputs.constants.items ≡ replicate (length names.now) Input)) }
+        ensures { IfOk result (λ inputs.
+            (labels_in inputs.labels ≡ names.now) × (inputs.constants.items ≡ replicate (length names.now) Input)) }
     {
         let labels = labels_of(names)?;
         let constants = vec![in names.allocator(); Mark::Input; usize::from(names.len())]?;
@@ -140,7 +142,9 @@ impl Inputs {
     }
 
     fn copy(&self, alloc: Global) -> Result<Inputs, AllocError>
-        ensures { IfOk result (λ inputs. (labels_in inputs.labels ≡ labels_in self.now.labels) × (inputs.constants.items ≡ self.now.constants.items)) }
+        ensures { IfOk result (λ inputs.
+            (labels_in inputs.labels ≡ labels_in self.now.labels)
+            × (inputs.constants.items ≡ self.now.constants.items)) }
     {
         let labels = copy_of(alloc, &self.labels)?;
         let constants = Vec::from_slice(alloc, &self.constants)?;
@@ -150,7 +154,8 @@ impl Inputs {
 
 impl Outputs {
     fn new(names: &Names) -> Result<Outputs, AllocError>
-        ensures { IfOk result (λ outputs. (labels_in outputs.labels ≡ names.now) × (outputs.garbage.items ≡ replicate (length names.now) false)) }
+        ensures { IfOk result (λ outputs.
+            (labels_in outputs.labels ≡ names.now) × (outputs.garbage.items ≡ replicate (length names.now) false)) }
     {
         let labels = labels_of(names)?;
         let garbage = vec![in names.allocator(); false; usize::from(names.len())]?;
@@ -158,7 +163,9 @@ impl Outputs {
     }
 
     fn copy(&self, alloc: Global) -> Result<Outputs, AllocError>
-        ensures { IfOk result (λ outputs. (labels_in outputs.labels ≡ labels_in self.now.labels) × (outputs.garbage.items ≡ self.now.garbage.items)) }
+        ensures { IfOk result (λ outputs.
+            (labels_in outputs.labels ≡ labels_in self.now.labels)
+            × (outputs.garbage.items ≡ self.now.garbage.items)) }
     {
         let labels = copy_of(alloc, &self.labels)?;
         let garbage = Vec::from_slice(alloc, &self.garbage)?;
@@ -283,7 +290,8 @@ impl Circuit {
     /// Labels a line at its input. A label is any bytes without `"` and LF.
     pub fn set_input_label(&mut self, line: u8, label: &[u8]) -> Result<(), LabelFault>
         requires { line < length self.old.names }
-        ensures ok { OnOk result (self.new ≡ record self.old { input_labels = slice_set self.old.input_labels line label.now }) }
+        ensures ok { OnOk result
+            (self.new ≡ record self.old { input_labels = slice_set self.old.input_labels line label.now }) }
         ensures err { OnErr result (self.new ≡ self.old) }
         ensures not_a_label { (result ≡ Err LabelFault.NotALabel) ↔ (¬ IsLabel label.now) }
     {
@@ -295,7 +303,8 @@ impl Circuit {
     /// Labels a line at its output. A label is any bytes without `"` and LF.
     pub fn set_output_label(&mut self, line: u8, label: &[u8]) -> Result<(), LabelFault>
         requires { line < length self.old.names }
-        ensures ok { OnOk result (self.new ≡ record self.old { output_labels = slice_set self.old.output_labels line label.now }) }
+        ensures ok { OnOk result
+            (self.new ≡ record self.old { output_labels = slice_set self.old.output_labels line label.now }) }
         ensures err { OnErr result (self.new ≡ self.old) }
         ensures not_a_label { (result ≡ Err LabelFault.NotALabel) ↔ (¬ IsLabel label.now) }
     {

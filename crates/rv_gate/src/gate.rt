@@ -1,7 +1,9 @@
-ghost use Rattle.std.specs.Prelude.{◌≡◌, ℕ, ◌+◌, ◌-◌, ◌*◌, ◌/◌, ◌%◌, ◌^◌, ◌<◌, ◌≤◌, ◌↔◌, Bool, List, length, slice_set, IsTrue, IsFalse, ◌∷◌, All, option_to_list};
+ghost use Rattle.std.specs.Prelude.{◌≡◌, ℕ, ◌+◌, ◌-◌, ◌*◌, ◌/◌, ◌%◌, ◌^◌, ◌<◌, ◌≤◌, ◌↔◌, Bool, List, length, slice_set};
+ghost use Rattle.std.specs.Prelude.{IsTrue, IsFalse, ◌∷◌, All, option_to_list};
 ghost use Rattle.std.specs.Option.{SomeIff};
 ghost use Rattle.rv_gate.specs.Word.{number_of, word_of, bit_of, has};
-ghost use Rattle.rv_gate.specs.Gate.{act, run, controls, wanted, targets, touched, touches, is_flip, flip_under, inverse, FitsIn, IsGate, IsFlip};
+ghost use Rattle.rv_gate.specs.Gate.{act, run, controls, wanted, targets, touched, touches, is_flip, flip_under};
+ghost use Rattle.rv_gate.specs.Gate.{inverse, FitsIn, IsGate, IsFlip};
 ghost use Rattle.rv_gate.specs.Commuting.{Commutes, DifferOn, meet, opposed, rule};
 
 use crate::{LineSet, MOST_LINES, Word, has};
@@ -255,7 +257,8 @@ impl Gate {
     pub fn commutes(self, other: Gate) -> bool
         ensures rule { result ≡ rule self other }
         ensures agree { IsTrue result → Commutes self other }
-        ensures differ { IsFlip self → IsFlip other → IsFalse result → (n : ℕ) → FitsIn self n → FitsIn other n → DifferOn n self other }
+        ensures differ { IsFlip self → IsFlip other → IsFalse result → (n : ℕ) → FitsIn self n → FitsIn other n
+            → DifferOn n self other }
     {
         self.rule(other)
     }
@@ -265,7 +268,8 @@ impl Gate {
     /// A flip and a swap undo themselves. A Peres gate is undone by two flips.
     pub fn inverse(self) -> (Gate, Option<Gate>)
         ensures gates { result.0 ∷ option_to_list result.1 ≡ inverse self }
-        ensures undoes { (word : List Bool) → FitsIn self (length word) → run (self ∷ result.0 ∷ option_to_list result.1) word ≡ word }
+        ensures undoes { (word : List Bool) → FitsIn self (length word)
+            → run (self ∷ result.0 ∷ option_to_list result.1) word ≡ word }
         ensures fit { (lines : ℕ) → FitsIn self lines → All (λ gate. FitsIn gate lines) (inverse self) }
     {
         match self.shape {

@@ -35,7 +35,8 @@ impl Model for Word {
 
     ghost inverse = { λ w. record { len = length w; ones = ones_of w } };
 
-    ghost inverse_ok = { λ a h i. record { len = length-word_with a.len a.ones i; ones = ones_of-word_with_small a.len a.ones h.1 i } };
+    ghost inverse_ok = { λ a h i.
+        record { len = length-word_with a.len a.ones i; ones = ones_of-word_with_small a.len a.ones h.1 i } };
 }
 
 impl Word {

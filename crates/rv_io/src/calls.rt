@@ -46,25 +46,31 @@ pub fn read_all<F: Files>(
 ) -> Result<Vec<u8>, InFault>
     requires { limit < 2 ^ 31 }
     ensures keeps { Keeps (F.view files.old) (F.view files.new) }
-    ensures whole { IfOk result (λ bytes. (F.view files.old).tells ≡ true → (F.view files.old).held name.now ≡ Some bytes.items) }
-    ensures whole_place { IfOk result (λ bytes. ((F.view files.new).is_started ≡ true) × ((F.view files.new).place ≡ length bytes.items)) }
+    ensures whole { IfOk result (λ bytes.
+        (F.view files.old).tells ≡ true → (F.view files.old).held name.now ≡ Some bytes.items) }
+    ensures whole_place { IfOk result (λ bytes.
+        ((F.view files.new).is_started ≡ true) × ((F.view files.new).place ≡ length bytes.items)) }
     ensures limited { IfOk result (λ bytes. length bytes.items ≤ limit) }
 
     // A content is refused as unreadable only if the count of faults rose, or if it is not held.
     ensures read { IsErrOf result InFault.Read → ReadingFails name.now (F.view files.old) (F.view files.new) }
-    ensures read_place { IsErrOf result InFault.Read → (F.view files.new).is_started ≡ true → (F.view files.new).place ≤ limit }
+    ensures read_place { IsErrOf result InFault.Read → (F.view files.new).is_started ≡ true
+        → (F.view files.new).place ≤ limit }
 
     // A content is refused as too long only if one byte more than the limit was read of it.
-    ensures too_long { IsErrOf result InFault.TooLong → PassesLimit limit name.now (F.view files.old) (F.view files.new) }
+    ensures too_long { IsErrOf result InFault.TooLong
+        → PassesLimit limit name.now (F.view files.old) (F.view files.new) }
 
     // Nothing else is counted as a fault.
     ensures uncounted { ¬ IsErrOf result InFault.Read → (F.view files.new).faults ≡ (F.view files.old).faults }
 
     // If memory was wanting, no more was read.
-    ensures mem_place { IsErrOf result InFault.Mem → ((F.view files.new).is_started ≡ true) × ((F.view files.new).place ≤ limit + 1) }
+    ensures mem_place { IsErrOf result InFault.Mem
+        → ((F.view files.new).is_started ≡ true) × ((F.view files.new).place ≤ limit + 1) }
 
     // What is started at the end is this name.
-    ensures named { (F.view files.old).tells ≡ true → (F.view files.new).is_started ≡ true → (F.view files.new).is_opened name.now ≡ true }
+    ensures named { (F.view files.old).tells ≡ true → (F.view files.new).is_started ≡ true
+        → (F.view files.new).is_opened name.now ≡ true }
 {
     match files.start(name) {
         Started::Ready => read_started(alloc, files, limit),
@@ -85,7 +91,8 @@ fn read_started<F: Files>(alloc: Global, files: &mut F, limit: u32) -> Result<Ve
     ensures read { IsErrOf result InFault.Read → Rose (F.view files.old).faults (F.view files.new).faults }
     ensures read_place { IsErrOf result InFault.Read → (F.view files.new).place ≤ limit }
     ensures uncounted { ¬ IsErrOf result InFault.Read → (F.view files.new).faults ≡ (F.view files.old).faults }
-    ensures too_long { IsErrOf result InFault.TooLong → (F.view files.old).tells ≡ true → limit < length (F.view files.old).content }
+    ensures too_long { IsErrOf result InFault.TooLong → (F.view files.old).tells ≡ true
+        → limit < length (F.view files.old).content }
     ensures too_long_place { IsErrOf result InFault.TooLong → (F.view files.new).place ≡ limit + 1 }
     ensures mem_place { IsErrOf result InFault.Mem → (F.view files.new).place ≤ limit + 1 }
 {

@@ -1,8 +1,10 @@
-ghost use Rattle.std.specs.Prelude.{◌≡◌, ◌≤◌, ◌<◌, ◌^◌, ◌∷◌, ◌++◌, ◌+◌, [], true, false, IfSome, IsNone, None, OnErr, OnOk, is_some, length};
+ghost use Rattle.std.specs.Prelude.{◌≡◌, ◌≤◌, ◌<◌, ◌^◌, ◌∷◌, ◌++◌, ◌+◌, [], true, false, IfSome, IsNone, None, OnErr};
+ghost use Rattle.std.specs.Prelude.{OnOk, is_some, length};
 ghost use Rattle.std.specs.FinMap as finite;
 ghost use Rattle.rv_io.specs.Faults.{next_count};
 ghost use Rattle.rv_io.specs.Files.{Keeps, Reads, SameOpened, Starts};
-ghost use Rattle.rv_io.specs.MemFiles.{after_read, after_start, bytes_left, fails_next, files_view, moved_by, opened_at, place_of, read_answer, read_count, room_after_read, start_answer};
+ghost use Rattle.rv_io.specs.MemFiles.{after_read, after_start, bytes_left, fails_next, files_view, moved_by};
+ghost use Rattle.rv_io.specs.MemFiles.{opened_at, place_of, read_answer, read_count, room_after_read, start_answer};
 ghost use Rattle.rv_io.specs.inside.Entries.{IsFirst, names_of, pairs};
 
 use crate::{Files, Got, Started};
@@ -48,7 +50,8 @@ impl Model for MemFiles {
 impl MemFiles {
     /// No names, no failing calls, and pieces of any size.
     pub fn new(alloc: Global) -> MemFiles
-        ensures { result ≡ record { names = finite.empty; started = None; faults = 0; calls = 0; failing = []; piece = usize.MAX } }
+        ensures { result
+            ≡ record { names = finite.empty; started = None; faults = 0; calls = 0; failing = []; piece = usize.MAX } }
     {
         MemFiles {
             alloc,
@@ -64,7 +67,8 @@ impl MemFiles {
     /// Holds the bytes at the name, in place of what it held there. The memory of older bytes is
     /// kept until the files are dropped.
     pub fn add(&mut self, name: &str, bytes: &[u8]) -> Result<(), AllocError>
-        ensures ok { OnOk result (self.new ≡ record self.old { names = finite.insert self.old.names name.now bytes.now; started = None }) }
+        ensures ok { OnOk result
+            (self.new ≡ record self.old { names = finite.insert self.old.names name.now bytes.now; started = None }) }
         ensures err { OnErr result (self.new ≡ self.old) }
     {
         let name = String::from_str(self.alloc, name)?;
@@ -111,7 +115,8 @@ impl MemFiles {
     // Starts the name at its first byte if it is held, and answers whether it is. Else nothing is started.
     pub(crate) fn open(&mut self, name: &str) -> bool
         ensures held { result ≡ is_some (finite.get self.old.names name.now) }
-        ensures after { self.new ≡ record self.old { started = opened_at name.now (finite.get self.old.names name.now) } }
+        ensures after { self.new
+            ≡ record self.old { started = opened_at name.now (finite.get self.old.names name.now) } }
     {
         let Some(index) = index_of(&self.entries, name) else {
             self.started = None;
@@ -146,8 +151,10 @@ impl MemFiles {
     // Gives the next bytes of what is started, if any are left.
     pub(crate) fn give(&mut self, room: &mut [u8]) -> Got
         ensures answer { result ≡ read_answer (read_count self.old (length room.old)) false }
-        ensures after { self.new ≡ record self.old { started = moved_by (read_count self.old (length room.old)) self.old.started } }
-        ensures filled { room.new ≡ room_after_read room.old (bytes_left self.old) (read_count self.old (length room.old)) false }
+        ensures after { self.new
+            ≡ record self.old { started = moved_by (read_count self.old (length room.old)) self.old.started } }
+        ensures filled { room.new
+            ≡ room_after_read room.old (bytes_left self.old) (read_count self.old (length room.old)) false }
         ensures fits { place_of self.new.started < 2 ^ 64 }
         ensures piece { 1 ≤ self.old.piece }
     {
@@ -178,7 +185,8 @@ impl Files for MemFiles {
         ensures counted { self.new.faults < 2 ^ 64 }
         ensures starts { Starts (files_view self.old) name.now result (files_view self.new) }
         ensures answer { result ≡ start_answer (finite.get self.old.names name.now) (fails_next self.old) }
-        ensures after { self.new ≡ after_start self.old name.now (finite.get self.old.names name.now) (fails_next self.old) }
+        ensures after { self.new
+            ≡ after_start self.old name.now (finite.get self.old.names name.now) (fails_next self.old) }
     {
         let fails = self.begin_call();
         if !self.open(name) {
@@ -201,7 +209,9 @@ impl Files for MemFiles {
         ensures reads { Reads (files_view self.old) room.new result (files_view self.new) }
         ensures answer { result ≡ read_answer (read_count self.old (length room.old)) (fails_next self.old) }
         ensures after { self.new ≡ after_read self.old (read_count self.old (length room.old)) (fails_next self.old) }
-        ensures filled { room.new ≡ room_after_read room.old (bytes_left self.old) (read_count self.old (length room.old)) (fails_next self.old) }
+        ensures filled { room.new
+            ≡ room_after_read room.old (bytes_left self.old) (read_count self.old (length room.old))
+            (fails_next self.old) }
     {
         if self.begin_call() {
             self.count_fault();

@@ -1,6 +1,7 @@
 ghost use Rattle.std.specs.Prelude.{◌≡◌, ◌≤◌, ◌<◌, ◌^◌, ◌∷◌, ◌++◌, [], true, IfOk, OnErr, OnOk, length};
 ghost use Rattle.rv_io.specs.Sink.{Flushes, Puts};
-ghost use Rattle.rv_io.specs.MemSink.{after_flush, after_put, flush_answer, flush_fails, put_answer, put_fails, sink_view};
+ghost use Rattle.rv_io.specs.MemSink.{after_flush, after_put, flush_answer, flush_fails, put_answer, put_fails};
+ghost use Rattle.rv_io.specs.MemSink.{sink_view};
 
 use crate::{Flushed, Put, Sink};
 use std::alloc::{AllocError, Global};
@@ -24,7 +25,15 @@ impl Model for MemSink {
 
     ghost Value = { MemSink };
 
-    ghost view = { λ s. record { bytes = s.bytes.items; room = s.room; faults = s.faults; calls = s.calls; failing = s.failing.items; is_flushed = s.flushed } };
+    ghost view = { λ s.
+        record {
+          bytes = s.bytes.items;
+          room = s.room;
+          faults = s.faults;
+          calls = s.calls;
+          failing = s.failing.items;
+          is_flushed = s.flushed;
+        } };
 
     // The memory for the whole room is taken.
     ghost invariant = { λ s. (length s.bytes.items ≤ s.room) × (s.room ≤ vec_capacity s.bytes) };
@@ -33,7 +42,8 @@ impl Model for MemSink {
 impl MemSink {
     /// An empty sink for `room` bytes. It takes their memory at once, so that no put takes any.
     pub fn new(alloc: Global, room: u32) -> Result<MemSink, AllocError>
-        ensures { IfOk result (λ sink. sink ≡ record { bytes = []; room = room; faults = 0; calls = 0; failing = []; is_flushed = true }) }
+        ensures { IfOk result (λ sink.
+            sink ≡ record { bytes = []; room = room; faults = 0; calls = 0; failing = []; is_flushed = true }) }
     {
         Ok(MemSink {
             bytes: Vec::with_capacity(alloc, room as usize)?,

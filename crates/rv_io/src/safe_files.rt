@@ -60,8 +60,14 @@ impl Files for SafeFiles {
         ensures same { SameOpened (safe_view self.old) (safe_view self.new) }
         ensures reads { Reads (safe_view self.old) room.new result (safe_view self.new) }
         ensures answer { result ≡ read_answer (read_count self.old.files (length room.old)) false }
-        ensures after { self.new ≡ record self.old { files = record self.old.files { started = moved_by (read_count self.old.files (length room.old)) self.old.files.started } } }
-        ensures filled { room.new ≡ room_after_read room.old (bytes_left self.old.files) (read_count self.old.files (length room.old)) false }
+        ensures after { self.new
+            ≡ record self.old {
+              files = record self.old.files {
+                started = moved_by (read_count self.old.files (length room.old)) self.old.files.started;
+              };
+            } }
+        ensures filled { room.new
+            ≡ room_after_read room.old (bytes_left self.old.files) (read_count self.old.files (length room.old)) false }
     {
         self.files.give(room)
     }

@@ -25,7 +25,8 @@ impl ShortText {
 
     /// The first bytes and then the second ones. `None` where they are more than [`SHORT`].
     pub fn joined(first: &[u8], second: &[u8]) -> Option<ShortText>
-        ensures { MatchOption result (SHORT < length first.now + length second.now) (λ text. take text.len text.bytes ≡ first.now ++ second.now) }
+        ensures { MatchOption result (SHORT < length first.now + length second.now) (λ text.
+            take text.len text.bytes ≡ first.now ++ second.now) }
     {
         if first.len() > SHORT || second.len() > SHORT - first.len() {
             return None;

@@ -179,7 +179,8 @@ impl Writer {
 
 // Sends the bytes, unless a put has failed before. Answers whether one has failed.
 fn send<O: Sink>(failed: bool, sink: &mut O, bytes: &[u8]) -> bool
-    ensures { (base : SinkView) (text : List ℕ) → Writes base text (record { held = bytes.now; has_failed = failed }) (O.view sink.old)
+    ensures { (base : SinkView) (text : List ℕ)
+        → Writes base text (record { held = bytes.now; has_failed = failed }) (O.view sink.old)
         → Writes base text (record { held = []; has_failed = result }) (O.view sink.new) }
 {
     failed || put_all(sink, bytes).is_err()

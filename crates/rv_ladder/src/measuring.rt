@@ -180,7 +180,8 @@ pub(crate) fn measure(circuit: &Circuit, aux: Aux) -> Result<u8, RelativeFault>
         ↔ ((length circuit.now.names + added aux (length circuit.now.names) circuit.now.gates ≡ n) × (MOST_LINES < n)) }
     ensures too_many_ops { (n : ℕ) → (result ≡ Err (RelativeFault.TooManyOps n))
         ↔ ((length circuit.now.names + added aux (length circuit.now.names) circuit.now.gates ≤ MOST_LINES)
-        × (gates_count operations aux (length circuit.now.names + added aux (length circuit.now.names) circuit.now.gates)
+        × (gates_count operations aux
+        (length circuit.now.names + added aux (length circuit.now.names) circuit.now.gates)
         circuit.now.gates ≡ n) × (MOST_OPS < n)) }
 {
     let lines = circuit.line_count();

@@ -30,7 +30,8 @@ pub fn read_marks<M: RowMark>(
     quotes: bool,
 ) -> Result<Option<Vec<M>>, AllocError>
     requires { from ≤ length line.now }
-    ensures { IfOk result (λ marks. option_map (λ v. v.items) marks ≡ marks_of M.mark_of (joined (tokens_of quotes [] (drop from line.now)))) }
+    ensures { IfOk result (λ marks.
+        option_map (λ v. v.items) marks ≡ marks_of M.mark_of (joined (tokens_of quotes [] (drop from line.now)))) }
 {
     let row = joined(alloc, line, from, quotes, &[])?;
     marks_of(alloc, &row)
@@ -45,7 +46,9 @@ pub fn read_row<M: RowMark>(
     quotes: bool,
 ) -> Result<Option<Vec<M>>, AllocError>
     requires { from ≤ length line.now }
-    ensures row { IfOk result (λ marks. option_map (λ v. v.items) marks ≡ row_of_marks M.mark_of lines (joined (tokens_of quotes [] (drop from line.now)))) }
+    ensures row { IfOk result (λ marks.
+        option_map (λ v. v.items) marks
+        ≡ row_of_marks M.mark_of lines (joined (tokens_of quotes [] (drop from line.now)))) }
     ensures len { IfOk result (λ marks. IfSome marks (λ row. length row.items ≡ lines)) }
 {
     if joined_len(line, from, quotes, &[]) != usize::from(lines) {

@@ -21,7 +21,8 @@ pub fn put_row<M: RowMark, O: Sink>(writer: &mut Writer, sink: &mut O, marks: &[
 
 /// Adds `.constants` and `.garbage`, each with its row.
 pub fn put_marks<O: Sink>(writer: &mut Writer, sink: &mut O, constants: &[Mark], garbage: &[bool])
-    ensures { Adds writer.old (O.view sink.old) (spelled (mark_lines constants.now garbage.now)) writer.new (O.view sink.new) }
+    ensures { Adds writer.old (O.view sink.old) (spelled (mark_lines constants.now garbage.now)) writer.new
+        (O.view sink.new) }
 {
     writer.put(sink, b".constants ");
     put_row(writer, sink, constants);

@@ -23,7 +23,8 @@ fn halves(
     requires many { 3 ≤ count_lines care }
     requires line { line < MOST_LINES }
     requires helper { helper < MOST_LINES }
-    ensures { OnOk result (Grown circuit.old circuit.new (halves (length circuit.old.names) care want target line helper)) }
+    ensures { OnOk result
+        (Grown circuit.old circuit.new (halves (length circuit.old.names) care want target line helper)) }
 {
     let (cut, own) = (place(line), place(helper));
     let (low, low_want) = (care % cut, want % cut);

@@ -29,14 +29,17 @@ pub struct Decomposed {
 pub fn decompose(alloc: Global, circuit: &Circuit, aux: Aux) -> Result<Decomposed, MctFault>
     ensures added { IfOk result (λ d. d.added ≡ added aux (length circuit.now.names) circuit.now.gates) }
     ensures circuit { IfOk result (λ d. d.circuit ≡ decomposed aux circuit.now) }
-    ensures extends { IfOk result (λ d. Extends aux (length circuit.now.names) d.added d.circuit.gates circuit.now.gates) }
+    ensures extends { IfOk result (λ d.
+        Extends aux (length circuit.now.names) d.added d.circuit.gates circuit.now.gates) }
     ensures plain { IfOk result (λ d. All IsPlain d.circuit.gates) }
-    ensures count { IfOk result (λ d. length d.circuit.gates ≡ cost_of aux (length circuit.now.names + d.added) circuit.now.gates) }
+    ensures count { IfOk result (λ d.
+        length d.circuit.gates ≡ cost_of aux (length circuit.now.names + d.added) circuit.now.gates) }
     ensures too_many_lines { (n : ℕ) → (result ≡ Err (MctFault.TooManyLines n))
         ↔ ((length circuit.now.names + added aux (length circuit.now.names) circuit.now.gates ≡ n) × (MOST_LINES < n)) }
     ensures too_many_gates { (n : ℕ) → (result ≡ Err (MctFault.TooManyGates n))
         ↔ ((length circuit.now.names + added aux (length circuit.now.names) circuit.now.gates ≤ MOST_LINES)
-        × (cost_of aux (length circuit.now.names + added aux (length circuit.now.names) circuit.now.gates) circuit.now.gates ≡ n) × (MOST_GATES < n)) }
+        × (cost_of aux (length circuit.now.names + added aux (length circuit.now.names) circuit.now.gates) circuit.now.gates ≡ n)
+        × (MOST_GATES < n)) }
 {
     circuit.recall_invariant();
     let extra = match measure(circuit, aux) {

@@ -78,8 +78,10 @@ pub(crate) fn ladder(
 ) -> Result<(), AllocError>
     requires few { length circuit.old.names ≤ MOST_LINES }
     requires room { helper + length more.now ≤ MOST_LINES }
-    requires divided { AreDivided (length circuit.old.names) a b more.now (range_with_len helper (length more.now)) target }
-    ensures { OnOk result (Grown circuit.old circuit.new (ladder a b more.now (range_with_len helper (length more.now)) target)) }
+    requires divided { AreDivided (length circuit.old.names) a b more.now (range_with_len helper (length more.now))
+        target }
+    ensures { OnOk result
+        (Grown circuit.old circuit.new (ladder a b more.now (range_with_len helper (length more.now)) target)) }
 {
     if more.is_empty() {
         push_both(circuit, a, b, target)?;
@@ -112,7 +114,8 @@ pub(crate) fn down_up(
     requires few { length circuit.old.names ≤ MOST_LINES }
     requires enough { length more.now ≡ length helpers.now }
     requires divided { AreDivided (length circuit.old.names) a b (reverse more.now) (reverse helpers.now) target }
-    ensures { OnOk result (Grown circuit.old circuit.new (down_up a b (reverse more.now) (reverse helpers.now) target)) }
+    ensures { OnOk result
+        (Grown circuit.old circuit.new (down_up a b (reverse more.now) (reverse helpers.now) target)) }
 {
     if more.is_empty() {
         push_both(circuit, a, b, target)?;
@@ -139,7 +142,8 @@ pub(crate) fn down_up_twice(
     requires few { length circuit.old.names ≤ MOST_LINES }
     requires enough { length more.now ≡ length helpers.now }
     requires divided { AreDivided (length circuit.old.names) a b (reverse more.now) (reverse helpers.now) target }
-    ensures { OnOk result (Grown circuit.old circuit.new (down_up_twice a b (reverse more.now) (reverse helpers.now) target)) }
+    ensures { OnOk result
+        (Grown circuit.old circuit.new (down_up_twice a b (reverse more.now) (reverse helpers.now) target)) }
 {
     down_up(circuit, a, b, more, helpers, target)?;
     if !more.is_empty() {

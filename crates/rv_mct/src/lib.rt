@@ -1,5 +1,5 @@
-//! Circuits of large gates as circuits of NOT, CNOT and Toffoli gates, over helper lines that are clean (they hold 0) or
-//! borrowed (they hold anything, and end as they began). The large gates are Toffoli gates of many controls
+//! Circuits of large gates as circuits of NOT, CNOT and Toffoli gates, over helper lines that are clean (they hold 0)
+//! or borrowed (they hold anything, and end as they began). The large gates are Toffoli gates of many controls
 //! (multiple-control Toffoli, MCT, hence the name).
 //!
 //! The rules are in the manner of A. Barenco, C. H. Bennett, R. Cleve, D. P. DiVincenzo, N. Margolus, P. Shor,

@@ -67,7 +67,8 @@ pub(crate) fn borrowed_ladder(
     requires long { IsLong (length circuit.old.names) care target }
     requires some { 2 ≤ count_lines care }
     requires enough { count_lines care ≤ count (is_free care target) (length circuit.old.names) + 2 }
-    ensures { OnOk result (Grown circuit.old circuit.new (borrowed_ladder (length circuit.old.names) care want target)) }
+    ensures { OnOk result
+        (Grown circuit.old circuit.new (borrowed_ladder (length circuit.old.names) care want target)) }
 {
     let lines = circuit.line_count();
     let controls = controls_of(care, want);

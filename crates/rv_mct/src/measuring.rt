@@ -44,7 +44,8 @@ pub(crate) fn measure(circuit: &Circuit, aux: Aux) -> Result<u8, MctFault>
         ↔ ((length circuit.now.names + added aux (length circuit.now.names) circuit.now.gates ≡ n) × (MOST_LINES < n)) }
     ensures too_many_gates { (n : ℕ) → (result ≡ Err (MctFault.TooManyGates n))
         ↔ ((length circuit.now.names + added aux (length circuit.now.names) circuit.now.gates ≤ MOST_LINES)
-        × (cost_of aux (length circuit.now.names + added aux (length circuit.now.names) circuit.now.gates) circuit.now.gates ≡ n) × (MOST_GATES < n)) }
+        × (cost_of aux (length circuit.now.names + added aux (length circuit.now.names) circuit.now.gates) circuit.now.gates ≡ n)
+        × (MOST_GATES < n)) }
 {
     let lines = circuit.line_count();
     let extra = added(circuit.gates(), aux, lines);

@@ -1,5 +1,6 @@
 // The lines that a decomposition adds.
-ghost use Rattle.std.specs.Prelude.{◌≡◌, ◌≢◌, ◌+◌, ◌<◌, ◌≤◌, ◌++◌, ◌∷◌, ◌&&◌, [], not, nat_lt, length, Contains, IfOk, OnOk, Ok, Err};
+ghost use Rattle.std.specs.Prelude.{◌≡◌, ◌≢◌, ◌+◌, ◌<◌, ◌≤◌, ◌++◌, ◌∷◌, ◌&&◌, [], not, nat_lt, length, Contains, IfOk};
+ghost use Rattle.std.specs.Prelude.{OnOk, Ok, Err};
 ghost use Rattle.rv_gate.specs.Circuit.{fresh};
 ghost use Rattle.rv_gate.specs.Names.{IsName, numbered};
 ghost use Rattle.rv_mct.specs.Widened.{added_names, is_taken, widened};

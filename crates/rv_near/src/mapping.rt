@@ -71,8 +71,8 @@ fn net_of(alloc: Global, circuit: &Circuit) -> Result<Net, ExpandFault>
     }
 }
 
-/// The network of a circuit of flips with at most two controls, over {x, h, t, tdg, cx}: its amplitudes are those of the
-/// circuit's permutation times the root of two for each `H`, exactly. If each gate touches consecutive lines, each
+/// The network of a circuit of flips with at most two controls, over {x, h, t, tdg, cx}: its amplitudes are those of
+/// the circuit's permutation times the root of two for each `H`, exactly. If each gate touches consecutive lines, each
 /// operation is on one line or on two neighbours.
 ///
 /// The operations are counted before memory is taken for them. What is said of the network holds also where it has too

@@ -1,10 +1,12 @@
-ghost use Rattle.std.specs.Prelude.{◌≡◌, ◌+◌, ◌*◌, ◌<◌, ◌≤◌, ◌↔◌, [], ◌∷◌, ◌++◌, ◌==◌, ◌&&◌, if◌then◌else◌, not, ℕ, length, All, IfOk, Err};
+ghost use Rattle.std.specs.Prelude.{◌≡◌, ◌+◌, ◌*◌, ◌<◌, ◌≤◌, ◌↔◌, [], ◌∷◌, ◌++◌, ◌==◌, ◌&&◌, if◌then◌else◌, not, ℕ};
+ghost use Rattle.std.specs.Prelude.{length, All, IfOk, Err};
 ghost use Rattle.rv_gate.specs.Gate.{run};
 ghost use Rattle.rv_gate.specs.Word.{has};
 ghost use Rattle.rv_mct.specs.Blocks.{controls_of, count, count_lines};
 ghost use Rattle.rv_mct.specs.Extends.{IsPlain};
 ghost use Rattle.rv_net.specs.Denotes.{CarriesExtended, Denotes, IsProduct};
-ghost use Rattle.rv_net.specs.Network.{expanded, flip_ops, gate_op_count, gate_ops, network_of, on_zero, operation_count, toffoli};
+ghost use Rattle.rv_net.specs.Network.{expanded, flip_ops, gate_op_count, gate_ops, network_of, on_zero};
+ghost use Rattle.rv_net.specs.Network.{operation_count, toffoli};
 ghost use Rattle.rv_net.specs.declared.expanding.ExpandFault.TheVariants.{Mem};
 
 use crate::{MOST_OPS, Net, Op};
@@ -189,15 +191,16 @@ pub fn count_operations(circuit: &Circuit) -> u32
     operation_count(circuit.gates())
 }
 
-/// The network of a circuit of flips with at most two controls, over {x, h, t, tdg, cx}: its amplitudes are those of the
-/// circuit's permutation times the root of two for each `H`, exactly.
+/// The network of a circuit of flips with at most two controls, over {x, h, t, tdg, cx}: its amplitudes are those of
+/// the circuit's permutation times the root of two for each `H`, exactly.
 ///
 /// The operations are counted before memory is taken for them. What is said of the network holds also where it has too
 /// many operations to be made.
 pub fn expand(alloc: Global, circuit: &Circuit) -> Result<Net, ExpandFault>
     requires { All IsPlain circuit.now.gates }
     ensures net { IfOk result (λ net. net ≡ expanded circuit.now) }
-    ensures too_many { (n : ℕ) → (result ≡ Err (ExpandFault.TooManyOps n)) ↔ ((operation_count circuit.now.gates ≡ n) × (MOST_OPS < n)) }
+    ensures too_many { (n : ℕ)
+        → (result ≡ Err (ExpandFault.TooManyOps n)) ↔ ((operation_count circuit.now.gates ≡ n) × (MOST_OPS < n)) }
     ensures denotes { Denotes (length circuit.now.names) (network_of circuit.now.gates) (run circuit.now.gates) }
 
     // The network of a decomposition carries the circuit that was decomposed, with whatever its helper lines may hold.
@@ -212,7 +215,8 @@ pub fn expand(alloc: Global, circuit: &Circuit) -> Result<Net, ExpandFault>
 fn expanded(alloc: Global, circuit: &Circuit) -> Result<Net, ExpandFault>
     requires { All IsPlain circuit.now.gates }
     ensures net { IfOk result (λ net. net ≡ expanded circuit.now) }
-    ensures too_many { (n : ℕ) → (result ≡ Err (ExpandFault.TooManyOps n)) ↔ ((operation_count circuit.now.gates ≡ n) × (MOST_OPS < n)) }
+    ensures too_many { (n : ℕ)
+        → (result ≡ Err (ExpandFault.TooManyOps n)) ↔ ((operation_count circuit.now.gates ≡ n) × (MOST_OPS < n)) }
 {
     let lines = circuit.line_count();
     let count = count_operations(circuit);

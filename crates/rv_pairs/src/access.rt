@@ -73,8 +73,8 @@ pub(crate) fn inverse(op: Op) -> Op
     }
 }
 
-// A number for a kind and up to three lines, the third one of the last two kinds alone. So those of one and two lines stand
-// close together.
+// A number for a kind and up to three lines, the third one of the last two kinds alone. So those of one and two lines
+// stand close together.
 fn number(kind: usize, a: u8, b: u8, c: u8) -> usize
     requires { kind < 14 }
     ensures { result ≡ number (parts_of kind a b c) }

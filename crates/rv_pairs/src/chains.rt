@@ -1,5 +1,6 @@
 // Chains of places: for each slot those of the operations that belong there, the latest first.
-ghost use Rattle.std.specs.Prelude.{◌≡◌, ◌≢◌, ◌↔◌, ◌+◌, ◌^◌, ◌<◌, ◌≤◌, ◌++◌, ◌∷◌, [], ℕ, Bool, true, All, IfOk, IsTrue, MatchBool, OnOk, Some, length, slice_get, slice_index, slice_set};
+ghost use Rattle.std.specs.Prelude.{◌≡◌, ◌≢◌, ◌↔◌, ◌+◌, ◌^◌, ◌<◌, ◌≤◌, ◌++◌, ◌∷◌, [], ℕ, Bool, true, All, IfOk, IsTrue};
+ghost use Rattle.std.specs.Prelude.{MatchBool, OnOk, Some, length, slice_get, slice_index, slice_set};
 ghost use Rattle.rv_gate.specs.declared.word.TheConstants.{MOST_LINES};
 ghost use Rattle.rv_net.specs.declared.op.Op.{Op};
 ghost use Rattle.rv_pairs.specs.declared.chains.Node.{Node};
@@ -36,7 +37,8 @@ fn is_kept(cells: &[Option<Op>], place: u32) -> bool
 }
 
 impl Chains {
-    ghost use Rattle.rv_pairs.specs.inside.Chained.{AreChains, AreKept, AreMore, Chain, GivesLatest, IsBound, IsPushed, LeadsToOp, TellsFree};
+    ghost use Rattle.rv_pairs.specs.inside.Chained.{AreChains, AreKept, AreMore, Chain, GivesLatest, IsBound};
+    ghost use Rattle.rv_pairs.specs.inside.Chained.{IsPushed, LeadsToOp, TellsFree};
 
     /// Empty chains, with room for a node for each of so many operations.
     pub(crate) fn new(alloc: Global, count: usize, operations: usize) -> Result<Chains, AllocError>
@@ -53,7 +55,8 @@ impl Chains {
     fn past_gaps(&self, cells: &[Option<Op>], link: u32) -> u32
         requires { link ≤ length self.now.nodes.items }
         ensures within { result ≤ length self.now.nodes.items }
-        ensures chain { (belongs : Op → Bool) → Chain cells.now self.now.nodes.items belongs link (length cells.now) → Chain cells.now self.now.nodes.items belongs result (length cells.now) }
+        ensures chain { (belongs : Op → Bool) → Chain cells.now self.now.nodes.items belongs link (length cells.now)
+            → Chain cells.now self.now.nodes.items belongs result (length cells.now) }
         ensures stands { LeadsToOp cells.now self.now.nodes.items result }
     {
         let mut link = link;

@@ -1,5 +1,6 @@
 // One walk over the operations of a network.
-ghost use Rattle.std.specs.Prelude.{◌≡◌, ◌*◌, ◌+◌, ◌^◌, ◌<◌, ◌≤◌, true, IfOk, OnOk, MatchOption, None, Some, ◌++◌, ◌∷◌, [], length, slice_set};
+ghost use Rattle.std.specs.Prelude.{◌≡◌, ◌*◌, ◌+◌, ◌^◌, ◌<◌, ◌≤◌, true, IfOk, OnOk, MatchOption, None, Some, ◌++◌, ◌∷◌};
+ghost use Rattle.std.specs.Prelude.{[], length, slice_set};
 ghost use Rattle.rv_gate.specs.declared.word.TheConstants.{MOST_LINES};
 ghost use Rattle.rv_net.specs.Op.{OpFitsIn};
 
@@ -9,8 +10,8 @@ use rv_gate::MOST_LINES;
 use rv_net::Op;
 use std::alloc::{AllocError, Global};
 
-/// The operations so far, with gaps where pairs went, and chains of those that read a line, that write it, and that have
-/// one number.
+/// The operations so far, with gaps where pairs went, and chains of those that read a line, that write it, and that
+/// have one number.
 #[derive(Drop)]
 pub(crate) struct Walk {
     pub(crate) cells: Vec<Option<Op>>,
@@ -44,8 +45,8 @@ impl Walk {
         self.cells
     }
 
-    // Whether a line that an operation reads is written after all that might be its partner. It mostly is, and no cell far
-    // back is read.
+    // Whether a line that an operation reads is written after all that might be its partner. It mostly is, and no cell
+    // far back is read.
     fn is_barred(&mut self, op: Op, lines: u8) -> bool
         requires stands { Stands lines self.old }
         requires fits { OpFitsIn op lines }
@@ -67,7 +68,8 @@ impl Walk {
         requires few { length self.old.cells.items < 2 ^ 32 }
         ensures stands { Stands lines self.new }
         ensures cells { self.new.cells.items ≡ self.old.cells.items }
-        ensures partner { MatchOption result (HasNoPartner self.old.cells.items op) (IsPartner self.old.cells.items op) }
+        ensures partner { MatchOption result (HasNoPartner self.old.cells.items op)
+            (IsPartner self.old.cells.items op) }
     {
         let latest = self.alike.latest(&self.cells, code(inverse(op)));
         if latest == 0 {
@@ -90,7 +92,8 @@ impl Walk {
         requires few { length self.old.cells.items < 2 ^ 32 }
         ensures stands { Stands lines self.new }
         ensures cells { self.new.cells.items ≡ self.old.cells.items }
-        ensures partner { MatchOption result (HasNoPartner self.old.cells.items op) (IsPartner self.old.cells.items op) }
+        ensures partner { MatchOption result (HasNoPartner self.old.cells.items op)
+            (IsPartner self.old.cells.items op) }
     {
         if self.is_barred(op, lines) {
             None

@@ -62,7 +62,8 @@ fn mark_garbage(spec: &mut PermSpec, marks: &[bool])
 fn give_constants(spec: &mut PermSpec, row: &Option<Row<Mark>>)
     requires lines { IfSome row.now (λ row. length row.marks.items ≡ spec.old.table.lines) }
     requires unmarked { spec.old.constants ≡ replicate spec.old.table.lines Input }
-    ensures { spec.new ≡ record spec.old { constants = marks_or spec.old.table.lines Input (option_map row_kept row.now) } }
+    ensures { spec.new
+        ≡ record spec.old { constants = marks_or spec.old.table.lines Input (option_map row_kept row.now) } }
 {
     if let Some(row) = row {
         mark_constants(spec, &row.marks);
@@ -73,7 +74,8 @@ fn give_constants(spec: &mut PermSpec, row: &Option<Row<Mark>>)
 fn give_garbage(spec: &mut PermSpec, row: &Option<Row<bool>>)
     requires lines { IfSome row.now (λ row. length row.marks.items ≡ spec.old.table.lines) }
     requires unmarked { spec.old.garbage ≡ replicate spec.old.table.lines false }
-    ensures { spec.new ≡ record spec.old { garbage = marks_or spec.old.table.lines false (option_map row_kept row.now) } }
+    ensures { spec.new
+        ≡ record spec.old { garbage = marks_or spec.old.table.lines false (option_map row_kept row.now) } }
 {
     if let Some(row) = row {
         mark_garbage(spec, &row.marks);

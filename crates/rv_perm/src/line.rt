@@ -5,7 +5,8 @@ ghost use Rattle.rv_reader.specs.Gives.{StepGives};
 ghost use Rattle.rv_perm.specs.Line.{separators};
 ghost use Rattle.rv_perm.specs.Reading.{fault_in, permutation_of};
 ghost use Rattle.rv_perm.specs.inside.State.{with_number};
-ghost use Rattle.rv_perm.specs.inside.Steps.{constants_given, garbage_given, directive_given, numbers_given, line_rules, end_given, as_fault};
+ghost use Rattle.rv_perm.specs.inside.Steps.{constants_given, garbage_given, directive_given, numbers_given};
+ghost use Rattle.rv_perm.specs.inside.Steps.{line_rules, end_given, as_fault};
 ghost use Rattle.rv_perm.specs.inside.Denotes.{denotes, finds};
 
 use crate::code::{DIRECTIVE_OUT_OF_PLACE, NOT_A_NUMBER, UNKNOWN_DIRECTIVE, WRONG_MARK_ROW};
@@ -83,7 +84,8 @@ impl State {
     // `.constants`, with its operands from a place on.
     fn read_constants(&mut self, number: u32, line: &[u8], from: usize) -> Result<(), Stop>
         requires { from ≤ length line.now }
-        ensures gives { StepGives result self.new (constants_given self.old number (joined (tokens_of false [] (drop from line.now)))) }
+        ensures gives { StepGives result self.new
+            (constants_given self.old number (joined (tokens_of false [] (drop from line.now)))) }
         ensures count { OnOk result (self.new.count ≡ self.old.count) }
     {
         if self.constants.is_some() || self.count > 0 {
@@ -102,7 +104,8 @@ impl State {
     // `.garbage`, with its operands from a place on.
     fn read_garbage(&mut self, number: u32, line: &[u8], from: usize) -> Result<(), Stop>
         requires { from ≤ length line.now }
-        ensures gives { StepGives result self.new (garbage_given self.old number (joined (tokens_of false [] (drop from line.now)))) }
+        ensures gives { StepGives result self.new
+            (garbage_given self.old number (joined (tokens_of false [] (drop from line.now)))) }
         ensures count { OnOk result (self.new.count ≡ self.old.count) }
     {
         if self.garbage.is_some() || self.count > 0 {
@@ -128,7 +131,8 @@ impl State {
         from: usize,
     ) -> Result<(), Stop>
         requires { from ≤ length line.now }
-        ensures gives { StepGives result self.new (directive_given self.old number name.now (tokens_of false [] (drop from line.now))) }
+        ensures gives { StepGives result self.new
+            (directive_given self.old number name.now (tokens_of false [] (drop from line.now))) }
         ensures count { OnOk result (self.new.count ≡ self.old.count) }
     {
         if name == b".constants".as_slice() {

@@ -1,5 +1,6 @@
 // Permutations as tables.
-ghost use Rattle.std.specs.Prelude.{◌≡◌, ◌≢◌, ℕ, ◌^◌, ◌<◌, ◌≤◌, ◌⊎◌, length, map, slice_index, IfOk, IfErr, Err, IsErrOf};
+ghost use Rattle.std.specs.Prelude.{◌≡◌, ◌≢◌, ℕ, ◌^◌, ◌<◌, ◌≤◌, ◌⊎◌, length, map, slice_index, IfOk, IfErr, Err};
+ghost use Rattle.std.specs.Prelude.{IsErrOf};
 ghost use Rattle.rv_text.specs.declared.fault.TextFault.{TextFault};
 ghost use Rattle.rv_text.specs.declared.lines.TheConstants.{MOST_BYTES};
 ghost use Rattle.rv_gate.specs.Gate.{act_on_number, FitsIn, IsFlip};
@@ -54,9 +55,12 @@ impl Perm {
     pub fn from_numbers(alloc: Global, numbers: &[u32]) -> Result<Perm, PermFault>
         requires { length numbers.now < MOST_BYTES }
         ensures table { IfOk result (λ p. table_of numbers.now ≡ Ok p) }
-        ensures length { (count : ℕ) → IsErrOf result (PermFault.Length count) → table_of numbers.now ≡ Err (PermFault.Length count) }
-        ensures out_of_range { (place : ℕ) → IsErrOf result (PermFault.OutOfRange place) → table_of numbers.now ≡ Err (PermFault.OutOfRange place) }
-        ensures repeated { (first second : ℕ) → IsErrOf result (PermFault.Repeated first second) → table_of numbers.now ≡ Err (PermFault.Repeated first second) }
+        ensures length { (count : ℕ) → IsErrOf result (PermFault.Length count)
+            → table_of numbers.now ≡ Err (PermFault.Length count) }
+        ensures out_of_range { (place : ℕ) → IsErrOf result (PermFault.OutOfRange place)
+            → table_of numbers.now ≡ Err (PermFault.OutOfRange place) }
+        ensures repeated { (first second : ℕ) → IsErrOf result (PermFault.Repeated first second)
+            → table_of numbers.now ≡ Err (PermFault.Repeated first second) }
         ensures no_text { (fault : TextFault) → ¬ IsErrOf result (PermFault.Text fault) }
     {
         let Some(lines) = lines_of(numbers.len()) else {

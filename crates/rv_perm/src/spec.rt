@@ -24,9 +24,12 @@ impl Model for PermSpec {
 
     ghost Value = { Marked };
 
-    ghost view = { λ s. record { table = s.perm; constants = take s.perm.lines s.constants; garbage = take s.perm.lines s.garbage } };
+    ghost view = { λ s.
+        record { table = s.perm; constants = take s.perm.lines s.constants; garbage = take s.perm.lines s.garbage } };
 
-    ghost invariant = { λ s. IsPerm s.perm.lines s.perm.images × (length s.constants ≡ MOST_PERM_LINES) × (length s.garbage ≡ MOST_PERM_LINES) };
+    ghost invariant = { λ s.
+        IsPerm s.perm.lines s.perm.images × (length s.constants ≡ MOST_PERM_LINES)
+        × (length s.garbage ≡ MOST_PERM_LINES) };
 }
 
 impl PermSpec {

@@ -44,7 +44,8 @@ fn exchange_pairs(
     requires negative_in { negative < 2 ^ lines }
     requires free { bit_at care k ≡ 0 }
     requires inverse { AreInverse table.old inverse.old }
-    ensures table { (v : ℕ) → v < 2 ^ lines → slice_index table.new v ≡ slice_index table.old (counterpart care negative (2 ^ k) v) }
+    ensures table { (v : ℕ) → v < 2 ^ lines
+        → slice_index table.new v ≡ slice_index table.old (counterpart care negative (2 ^ k) v) }
     ensures inverse { AreInverse table.new inverse.new }
 {
     let end = 1u32 << lines;
@@ -67,7 +68,8 @@ fn exchange_places(table: &mut [u32], inverse: &mut [u32], a: usize, b: usize)
     requires few { length table.old ≤ 2 ^ MOST_PERM_LINES }
     requires apart { a ≢ b }
     requires inverse { AreInverse table.old inverse.old }
-    ensures table { table.new ≡ slice_set (slice_set table.old a (slice_index table.old b)) b (slice_index table.old a) }
+    ensures table { table.new
+        ≡ slice_set (slice_set table.old a (slice_index table.old b)) b (slice_index table.old a) }
     ensures inverse { AreInverse table.new inverse.new }
 {
     let (first, second) = (table[a], table[b]);

@@ -76,7 +76,8 @@ fn write_svg<O: Sink, G: Titled>(
 ) -> Result<(), WriteFault>
     requires some { 1 ≤ per_block }
     requires fit { All (λ gate. G.Fits gate (length lines.now.names)) gates.now }
-    ensures { Sends (O.view sink.old) (svg_with G.draws G.title per_block lines.now gates.now) result (O.view sink.new) }
+    ensures { Sends (O.view sink.old) (svg_with G.draws G.title per_block lines.now gates.now) result
+        (O.view sink.new) }
 {
     let blocks = block_count(per_block, gates.len());
     let columns = per_block.min(gates.len());

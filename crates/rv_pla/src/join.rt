@@ -1,5 +1,6 @@
 // A term joined into a table: its set into the entries of the words that its cube matches.
-ghost use Rattle.std.specs.Prelude.{◌≡◌, ◌+◌, ◌-◌, ◌*◌, ◌/◌, ◌%◌, ◌^◌, ◌<◌, ◌≤◌, ◌==◌, ℕ, length, slice_index, if◌then◌else◌, bit_and, bit_xor};
+ghost use Rattle.std.specs.Prelude.{◌≡◌, ◌+◌, ◌-◌, ◌*◌, ◌/◌, ◌%◌, ◌^◌, ◌<◌, ◌≤◌, ◌==◌, ℕ, length, slice_index};
+ghost use Rattle.std.specs.Prelude.{if◌then◌else◌, bit_and, bit_xor};
 ghost use Rattle.rv_gate.specs.Word.{word_of};
 ghost use Rattle.rv_gate.specs.Gate.{WantsControls};
 ghost use Rattle.rv_pla.specs.declared.cube.TheConstants.{MOST_INPUTS};
@@ -68,7 +69,8 @@ fn join_blocks(table: &mut [u16], size: u32, care: u32, want: u32, block: &[u16]
     requires few { length table.old ≤ 2 ^ MOST_INPUTS }
     requires whole { length table.old % size ≡ 0 }
     ensures { (x : ℕ) → x < length table.old → slice_index table.new x
-        ≡ joined_sets odd (slice_index table.old x) (if agrees_by (x / size) care want then slice_index block.now (x % size) else 0) }
+        ≡ joined_sets odd (slice_index table.old x)
+        (if agrees_by (x / size) care want then slice_index block.now (x % size) else 0) }
 {
     let size = size as usize;
     let count = table.len() / size;
@@ -97,7 +99,8 @@ fn past(number: usize, place: u32) -> usize
 // Joins each set of the block into the one at its place.
 fn join_block(table: &mut [u16], block: &[u16], odd: bool)
     requires { length block.now ≡ length table.old }
-    ensures { (x : ℕ) → x < length table.old → slice_index table.new x ≡ joined_sets odd (slice_index table.old x) (slice_index block.now x) }
+    ensures { (x : ℕ) → x < length table.old
+        → slice_index table.new x ≡ joined_sets odd (slice_index table.old x) (slice_index block.now x) }
 {
     if odd {
         for x in 0..table.len() {

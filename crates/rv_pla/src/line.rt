@@ -5,7 +5,8 @@ ghost use Rattle.rv_reader.specs.inside.Answered.{GivesValue};
 ghost use Rattle.rv_pla.specs.inside.Denotes.{denotes, finds};
 ghost use Rattle.rv_pla.specs.inside.State.{IsSize};
 ghost use Rattle.rv_pla.specs.inside.Next.{IsNext};
-ghost use Rattle.rv_pla.specs.inside.Steps.{directive_of, inputs_given, outputs_given, kind_given, term_sized, line_by, line_rules, as_fault, end_given};
+ghost use Rattle.rv_pla.specs.inside.Steps.{directive_of, inputs_given, outputs_given, kind_given, term_sized, line_by};
+ghost use Rattle.rv_pla.specs.inside.Steps.{line_rules, as_fault, end_given};
 ghost use Rattle.rv_pla.specs.Line.{bar, kind_named, kind_of, size_of, is_dropped, is_end, is_unsupported};
 ghost use Rattle.rv_pla.specs.Reading.{fault_in, pla_of};
 
@@ -41,9 +42,12 @@ impl Model for State {
 
     ghost Value = { Given };
 
-    ghost view = { λ s. record { inputs = s.inputs; outputs = s.outputs; kind = s.kind; terms = s.terms.items; is_ended = s.ended } };
+    ghost view = { λ s.
+        record { inputs = s.inputs; outputs = s.outputs; kind = s.kind; terms = s.terms.items; is_ended = s.ended } };
 
-    ghost invariant = { λ s. IsGiven (record { inputs = s.inputs; outputs = s.outputs; kind = s.kind; terms = s.terms.items; is_ended = s.ended }) };
+    ghost invariant = { λ s.
+        IsGiven
+        (record { inputs = s.inputs; outputs = s.outputs; kind = s.kind; terms = s.terms.items; is_ended = s.ended }) };
 }
 
 impl State {
@@ -90,7 +94,8 @@ impl State {
     #[tactic(auto, unfolding(crate::specs::inside::Steps::directive_of))]
     fn read_directive(&mut self, name: &[u8], line: &[u8], from: usize) -> Result<(), Stop>
         requires { from ≤ length line.now }
-        ensures gives { StepGives result self.new (directive_of self.old name.now (tokens_of false bar (drop from line.now))) }
+        ensures gives { StepGives result self.new
+            (directive_of self.old name.now (tokens_of false bar (drop from line.now))) }
         ensures unchanged { OnErr result (self.new ≡ self.old) }
     {
         if name == b".i".as_slice() {
@@ -113,7 +118,8 @@ impl State {
 
     // A term.
     fn read_term(&mut self, number: u32, line: &[u8]) -> Result<(), Stop>
-        ensures gives { StepGives result self.new (term_sized self.old.inputs self.old.outputs self.old number (joined (tokens_of false bar line.now))) }
+        ensures gives { StepGives result self.new
+            (term_sized self.old.inputs self.old.outputs self.old number (joined (tokens_of false bar line.now))) }
         ensures unchanged { OnErr result (self.new ≡ self.old) }
     {
         let (Some(inputs), Some(outputs)) = (self.inputs, self.outputs) else {

@@ -44,7 +44,8 @@ impl Model for Pla {
 
     ghost invariant = { λ p.
         IsTwoLevel (record { inputs = p.inputs; outputs = p.outputs; kind = p.kind; terms = p.terms.items })
-        × IsTabled (record { inputs = p.inputs; outputs = p.outputs; kind = p.kind; terms = p.terms.items }) p.ones.items p.others.items };
+        × IsTabled (record { inputs = p.inputs; outputs = p.outputs; kind = p.kind; terms = p.terms.items })
+        p.ones.items p.others.items };
 }
 
 impl Pla {
@@ -57,7 +58,8 @@ impl Pla {
         terms: Vec<Term>,
     ) -> Result<Pla, PlaFault>
         requires { IsTwoLevel (record { inputs = inputs; outputs = outputs; kind = kind; terms = terms.items }) }
-        ensures { Answers OutOfMemory result (checked_pla (record { inputs = inputs; outputs = outputs; kind = kind; terms = terms.items })) }
+        ensures { Answers OutOfMemory result
+            (checked_pla (record { inputs = inputs; outputs = outputs; kind = kind; terms = terms.items })) }
     {
         let pla = match Pla::tabled(alloc, inputs, outputs, kind, terms) {
             Ok(pla) => pla,
@@ -77,7 +79,8 @@ impl Pla {
         terms: Vec<Term>,
     ) -> Result<Pla, AllocError>
         requires { IsTwoLevel (record { inputs = inputs; outputs = outputs; kind = kind; terms = terms.items }) }
-        ensures { IfOk result (λ pla. pla ≡ record { inputs = inputs; outputs = outputs; kind = kind; terms = terms.items }) }
+        ensures { IfOk result (λ pla.
+            pla ≡ record { inputs = inputs; outputs = outputs; kind = kind; terms = terms.items }) }
     {
         let ones = gathered(alloc, inputs, kind, false, &terms)?;
         let others = gathered(alloc, inputs, kind, true, &terms)?;

@@ -108,7 +108,8 @@ fn outputs_of(row: &[u8]) -> Outputs
 pub(crate) fn term_of(number: u32, ins: &[u8], outs: &[u8]) -> Option<Term>
     requires few_inputs { length ins.now ≤ MOST_INPUTS }
     requires few_outputs { length outs.now ≤ MOST_OUTPUTS }
-    ensures { (inputs : ℕ) (row : List ℕ) → take inputs row ≡ ins.now → drop inputs row ≡ outs.now → IsTermOf inputs number row result }
+    ensures { (inputs : ℕ) (row : List ℕ) → take inputs row ≡ ins.now → drop inputs row ≡ outs.now
+        → IsTermOf inputs number row result }
 {
     let inputs = inputs_of(ins);
     let outputs = outputs_of(outs);

@@ -5,7 +5,8 @@ ghost use Rattle.rv_text.specs.Spelled.{spelled};
 ghost use Rattle.rv_gate.specs.Word.{has};
 ghost use Rattle.rv_pla.specs.Cube.{symbol, IsCube};
 ghost use Rattle.rv_pla.specs.Reading.{pla_of};
-ghost use Rattle.rv_pla.specs.Text.{cube_words, esop_text, head_lines, input_character, input_part, output_part, IsEsopOf};
+ghost use Rattle.rv_pla.specs.Text.{cube_words, esop_text, head_lines, input_character, input_part, output_part};
+ghost use Rattle.rv_pla.specs.Text.{IsEsopOf};
 
 use crate::cube::{Cube, MOST_INPUTS, MOST_OUTPUTS};
 use crate::pla::MOST_TERMS;
@@ -29,7 +30,8 @@ pub fn write_esop_pla<O: Sink>(
     ensures sends { Sends (O.view sink.old) (esop_text inputs outputs cubes.now) result (O.view sink.new) }
 
     // What was sent denotes a PLA of these cubes, where these are no more than the terms of a PLA.
-    ensures back { length cubes.now ≤ MOST_TERMS → IsOkAnd (pla_of (esop_text inputs outputs cubes.now)) (IsEsopOf inputs outputs cubes.now) }
+    ensures back { length cubes.now ≤ MOST_TERMS
+        → IsOkAnd (pla_of (esop_text inputs outputs cubes.now)) (IsEsopOf inputs outputs cubes.now) }
 {
     let mut writer = Writer::new();
     put_head(&mut writer, sink, inputs, outputs, cubes.len());
@@ -40,7 +42,8 @@ pub fn write_esop_pla<O: Sink>(
 
 // The lines before the cubes.
 fn put_head<O: Sink>(writer: &mut Writer, sink: &mut O, inputs: u8, outputs: u8, count: usize)
-    ensures { Adds writer.old (O.view sink.old) (spelled (head_lines inputs outputs count)) writer.new (O.view sink.new) }
+    ensures { Adds writer.old (O.view sink.old) (spelled (head_lines inputs outputs count)) writer.new
+        (O.view sink.new) }
 {
     writer.put(sink, b".i ");
     writer.put_number(sink, u128::from(inputs));
@@ -55,7 +58,8 @@ fn put_head<O: Sink>(writer: &mut Writer, sink: &mut O, inputs: u8, outputs: u8,
 fn put_cubes<O: Sink>(writer: &mut Writer, sink: &mut O, inputs: u8, outputs: u8, cubes: &[Cube])
     requires few_inputs { inputs ≤ MOST_INPUTS }
     requires few_outputs { outputs ≤ MOST_OUTPUTS }
-    ensures { Adds writer.old (O.view sink.old) (spelled (map (cube_words inputs outputs) cubes.now)) writer.new (O.view sink.new) }
+    ensures { Adds writer.old (O.view sink.old) (spelled (map (cube_words inputs outputs) cubes.now)) writer.new
+        (O.view sink.new) }
 {
     for cube in cubes {
         put_cube(writer, sink, inputs, outputs, *cube);
@@ -65,7 +69,8 @@ fn put_cubes<O: Sink>(writer: &mut Writer, sink: &mut O, inputs: u8, outputs: u8
 fn put_cube<O: Sink>(writer: &mut Writer, sink: &mut O, inputs: u8, outputs: u8, cube: Cube)
     requires few_inputs { inputs ≤ MOST_INPUTS }
     requires few_outputs { outputs ≤ MOST_OUTPUTS }
-    ensures { Adds writer.old (O.view sink.old) (spelled (cube_words inputs outputs cube ∷ [])) writer.new (O.view sink.new) }
+    ensures { Adds writer.old (O.view sink.old) (spelled (cube_words inputs outputs cube ∷ [])) writer.new
+        (O.view sink.new) }
 {
     put_inputs(writer, sink, inputs, cube);
     writer.put(sink, b" ");

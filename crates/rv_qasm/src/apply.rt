@@ -1,11 +1,13 @@
 // Gates on qubits and on whole registers.
-ghost use Rattle.std.specs.Prelude.{◌≡◌, ◌∷◌, [], ◌≤◌, ◌<◌, ◌+◌, ◌++◌, All, IfOk, Ok, OnOk, drop, false, length, map, true};
+ghost use Rattle.std.specs.Prelude.{◌≡◌, ◌∷◌, [], ◌≤◌, ◌<◌, ◌+◌, ◌++◌, All, IfOk, Ok, OnOk, drop, false, length, map};
+ghost use Rattle.std.specs.Prelude.{true};
 ghost use Rattle.std.specs.List.{list_any};
 ghost use Rattle.rv_qasm.specs.Gates.{op_on};
 ghost use Rattle.rv_gate.specs.declared.word.TheConstants.{MOST_LINES};
 ghost use Rattle.rv_net.specs.Op.{OpFitsIn};
 ghost use Rattle.rv_reader.specs.Gives.{StepGives};
-ghost use Rattle.rv_qasm.specs.Rules.{gate_read, has_twice, each_read, is_measured, op_read, qubit_count, qubit_at, qubits_at, repeats, sizes_agree, with_ops};
+ghost use Rattle.rv_qasm.specs.Rules.{gate_read, has_twice, each_read, is_measured, op_read, qubit_count, qubit_at};
+ghost use Rattle.rv_qasm.specs.Rules.{qubits_at, repeats, sizes_agree, with_ops};
 ghost use Rattle.rv_qasm.specs.inside.Parts.{gate_of_size, gate_on_operands, gate_on_ranges};
 ghost use Rattle.rv_qasm.specs.inside.Views.{IsPart, written_qubits, named, named_qubits};
 ghost use Rattle.rv_qasm.specs.inside.Written.{AreApart, IsReadyForGate, MayReadLine, gate_qubits};
@@ -166,7 +168,8 @@ impl State {
     fn written_push(&mut self, written: Written) -> Result<usize, Stop>
         requires { 0 < written.len }
         ensures old { IfOk result (λ n. n ≡ 0 → self.new ≡ self.old) }
-        ensures gives { IfOk result (λ n. 0 < n → (n ≡ written.entry.len) × AreApart (qubit_count self.old) (written_qubits written.entry)
+        ensures gives { IfOk result (λ n. 0 < n → (n ≡ written.entry.len)
+            × AreApart (qubit_count self.old) (written_qubits written.entry)
             × (with_ops self.old (op_on written.entry.name.now (written_qubits written.entry)) ≡ Ok self.new)) }
     {
         if !are_apart(self.count, written.qubits) {
@@ -180,7 +183,8 @@ impl State {
 
     fn written_op_push(&mut self, written: Written) -> Result<(), Stop>
         requires { AreApart (qubit_count self.old) (written_qubits written) }
-        ensures { StepGives result self.new (with_ops self.old (op_on written.entry.name.now (written_qubits written.entry))) }
+        ensures { StepGives result self.new
+            (with_ops self.old (op_on written.entry.name.now (written_qubits written.entry))) }
     {
         match written.qubits {
             GateQubits::One(a) => self.push(op_on_one(written.name, a)),
@@ -225,7 +229,8 @@ impl State {
         requires part { All (IsPart (qubit_count self.old)) operands.now }
         requires repeats { j < repeats (map named_qubits operands.now) }
         requires agree { sizes_agree (map named_qubits operands.now) ≡ true }
-        ensures gives { StepGives result self.new (op_read name.now self.old (qubits_at (map named_qubits operands.now) j)) }
+        ensures gives { StepGives result self.new
+            (op_read name.now self.old (qubits_at (map named_qubits operands.now) j)) }
         ensures same { OnOk result (self.new.quantum ≡ self.old.quantum) }
     {
         let all = qubits_at(self.count, operands, j);

@@ -1,4 +1,5 @@
-ghost use Rattle.std.specs.Prelude.{◌≡◌, ◌↔◌, ◌≤◌, ◌<◌, ◌^◌, ◌++◌, ℕ, [], Err, IfOk, OnOk, All, Some, length, option_to_list};
+ghost use Rattle.std.specs.Prelude.{◌≡◌, ◌↔◌, ◌≤◌, ◌<◌, ◌^◌, ◌++◌, ℕ, [], Err, IfOk, OnOk, All, Some, length};
+ghost use Rattle.std.specs.Prelude.{option_to_list};
 ghost use Rattle.rv_gate.specs.Circuit.{fresh};
 ghost use Rattle.rv_gate.specs.Gate.{FitsIn, run};
 ghost use Rattle.rv_gate.specs.Names.{numbered};
@@ -81,7 +82,8 @@ fn classical_length(ops: &[Op]) -> usize
 fn add_gate(circuit: &mut Circuit, op: Op) -> Result<(), AllocError>
     requires fits { OpFitsIn op (length circuit.old.names) }
     requires room { length circuit.old.gates < MOST_GATES }
-    ensures { OnOk result (circuit.new ≡ record circuit.old { gates = circuit.old.gates ++ option_to_list (classical_gate op) }) }
+    ensures { OnOk result
+        (circuit.new ≡ record circuit.old { gates = circuit.old.gates ++ option_to_list (classical_gate op) }) }
 {
     if let Some(gate) = classical_gate(op, circuit.line_count()) {
         if circuit.push(gate).is_err() {
@@ -125,14 +127,19 @@ fn add_gates(circuit: &mut Circuit, ops: &[Op]) -> Result<(), AllocError>
     Ok(())
 }
 
-/// The circuit of a network whose operations are X, CNOT, Toffoli, SWAP and Fredkin gates alone, one gate each, on lines
-/// `x0`, `x1` and so on. The network denotes its run: the amplitudes are those of the circuit's permutation, exactly.
+/// The circuit of a network whose operations are X, CNOT, Toffoli, SWAP and Fredkin gates alone, one gate each, on
+/// lines `x0`, `x1` and so on. The network denotes its run: the amplitudes are those of the circuit's permutation,
+/// exactly.
 pub fn to_circuit(alloc: Global, net: &Net) -> Result<Circuit, BackFault>
-    ensures circuit { IfOk result (λ c. c ≡ record (fresh (numbered 120 net.now.lines)) { gates = classical_gates net.now.ops }) }
+    ensures circuit { IfOk result (λ c.
+        c ≡ record (fresh (numbered 120 net.now.lines)) { gates = classical_gates net.now.ops }) }
     ensures denotes { IfOk result (λ c. Denotes net.now.lines net.now.ops (run c.gates)) }
     ensures count { IfOk result (λ c. length c.gates ≡ length net.now.ops) }
-    ensures not_classical { (place : ℕ) → (result ≡ Err (BackFault.NotClassical place)) ↔ (back_fault net.now.ops ≡ Some (BackFault.NotClassical place)) }
-    ensures too_many { (n : ℕ) → (result ≡ Err (BackFault.TooManyGates n)) ↔ (back_fault net.now.ops ≡ Some (BackFault.TooManyGates n)) }
+    ensures not_classical { (place : ℕ)
+        → (result ≡ Err (BackFault.NotClassical place)) ↔
+        (back_fault net.now.ops ≡ Some (BackFault.NotClassical place)) }
+    ensures too_many { (n : ℕ)
+        → (result ≡ Err (BackFault.TooManyGates n)) ↔ (back_fault net.now.ops ≡ Some (BackFault.TooManyGates n)) }
 {
     let ops = net.ops();
     let lines = net.lines();

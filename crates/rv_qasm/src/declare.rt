@@ -1,7 +1,8 @@
 // `OPENQASM 2.0`, `include` and declarations.
 ghost use Rattle.std.specs.Prelude.{◌≡◌, ◌∷◌, [], ◌<◌, ◌≤◌, drop, false, length, IfOk};
 ghost use Rattle.rv_reader.specs.Gives.{StepGives};
-ghost use Rattle.rv_qasm.specs.Rules.{creg_read, include_read, is_declared, new_register, qreg_read, SoFar, version_read, with_quantum};
+ghost use Rattle.rv_qasm.specs.Rules.{creg_read, include_read, is_declared, new_register, qreg_read, SoFar};
+ghost use Rattle.rv_qasm.specs.Rules.{version_read, with_quantum};
 ghost use Rattle.rv_qasm.specs.Tokens.{is_number, is_string};
 ghost use Rattle.rv_reader.specs.inside.Answered.{GivesValue};
 

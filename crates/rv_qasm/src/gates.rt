@@ -1,5 +1,6 @@
 ghost use Rattle.std.specs.Prelude.{◌≡◌, ◌≤◌, ◌∷◌, [], IfSome, codes};
-ghost use Rattle.rv_qasm.specs.Gates.{gate_size, is_on_one, is_on_three, is_on_two, begins_unsupported, is_one_of, is_unsupported_gate, op_on};
+ghost use Rattle.rv_qasm.specs.Gates.{gate_size, is_on_one, is_on_three, is_on_two, begins_unsupported, is_one_of};
+ghost use Rattle.rv_qasm.specs.Gates.{is_unsupported_gate, op_on};
 
 use rv_net::Op;
 

@@ -18,7 +18,8 @@ pub(crate) enum Kind {
 }
 
 pub(crate) fn kind_of(name: &[u8]) -> Kind
-    ensures { (so_far : SoFar) (tokens : List (List ℕ)) → body_read so_far (name.now ∷ tokens) ≡ read_as result so_far name.now tokens }
+    ensures { (so_far : SoFar) (tokens : List (List ℕ))
+        → body_read so_far (name.now ∷ tokens) ≡ read_as result so_far name.now tokens }
 {
     if begins_unsupported(name) {
         Kind::Unsupported

@@ -4,7 +4,9 @@ ghost use Rattle.rv_text.specs.Bytes.{line_feed};
 ghost use Rattle.rv_text.specs.Tokens.{is_blank};
 ghost use Rattle.rv_text.specs.declared.lines.TheConstants.{MOST_BYTES};
 ghost use Rattle.rv_qasm.specs.Tokens.{begins_name, is_in_name};
-ghost use Rattle.rv_qasm.specs.inside.Lexing.{begun_on, goes_on, is_cut_by_mark, is_mark, with_new, with_more, in_mode, continued, with_nothing_open, opened, with_first, next, ends, statement_at};
+ghost use Rattle.rv_qasm.specs.inside.Lexing.{begun_on, goes_on, is_cut_by_mark, is_mark, with_new, with_more, in_mode};
+ghost use Rattle.rv_qasm.specs.inside.Lexing.{continued, with_nothing_open, opened, with_first, next, ends};
+ghost use Rattle.rv_qasm.specs.inside.Lexing.{statement_at};
 
 use crate::tokens::Tokens;
 use rv_text::MOST_BYTES;
@@ -131,7 +133,8 @@ impl Lexer {
     pub(crate) fn take(&mut self, byte: u8) -> Result<bool, AllocError>
         requires { self.old.line ≤ MOST_BYTES }
         ensures ended { IfOk result (λ ended. ended ≡ ends self.old.mode byte) }
-        ensures next { IfOk result (λ ended. self.new ≡ (if ended then with_nothing_open self.old self.old.mode else next self.old byte)) }
+        ensures next { IfOk result (λ ended.
+            self.new ≡ (if ended then with_nothing_open self.old self.old.mode else next self.old byte)) }
         ensures line { self.new.line ≤ self.old.line + 1 }
     {
         if matches!(self.mode, Mode::Comment) && byte != b'\n' {

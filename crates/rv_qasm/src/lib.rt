@@ -1,8 +1,9 @@
 //! OpenQASM 2.0: networks as text.
 //!
-//! [`QasmReader`] reads a text in pieces of any size, which gives a [`Program`]: a network with its registers. [`write_qasm`]
-//! sends the one text of a network, whose lines are the qubits of a register `q`; one whose operations come one after another is
-//! sent by [`put_header`] and [`put_statement`]. [`to_circuit`] makes a circuit of a network that only moves words.
+//! [`QasmReader`] reads a text in pieces of any size, which gives a [`Program`]: a network with its registers.
+//! [`write_qasm`] sends the one text of a network, whose lines are the qubits of a register `q`; one whose operations
+//! come one after another is sent by [`put_header`] and [`put_statement`]. [`to_circuit`] makes a circuit of a network
+//! that only moves words.
 #![tactic(auto)]
 
 mod apply;

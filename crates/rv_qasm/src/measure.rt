@@ -4,7 +4,8 @@ ghost use Rattle.std.specs.List.{fold, range_with_len};
 ghost use Rattle.rv_gate.specs.declared.word.TheConstants.{MOST_LINES};
 ghost use Rattle.rv_reader.specs.Gives.{StepGives};
 ghost use Rattle.rv_qasm.specs.Registers.{register_operand};
-ghost use Rattle.rv_qasm.specs.Rules.{barrier_read, gate_operands, id_read, looked_at, measure_read, measured_read, qubit_count, SoFar, with_measured, with_qubit};
+ghost use Rattle.rv_qasm.specs.Rules.{barrier_read, gate_operands, id_read, looked_at, measure_read, measured_read};
+ghost use Rattle.rv_qasm.specs.Rules.{qubit_count, SoFar, with_measured, with_qubit};
 ghost use Rattle.rv_reader.specs.inside.Answered.{GivesValue};
 ghost use Rattle.rv_qasm.specs.inside.Parts.{both_read, looked_on};
 ghost use Rattle.rv_qasm.specs.inside.Views.{named, named_qubits};
@@ -102,7 +103,8 @@ impl State {
 
     // The fault that was found before, or else that of this operand.
     fn looked_on(&self, found: Result<(), Stop>, operand: RegisterOperand) -> Result<(), Stop>
-        ensures { (seen : Result SoFar ℕ) → StepGives found self.now seen → StepGives result self.now (looked_on self.now seen (named operand.entry)) }
+        ensures { (seen : Result SoFar ℕ) → StepGives found self.now seen
+            → StepGives result self.now (looked_on self.now seen (named operand.entry)) }
     {
         found?;
         self.looked_at(&[operand])
@@ -155,7 +157,8 @@ impl State {
         from: Option<RegisterOperand>,
         to: Option<RegisterOperand>,
     ) -> Result<(), Stop>
-        ensures { StepGives result self.new (both_read self.old (option_map named from.entry) (option_map named to.entry)) }
+        ensures { StepGives result self.new
+            (both_read self.old (option_map named from.entry) (option_map named to.entry)) }
     {
         match from {
             Some(from) => match to {

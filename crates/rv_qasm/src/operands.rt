@@ -1,6 +1,8 @@
-ghost use Rattle.std.specs.Prelude.{◌≡◌, ◌∷◌, [], ◌≤◌, ◌<◌, ◌+◌, ◌^◌, drop, length, map, IfSome, option_map, slice_range, codes};
+ghost use Rattle.std.specs.Prelude.{◌≡◌, ◌∷◌, [], ◌≤◌, ◌<◌, ◌+◌, ◌^◌, drop, length, map, IfSome, option_map};
+ghost use Rattle.std.specs.Prelude.{slice_range, codes};
 ghost use Rattle.std.specs.List.{list_any, position_or_len};
-ghost use Rattle.rv_qasm.specs.Registers.{declaration_of, is_indexed, is_token, register_operand, operands_in, operands_of};
+ghost use Rattle.rv_qasm.specs.Registers.{declaration_of, is_indexed, is_token, register_operand, operands_in};
+ghost use Rattle.rv_qasm.specs.Registers.{operands_of};
 ghost use Rattle.rv_qasm.specs.Tokens.{is_identifier, is_open_string};
 ghost use Rattle.rv_qasm.specs.inside.Parts.{parts_at, after_comma};
 ghost use Rattle.rv_qasm.specs.inside.Views.{declared, named};
@@ -150,7 +152,8 @@ fn indexed_operand<'a>(tokens: &'a Tokens, at: usize) -> Option<RegisterOperand<
     requires { at ≤ length tokens.now }
     ensures within { IfSome result (λ _. at + 4 ≤ length tokens.now) }
     ensures fits { IfSome result (λ _. at + 4 < 2 ^ 64) }
-    ensures exact { IfSome result (λ _. option_map named result ≡ register_operand (slice_range tokens.now at (at + 4))) }
+    ensures exact { IfSome result (λ _.
+        option_map named result ≡ register_operand (slice_range tokens.now at (at + 4))) }
     ensures first { IfSome result (λ _. at + 4 ≡ at + position_or_len (is_token (codes ",")) (drop at tokens.now)) }
 {
     let left = tokens.len() - at;

@@ -34,7 +34,8 @@ impl Model for Program {
 
     ghost view = { λ p. record { net = p.net; registers = p.registers; measurements = p.measurements } };
 
-    ghost invariant = { λ p. record { few : length p.registers ≤ MOST_LINES; small : size_of_all p.registers ≤ MOST_LINES } };
+    ghost invariant = { λ p.
+        record { few : length p.registers ≤ MOST_LINES; small : size_of_all p.registers ≤ MOST_LINES } };
 }
 
 impl Program {

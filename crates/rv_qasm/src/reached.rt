@@ -5,7 +5,8 @@ ghost use Rattle.rv_qasm.specs.declared.fault.QasmFault.TheVariants.{Mem};
 ghost use Rattle.rv_qasm.specs.Rules.{qubit_count};
 ghost use Rattle.rv_qasm.specs.inside.Ends.{listed};
 ghost use Rattle.rv_qasm.specs.inside.Lexing.{unended_at};
-ghost use Rattle.rv_qasm.specs.inside.Reached.{nothing_reached, with_statement, byte_step, steps, text_line_count, end_of, Reaches, StopsFor};
+ghost use Rattle.rv_qasm.specs.inside.Reached.{nothing_reached, with_statement, byte_step, steps, text_line_count};
+ghost use Rattle.rv_qasm.specs.inside.Reached.{end_of, Reaches, StopsFor};
 
 use crate::QasmFault;
 use crate::lexer::Lexer;
@@ -177,7 +178,8 @@ impl Reached {
         program_of(all.state, closed)
     }
 
-    // Ends what is open. Gives the first fault of the end, if the statements are no program or the last one is not ended.
+    // Ends what is open. Gives the first fault of the end, if the statements are no program or the last one is not
+    // ended.
     fn close(&mut self) -> Result<(), QasmFault>
         ensures gives { Answers Mem (listed result self.new.so_far) (end_of self.old) }
         ensures some { OnOk result (1 ≤ qubit_count self.new.so_far) }

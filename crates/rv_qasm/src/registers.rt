@@ -1,5 +1,7 @@
-ghost use Rattle.std.specs.Prelude.{◌≡◌, ◌<◌, ◌≤◌, ◌+◌, ◌++◌, ◌∷◌, [], All, IfOk, IfSome, ℕ, bytes_eq, length, true, map, slice_get, option_map, None, Some, OnOk, OnErr};
-ghost use Rattle.rv_qasm.specs.Registers.{all_qubits_of, classical_bits, qubits_of, register_at, declared_size, size_of_all};
+ghost use Rattle.std.specs.Prelude.{◌≡◌, ◌<◌, ◌≤◌, ◌+◌, ◌++◌, ◌∷◌, [], All, IfOk, IfSome, ℕ, bytes_eq, length, true};
+ghost use Rattle.std.specs.Prelude.{map, slice_get, option_map, None, Some, OnOk, OnErr};
+ghost use Rattle.rv_qasm.specs.Registers.{all_qubits_of, classical_bits, qubits_of, register_at, declared_size};
+ghost use Rattle.rv_qasm.specs.Registers.{size_of_all};
 ghost use Rattle.rv_gate.specs.declared.word.TheConstants.{MOST_LINES};
 ghost use Rattle.rv_reader.specs.Gives.{StepGives};
 ghost use Rattle.rv_reader.specs.inside.Answered.{GivesValue};
@@ -204,7 +206,8 @@ impl Registers {
         operands: &[RegisterOperand],
     ) -> Result<SmallVec<QubitRange, 3>, Stop>
         requires { size_of_all self.now ≤ MOST_LINES }
-        ensures gives { GivesValue (λ ranges. map named_qubits ranges.items) result (all_qubits_of self.now (map named operands.now)) }
+        ensures gives { GivesValue (λ ranges. map named_qubits ranges.items) result
+            (all_qubits_of self.now (map named operands.now)) }
         ensures part { IfOk result (λ ranges. All (IsPart (size_of_all self.now)) ranges.items) }
         ensures len { IfOk result (λ ranges. length ranges.items ≡ length operands.now) }
     {
@@ -220,7 +223,8 @@ impl Registers {
     ) -> Result<(), Stop>
         requires most { size_of_all self.now ≤ MOST_LINES }
         requires empty { ranges.old.items ≡ [] }
-        ensures gives { StepGives result (map named_qubits ranges.new.items) (all_qubits_of self.now (map named operands.now)) }
+        ensures gives { StepGives result (map named_qubits ranges.new.items)
+            (all_qubits_of self.now (map named operands.now)) }
         ensures part { OnOk result (All (IsPart (size_of_all self.now)) ranges.new.items) }
         ensures len { OnOk result (length ranges.new.items ≡ length operands.now) }
     {

@@ -70,8 +70,8 @@ impl Texts {
     }
 }
 
-/// Ready texts for [`put_statement`](crate::put_statement): those of the usual gates' names with the first qubit, and those of
-/// the qubits alone, before a comma and last.
+/// Ready texts for [`put_statement`](crate::put_statement): those of the usual gates' names with the first qubit, and
+/// those of the qubits alone, before a comma and last.
 #[derive(Drop)]
 pub struct OpTexts {
     pub(crate) x: Texts,

@@ -1,4 +1,5 @@
-ghost use Rattle.std.specs.Prelude.{◌≡◌, ℕ, ◌-◌, ◌<◌, ◌≤◌, [], ◌∷◌, ◌++◌, bytes_eq, false, length, take, drop, slice_get, Some, OnOk};
+ghost use Rattle.std.specs.Prelude.{◌≡◌, ℕ, ◌-◌, ◌<◌, ◌≤◌, [], ◌∷◌, ◌++◌, bytes_eq, false, length, take, drop};
+ghost use Rattle.std.specs.Prelude.{slice_get, Some, OnOk};
 ghost use Rattle.std.specs.List.{list_any};
 ghost use Rattle.rv_qasm.specs.Tokens.{is_string};
 ghost use Rattle.rv_qasm.specs.inside.Flat.{with_byte};

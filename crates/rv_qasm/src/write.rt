@@ -11,8 +11,8 @@ use crate::texts::{OpTexts, Texts};
 use rv_io::{Sink, WriteFault, Writer};
 use rv_net::{Net, Op};
 
-/// Sends the text of a network: `OPENQASM 2.0;`, `include "qelib1.inc";`, `qreg q[N];` with the number of lines, and one
-/// operation on each line, as `cx q[0],q[1];`.
+/// Sends the text of a network: `OPENQASM 2.0;`, `include "qelib1.inc";`, `qreg q[N];` with the number of lines, and
+/// one operation on each line, as `cx q[0],q[1];`.
 ///
 /// The gates of `qelib1.inc` agree with the operations up to a phase of each gate. Takes no memory.
 pub fn write_qasm<O: Sink>(net: &Net, sink: &mut O) -> Result<(), WriteFault>
@@ -164,7 +164,8 @@ fn put_named_three<O: Sink>(
     requires third { c < lines }
     requires texts { AreOpTexts lines texts.now }
     ensures { (gate : List ℕ) → name.now ≡ gate ++ codes " "
-        → Adds writer.old (O.view sink.old) (gate_on gate (a ∷ b ∷ c ∷ []) ++ codes ";\n") writer.new (O.view sink.new) }
+        → Adds writer.old (O.view sink.old) (gate_on gate (a ∷ b ∷ c ∷ []) ++ codes ";\n") writer.new
+        (O.view sink.new) }
 {
     writer.put(sink, name);
     writer.put_short(sink, texts.listed.text(a));

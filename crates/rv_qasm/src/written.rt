@@ -55,7 +55,8 @@ fn is_opened(bytes: &[u8], at: usize) -> bool
 fn number_from(bytes: &[u8], first: u8, at: usize) -> (u8, usize)
     requires digit { first < 10 }
     requires within { at ≤ length bytes.now }
-    ensures text { (before : List ℕ) → take at bytes.now ≡ before ++ (48 + first) ∷ [] → take result.1 bytes.now ≡ before ++ decimal result.0 }
+    ensures text { (before : List ℕ) → take at bytes.now ≡ before ++ (48 + first) ∷ []
+        → take result.1 bytes.now ≡ before ++ decimal result.0 }
     ensures within { result.1 ≤ length bytes.now }
 {
     if first == 0 {
@@ -94,7 +95,8 @@ fn written_qubit(bytes: &[u8], at: usize) -> Option<(u8, usize)>
 
 // A qubit by its line, where its bracket is at a place.
 fn closed_qubit(bytes: &[u8], line: u8, at: usize) -> Option<(u8, usize)>
-    ensures text { (before : List ℕ) → take at bytes.now ≡ ((before ++ 113 ∷ []) ++ 91 ∷ []) ++ decimal line → IfSome result (λ r. take r.1 bytes.now ≡ before ++ qubit r.0) }
+    ensures text { (before : List ℕ) → take at bytes.now ≡ ((before ++ 113 ∷ []) ++ 91 ∷ []) ++ decimal line
+        → IfSome result (λ r. take r.1 bytes.now ≡ before ++ qubit r.0) }
     ensures within { IfSome result (λ r. r.1 ≤ length bytes.now) }
 {
     if is_at(bytes, at, b']') {

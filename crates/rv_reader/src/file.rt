@@ -24,7 +24,8 @@ fn feed_on<R: TextReader>(reader: &mut R, is_fed: bool, piece: &[u8]) -> bool
 
 // What the text gives that a reader was fed.
 fn end_of<R: TextReader>(reader: R, is_fed: bool) -> Result<R::Object, Unread<R::Fault>>
-    ensures { (text : List ℕ) → IsFed R.Stands R.refusal R.mem R.denoted is_fed reader text → GivesUnlessMem R.mem result (R.denoted text) }
+    ensures { (text : List ℕ) → IsFed R.Stands R.refusal R.mem R.denoted is_fed reader text
+        → GivesUnlessMem R.mem result (R.denoted text) }
 {
     match reader.finish() {
         Ok(object) => Ok(object),
@@ -46,7 +47,8 @@ pub fn read_file<F: Files, R: TextReader>(
     ensures taken { (F.view files.new).is_started ≡ true → (F.view files.new).place ≤ MOST_BYTES + 1 }
 
     // What was read to the end denotes the object.
-    ensures read { IfOk result (λ object. IsReadToEnd name.now (F.view files.old) (F.view files.new) (λ bytes. R.denoted bytes ≡ Ok object)) }
+    ensures read { IfOk result (λ object.
+        IsReadToEnd name.now (F.view files.old) (F.view files.new) (λ bytes. R.denoted bytes ≡ Ok object)) }
 
     // Each refusal has its cause.
     ensures unread { IfErr result (IsUnread R.mem R.denoted name.now (F.view files.old) (F.view files.new)) }

@@ -1,4 +1,5 @@
-ghost use Rattle.std.specs.Prelude.{◌≡◌, ◌≤◌, ◌<◌, ◌+◌, ◌⊎◌, ℕ, List, [], ◌++◌, true, false, length, take, IfOk, IfErr, OnOk};
+ghost use Rattle.std.specs.Prelude.{◌≡◌, ◌≤◌, ◌<◌, ◌+◌, ◌⊎◌, ℕ, List, [], ◌++◌, true, false, length, take, IfOk, IfErr};
+ghost use Rattle.std.specs.Prelude.{OnOk};
 ghost use Rattle.std.specs.Option.{option_map};
 ghost use Rattle.rv_text.specs.Lines.{ended_after, last_line};
 ghost use Rattle.rv_text.specs.Held.{Held};
@@ -8,7 +9,8 @@ ghost use Rattle.rv_text.specs.declared.lines.TheConstants.{MOST_BYTES};
 ghost use Rattle.rv_reader.specs.declared.refusal.Refusal.{Refusal};
 ghost use Rattle.rv_reader.specs.declared.refusal.Refusal.TheVariants.{Text as Faulty, Mem as OutOfMemory};
 ghost use Rattle.rv_reader.specs.Rules.{on_line, lines_read};
-ghost use Rattle.rv_reader.specs.inside.Progress.{reading, refused, fed_on, finished, refusal_of, StandsFor, FedOn, Leads, IsBetweenLines};
+ghost use Rattle.rv_reader.specs.inside.Progress.{reading, refused, fed_on, finished, refusal_of, StandsFor, FedOn};
+ghost use Rattle.rv_reader.specs.inside.Progress.{Leads, IsBetweenLines};
 ghost use Rattle.rv_reader.specs.Feeding.{text_as, unless_refused, Answers};
 
 use crate::{Format, Refusal, Stop, TextReader, Whole};
@@ -21,7 +23,8 @@ fn read_ready<S: Format>(lines: &Lines, state: &mut S) -> Result<(), Refusal>
     requires ready { lines.now.is_ready ≡ true }
     requires one { IsOneLine lines.now.line }
     requires room { S.size state.old + length lines.now.line ≤ MOST_BYTES }
-    ensures leads { Leads result state.new (on_line lines.now.number (S.rules.line_of state.old lines.now.number lines.now.line)) }
+    ensures leads { Leads result state.new
+        (on_line lines.now.number (S.rules.line_of state.old lines.now.number lines.now.line)) }
     ensures size { OnOk result (S.size state.new ≤ S.size state.old + length lines.now.line + 1) }
 {
     match state.read_line(lines.number(), lines.text()) {
@@ -42,9 +45,14 @@ fn take_some<S: Format>(lines: &mut Lines, state: &mut S, piece: &[u8]) -> Resul
     ensures between { IsBetweenLines lines.new }
     ensures size { OnOk result (S.size state.new + length lines.new.line ≤ lines.new.taken) }
     ensures limit { lines.new.taken ≤ lines.old.taken + length piece.now }
-    ensures used { IfOk result (λ used. (used ≤ length piece.now) × (0 < length piece.now → 0 < used) × (lines.new.taken ≡ lines.old.taken + used)) }
-    ensures ok { IfOk result (λ used. fed_on S.rules (reading lines.old.line lines.old.number state.old) (take used piece.now) ≡ reading lines.new.line lines.new.number state.new) }
-    ensures err { IfErr result (λ refusal. (refusal ≡ OutOfMemory) ⊎ (fed_on S.rules (reading lines.old.line lines.old.number state.old) piece.now ≡ refused refusal)) }
+    ensures used { IfOk result (λ used.
+        (used ≤ length piece.now) × (0 < length piece.now → 0 < used) × (lines.new.taken ≡ lines.old.taken + used)) }
+    ensures ok { IfOk result (λ used.
+        fed_on S.rules (reading lines.old.line lines.old.number state.old) (take used piece.now)
+        ≡ reading lines.new.line lines.new.number state.new) }
+    ensures err { IfErr result (λ refusal.
+        (refusal ≡ OutOfMemory)
+        ⊎ (fed_on S.rules (reading lines.old.line lines.old.number state.old) piece.now ≡ refused refusal)) }
 {
     let fed = match lines.feed(piece) {
         Ok(fed) => fed,
@@ -71,8 +79,12 @@ fn take_all<S: Format>(lines: &mut Lines, state: &mut S, piece: &[u8]) -> Result
     ensures size { OnOk result (S.size state.new + length lines.new.line ≤ lines.new.taken) }
     ensures limit { lines.new.taken ≤ lines.old.taken + length piece.now }
     ensures taken { OnOk result (lines.new.taken ≡ lines.old.taken + length piece.now) }
-    ensures ok { OnOk result (fed_on S.rules (reading lines.old.line lines.old.number state.old) piece.now ≡ reading lines.new.line lines.new.number state.new) }
-    ensures err { IfErr result (λ refusal. (refusal ≡ OutOfMemory) ⊎ (fed_on S.rules (reading lines.old.line lines.old.number state.old) piece.now ≡ refused refusal)) }
+    ensures ok { OnOk result
+        (fed_on S.rules (reading lines.old.line lines.old.number state.old) piece.now
+        ≡ reading lines.new.line lines.new.number state.new) }
+    ensures err { IfErr result (λ refusal.
+        (refusal ≡ OutOfMemory)
+        ⊎ (fed_on S.rules (reading lines.old.line lines.old.number state.old) piece.now ≡ refused refusal)) }
 {
     let mut at = 0;
     while at < piece.len() {
@@ -117,9 +129,11 @@ impl<S: Format> Model for Reader<S> {
 
     ghost Value = { Feeding S };
 
-    ghost view = { λ r. record { fed = r.lines.taken; progress = progress_seen r.refused r.lines.line r.lines.number r.state } };
+    ghost view = { λ r.
+        record { fed = r.lines.taken; progress = progress_seen r.refused r.lines.line r.lines.number r.state } };
 
-    ghost invariant = { λ r. IsBetweenLines r.lines × (r.refused ≡ None → S.size r.state + length r.lines.line ≤ r.lines.taken) };
+    ghost invariant = { λ r.
+        IsBetweenLines r.lines × (r.refused ≡ None → S.size r.state + length r.lines.line ≤ r.lines.taken) };
 }
 
 impl<S: Format> TextReader for Reader<S> {

@@ -1,4 +1,5 @@
-ghost use Rattle.std.specs.Prelude.{◌≡◌, ◌≤◌, ◌+◌, ◌⊎◌, ℕ, List, [], ◌++◌, length, Option, Some, Result, Err, IfErr, OnOk};
+ghost use Rattle.std.specs.Prelude.{◌≡◌, ◌≤◌, ◌+◌, ◌⊎◌, ℕ, List, [], ◌++◌, length, Option, Some, Result, Err, IfErr};
+ghost use Rattle.std.specs.Prelude.{OnOk};
 ghost use Rattle.rv_text.specs.declared.lines.TheConstants.{MOST_BYTES};
 ghost use Rattle.rv_reader.specs.Feeding.{Answers, unless_refused};
 
@@ -51,7 +52,9 @@ pub trait TextReader: Drop {
         ensures first { (text : List ℕ) → Stands self.old text → Answers mem result (ended (text ++ piece.now)) }
 
         // It is that of each text that goes on so.
-        ensures holds { (text : List ℕ) → Stands self.old text → IfErr result (λ fault. (fault ≡ mem) ⊎ ((more : List ℕ) → denoted ((text ++ piece.now) ++ more) ≡ Err fault)) }
+        ensures holds { (text : List ℕ) → Stands self.old text
+            → IfErr result (λ fault.
+            (fault ≡ mem) ⊎ ((more : List ℕ) → denoted ((text ++ piece.now) ++ more) ≡ Err fault)) }
 
         // A refusal is kept, want of memory too.
         ensures tells { result ≡ unless_refused (refusal self.new) }

@@ -12,7 +12,8 @@ use rv_reader::Stop;
 fn set_input_label(circuit: &mut Circuit, line: u8, label: &[u8]) -> Result<(), Stop>
     requires line { line < length circuit.old.names }
     requires label { IsLabel label.now }
-    ensures ok { OnOk result (circuit.new ≡ record circuit.old { input_labels = slice_set circuit.old.input_labels line label.now }) }
+    ensures ok { OnOk result
+        (circuit.new ≡ record circuit.old { input_labels = slice_set circuit.old.input_labels line label.now }) }
     ensures err { IfErr result (λ stop. stop ≡ OutOfMemory) }
 {
     match circuit.set_input_label(line, label) {
@@ -25,7 +26,8 @@ fn set_input_label(circuit: &mut Circuit, line: u8, label: &[u8]) -> Result<(), 
 fn set_output_label(circuit: &mut Circuit, line: u8, label: &[u8]) -> Result<(), Stop>
     requires line { line < length circuit.old.names }
     requires label { IsLabel label.now }
-    ensures ok { OnOk result (circuit.new ≡ record circuit.old { output_labels = slice_set circuit.old.output_labels line label.now }) }
+    ensures ok { OnOk result
+        (circuit.new ≡ record circuit.old { output_labels = slice_set circuit.old.output_labels line label.now }) }
     ensures err { IfErr result (λ stop. stop ≡ OutOfMemory) }
 {
     match circuit.set_output_label(line, label) {
@@ -88,7 +90,11 @@ pub(crate) fn mark_garbage(circuit: &mut Circuit, marks: &[bool])
 // Labels the inputs where labels were given.
 pub(crate) fn give_inputs(circuit: &mut Circuit, labels: &Option<Vec<Vec<u8>>>) -> Result<(), Stop>
     requires { IfSome (option_map labels_in labels.now) (AreGivenLabels (Some (length circuit.old.names))) }
-    ensures ok { OnOk result (circuit.new ≡ record circuit.old { input_labels = unwrap_or (option_map labels_in labels.now) circuit.old.input_labels }) }
+    ensures ok { OnOk result
+        (circuit.new
+        ≡ record circuit.old {
+          input_labels = unwrap_or (option_map labels_in labels.now) circuit.old.input_labels;
+        }) }
     ensures err { IfErr result (λ stop. stop ≡ OutOfMemory) }
 {
     match labels {
@@ -100,7 +106,11 @@ pub(crate) fn give_inputs(circuit: &mut Circuit, labels: &Option<Vec<Vec<u8>>>) 
 // Labels the outputs where labels were given.
 pub(crate) fn give_outputs(circuit: &mut Circuit, labels: &Option<Vec<Vec<u8>>>) -> Result<(), Stop>
     requires { IfSome (option_map labels_in labels.now) (AreGivenLabels (Some (length circuit.old.names))) }
-    ensures ok { OnOk result (circuit.new ≡ record circuit.old { output_labels = unwrap_or (option_map labels_in labels.now) circuit.old.output_labels }) }
+    ensures ok { OnOk result
+        (circuit.new
+        ≡ record circuit.old {
+          output_labels = unwrap_or (option_map labels_in labels.now) circuit.old.output_labels;
+        }) }
     ensures err { IfErr result (λ stop. stop ≡ OutOfMemory) }
 {
     match labels {
@@ -111,8 +121,10 @@ pub(crate) fn give_outputs(circuit: &mut Circuit, labels: &Option<Vec<Vec<u8>>>)
 
 // Marks the inputs where marks were given.
 pub(crate) fn give_constants(circuit: &mut Circuit, marks: &Option<Vec<Mark>>)
-    requires { IfSome (option_map (λ row. row.items) marks.now) (λ row. Some (length circuit.old.names) ≡ Some (length row)) }
-    ensures { circuit.new ≡ record circuit.old { constants = unwrap_or (option_map (λ row. row.items) marks.now) circuit.old.constants } }
+    requires { IfSome (option_map (λ row. row.items) marks.now) (λ row.
+        Some (length circuit.old.names) ≡ Some (length row)) }
+    ensures { circuit.new
+        ≡ record circuit.old { constants = unwrap_or (option_map (λ row. row.items) marks.now) circuit.old.constants } }
 {
     if let Some(marks) = marks {
         mark_constants(circuit, marks);
@@ -121,8 +133,10 @@ pub(crate) fn give_constants(circuit: &mut Circuit, marks: &Option<Vec<Mark>>)
 
 // Marks the outputs where marks were given.
 pub(crate) fn give_garbage(circuit: &mut Circuit, marks: &Option<Vec<bool>>)
-    requires { IfSome (option_map (λ row. row.items) marks.now) (λ row. Some (length circuit.old.names) ≡ Some (length row)) }
-    ensures { circuit.new ≡ record circuit.old { garbage = unwrap_or (option_map (λ row. row.items) marks.now) circuit.old.garbage } }
+    requires { IfSome (option_map (λ row. row.items) marks.now) (λ row.
+        Some (length circuit.old.names) ≡ Some (length row)) }
+    ensures { circuit.new
+        ≡ record circuit.old { garbage = unwrap_or (option_map (λ row. row.items) marks.now) circuit.old.garbage } }
 {
     if let Some(marks) = marks {
         mark_garbage(circuit, marks);

@@ -57,7 +57,8 @@ impl Begun {
     ) -> Result<Operands, Stop>
         requires from { from ≤ length line.now }
         requires len { length line.now < 2 ^ 31 }
-        ensures { GivesOperands (length self.now.names) controls result (in_order (with_operand self.now.names controls) [] (tokens_of true [] (drop from line.now))) }
+        ensures { GivesOperands (length self.now.names) controls result
+            (in_order (with_operand self.now.names controls) [] (tokens_of true [] (drop from line.now))) }
     {
         read_operands(self.circuit.names(), &self.places, controls, line, from)
     }

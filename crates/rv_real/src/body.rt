@@ -22,7 +22,9 @@ use rv_text::{Token, begins_with_dot};
 #[inline(never)]
 fn first_stop(stop: Stop, line: &[u8], from: usize, operands: u16) -> Stop
     requires { from ≤ length line.now }
-    ensures { result ≡ (if length (tokens_of true [] (drop from line.now)) == operands then stop else Stop.Fault WRONG_OPERAND_COUNT) }
+    ensures { result
+        ≡ (if length (tokens_of true [] (drop from line.now)) == operands then stop
+        else Stop.Fault WRONG_OPERAND_COUNT) }
 {
     if count_words(line, from) == usize::from(operands) {
         stop
@@ -36,7 +38,8 @@ fn read_named(circuit: &mut Begun, name: GateName, line: &[u8], from: usize) -> 
     requires from { from ≤ length line.now }
     requires len { length line.now < 2 ^ 31 }
     requires takes { TakesOperands name.kind name.operands }
-    ensures { StepGives result circuit.new (placed circuit.old (letter_in name.kind) name.operands (tokens_of true [] (drop from line.now))) }
+    ensures { StepGives result circuit.new
+        (placed circuit.old (letter_in name.kind) name.operands (tokens_of true [] (drop from line.now))) }
 {
     circuit.recall_invariant();
     let controls = usize::from(control_count(name));
@@ -61,7 +64,9 @@ fn read_named(circuit: &mut Begun, name: GateName, line: &[u8], from: usize) -> 
 pub(crate) fn read_body_line(circuit: &mut Begun, line: &[u8], first: &Token) -> Result<bool, Stop>
     requires within { IsWithin first.now 0 (length line.now) }
     requires len { length line.now < 2 ^ 31 }
-    ensures { GivesBody result circuit.new (body_line circuit.old (lexeme_at line.now first.now) (tokens_of true [] (drop (place_after first.now) line.now))) }
+    ensures { GivesBody result circuit.new
+        (body_line circuit.old (lexeme_at line.now first.now)
+        (tokens_of true [] (drop (place_after first.now) line.now))) }
 {
     if first.quoted {
         return Err(Stop::Fault(UNKNOWN_GATE));

@@ -50,7 +50,8 @@ fn operand_count(digits: &[u8]) -> Option<u16>
 
 // The kind of a letter that takes so many operands.
 fn kind_of(letter: u8, operands: u16) -> Option<Kind>
-    ensures known { MatchOption result (takes_operands letter operands ≡ false) (λ kind. (takes_operands letter operands ≡ true) × (letter ≡ letter_in kind)) }
+    ensures known { MatchOption result (takes_operands letter operands ≡ false) (λ kind.
+        (takes_operands letter operands ≡ true) × (letter ≡ letter_in kind)) }
     ensures takes { IfSome result (λ kind. TakesOperands kind operands) }
 {
     if letter == b't' && operands > 0 {

@@ -6,7 +6,9 @@ ghost use Rattle.rv_gate.specs.Circuit.{fresh};
 ghost use Rattle.rv_reader.specs.Gives.{StepGives};
 ghost use Rattle.rv_reader.specs.inside.Answered.{GivesValue};
 ghost use Rattle.rv_real.specs.inside.Directives.{no_directives};
-ghost use Rattle.rv_real.specs.inside.HeaderSteps.{lines_declared, with_names, numvars_of, variables_of, inputs_of, outputs_of, constants_of, garbage_row_of, named_directive, begin_of, without_gates};
+ghost use Rattle.rv_real.specs.inside.HeaderSteps.{lines_declared, with_names, numvars_of, variables_of, inputs_of};
+ghost use Rattle.rv_real.specs.inside.HeaderSteps.{outputs_of, constants_of, garbage_row_of, named_directive, begin_of};
+ghost use Rattle.rv_real.specs.inside.HeaderSteps.{without_gates};
 ghost use Rattle.rv_real.specs.inside.State.{header_line};
 ghost use Rattle.rv_real.specs.inside.Steps.{GivesHeader};
 
@@ -240,7 +242,9 @@ impl Header {
     pub(crate) fn read_line(&mut self, line: &[u8], first: &Token) -> Result<Option<Circuit>, Stop>
         requires within { IsWithin first.now 0 (length line.now) }
         requires one { IsOneLine line.now }
-        ensures { GivesHeader result self.new (header_line self.old (lexeme_at line.now first.now) (tokens_of true [] (drop (place_after first.now) line.now))) }
+        ensures { GivesHeader result self.new
+            (header_line self.old (lexeme_at line.now first.now)
+            (tokens_of true [] (drop (place_after first.now) line.now))) }
     {
         if first.quoted {
             return Err(Stop::Fault(MISSING_DIRECTIVE));
@@ -263,7 +267,8 @@ impl Header {
     fn read_directive(&mut self, name: &[u8], line: &[u8], from: usize) -> Result<(), Stop>
         requires from { from ≤ length line.now }
         requires one { IsOneLine line.now }
-        ensures { StepGives result self.new (named_directive self.old name.now (tokens_of true [] (drop from line.now))) }
+        ensures { StepGives result self.new
+            (named_directive self.old name.now (tokens_of true [] (drop from line.now))) }
     {
         match directive_named(name) {
             Directive::Dropped => Ok(()),

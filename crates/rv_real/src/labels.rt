@@ -1,4 +1,5 @@
-ghost use Rattle.std.specs.Prelude.{◌≡◌, ◌≤◌, ◌<◌, ◌+◌, ℕ, Bool, List, [], ◌∷◌, ◌++◌, ◌&&◌, not, true, false, drop, length, All, IfOk, OnOk};
+ghost use Rattle.std.specs.Prelude.{◌≡◌, ◌≤◌, ◌<◌, ◌+◌, ℕ, Bool, List, [], ◌∷◌, ◌++◌, ◌&&◌, not, true, false, drop};
+ghost use Rattle.std.specs.Prelude.{length, All, IfOk, OnOk};
 ghost use Rattle.rv_text.specs.Tokens.{tokens_of};
 ghost use Rattle.rv_text.specs.Spelled.{IsOneLine};
 ghost use Rattle.rv_reader.specs.Gives.{StepGives};
@@ -19,7 +20,9 @@ use std::alloc::Global;
 
 fn push_name(names: &mut Names, name: &[u8], quoted: bool) -> Result<(), Stop>
     requires { length names.old < MOST_LINES }
-    ensures gives { (closed : Bool) → StepGives result names.new (with_name names.old (record { bytes = name.now; quoted = quoted; closed = closed })) }
+    ensures gives { (closed : Bool)
+        → StepGives result names.new
+        (with_name names.old (record { bytes = name.now; quoted = quoted; closed = closed })) }
     ensures len { OnOk result (length names.new ≡ length names.old + 1) }
 {
     if quoted {
@@ -57,7 +60,8 @@ fn push_names(names: &mut Names, line: &[u8], from: usize) -> Result<(), Stop>
 fn read_names(alloc: Global, line: &[u8], from: usize) -> Result<Names, Stop>
     requires from { from ≤ length line.now }
     requires few { length (tokens_of true [] (drop from line.now)) ≤ MOST_LINES }
-    ensures gives { GivesValue (λ names. names) result (in_order with_name [] (tokens_of true [] (drop from line.now))) }
+    ensures gives { GivesValue (λ names. names) result
+        (in_order with_name [] (tokens_of true [] (drop from line.now))) }
     ensures len { IfOk result (λ names. length names ≡ length (tokens_of true [] (drop from line.now))) }
 {
     let mut names = Names::new(alloc);
@@ -92,7 +96,9 @@ fn push_label(
     label: &[u8],
     quoted: bool,
 ) -> Result<(), Stop>
-    ensures gives { (closed : Bool) → StepGives result (labels_in labels.new) (with_label (labels_in labels.old) (record { bytes = label.now; quoted = quoted; closed = closed })) }
+    ensures gives { (closed : Bool)
+        → StepGives result (labels_in labels.new)
+        (with_label (labels_in labels.old) (record { bytes = label.now; quoted = quoted; closed = closed })) }
     ensures items { OnOk result (labels_in labels.new ≡ labels_in labels.old ++ label.now ∷ []) }
     ensures quote { OnOk result ((not quoted && holds_quote label.now) ≡ false) }
 {

@@ -42,7 +42,8 @@ impl State {
         requires within { IsWithin first 0 (length line.now) }
         requires one { IsOneLine line.now }
         requires len { length line.now < 2 ^ 31 }
-        ensures { StepGives result self.new (line_in self.old (lexeme_at line.now first) (tokens_of true [] (drop (place_after first) line.now))) }
+        ensures { StepGives result self.new
+            (line_in self.old (lexeme_at line.now first) (tokens_of true [] (drop (place_after first) line.now))) }
     {
         match self.read_in_header(line, &first) {
             Ok(Some(circuit)) => {
@@ -59,7 +60,9 @@ impl State {
         requires header { IsTrue (is_in_header self.old) }
         requires within { IsWithin first.now 0 (length line.now) }
         requires one { IsOneLine line.now }
-        ensures { GivesState result self.new (line_in self.old (lexeme_at line.now first.now) (tokens_of true [] (drop (place_after first.now) line.now))) }
+        ensures { GivesState result self.new
+            (line_in self.old (lexeme_at line.now first.now)
+            (tokens_of true [] (drop (place_after first.now) line.now))) }
     {
         match self {
             State::Header(header) => header.read_line(line, first),
@@ -87,9 +90,11 @@ fn read_after_begin(
     first: &Token,
 ) -> Result<(), Stop>
     requires within { IsWithin first.now 0 (length line.now) }
-    requires first { tokens_of true [] line.now ≡ lexeme_at line.now first.now ∷ tokens_of true [] (drop (place_after first.now) line.now) }
+    requires first { tokens_of true [] line.now
+        ≡ lexeme_at line.now first.now ∷ tokens_of true [] (drop (place_after first.now) line.now) }
     requires len { length line.now < 2 ^ 31 }
-    ensures { StepGives result (State.Gates circuit.new is_ended.new) (line_of (State.Gates circuit.old is_ended.old) (tokens_of true [] line.now)) }
+    ensures { StepGives result (State.Gates circuit.new is_ended.new)
+        (line_of (State.Gates circuit.old is_ended.old) (tokens_of true [] line.now)) }
 {
     if *is_ended {
         return Err(first_stop(Stop::Fault(TEXT_AFTER_END), line));

@@ -1,10 +1,12 @@
-ghost use Rattle.std.specs.Prelude.{◌≡◌, ◌<◌, ◌≤◌, ◌+◌, ◌^◌, ℕ, Bool, List, [], ◌∷◌, ◌++◌, true, false, drop, length, nat_lt, bit_or, if◌then◌else◌, IfSome, IfOk};
+ghost use Rattle.std.specs.Prelude.{◌≡◌, ◌<◌, ◌≤◌, ◌+◌, ◌^◌, ℕ, Bool, List, [], ◌∷◌, ◌++◌, true, false, drop, length};
+ghost use Rattle.std.specs.Prelude.{nat_lt, bit_or, if◌then◌else◌, IfSome, IfOk};
 ghost use Rattle.rv_text.specs.Tokens.{tokens_of};
 ghost use Rattle.rv_gate.specs.Gate.{FitsIn};
 ghost use Rattle.rv_gate.specs.declared.word.TheConstants.{MOST_LINES};
 ghost use Rattle.rv_reader.specs.inside.Answered.{GivesValue};
 ghost use Rattle.rv_real.specs.Rules.{in_order};
-ghost use Rattle.rv_real.specs.Body.{Operand as AnOperand, has_sign, without_sign, operand_of, with_operand, has_repeated, shape_of, control_count};
+ghost use Rattle.rv_real.specs.Body.{Operand as AnOperand, has_sign, without_sign, operand_of, with_operand};
+ghost use Rattle.rv_real.specs.Body.{has_repeated, shape_of, control_count};
 ghost use Rattle.rv_real.specs.inside.Places.{ArePlaces};
 ghost use Rattle.rv_real.specs.inside.Operands.{letter_in, TakesOperands, Gathers, operand_in, pushed, GivesOperands};
 
@@ -125,7 +127,8 @@ impl Operands {
     /// The gate of a kind on these operands.
     pub(crate) fn gate(&self, kind: Kind) -> Option<Gate>
         ensures { (lines : ℕ) (operands : List AnOperand) → TakesOperands kind (length operands) → lines ≤ MOST_LINES
-            → Gathers lines (control_count (letter_in kind) (length operands)) operands self.now → has_repeated operands ≡ false
+            → Gathers lines (control_count (letter_in kind) (length operands)) operands self.now
+            → has_repeated operands ≡ false
             → (result ≡ Some (shape_of (letter_in kind) operands)) × FitsIn (shape_of (letter_in kind) operands) lines }
     {
         match kind {
@@ -147,7 +150,8 @@ pub(crate) fn read_operands(
     requires places { ArePlaces names.now places.now }
     requires from { from ≤ length line.now }
     requires len { length line.now < 2 ^ 31 }
-    ensures { GivesOperands (length names.now) controls result (in_order (with_operand names.now controls) [] (tokens_of true [] (drop from line.now))) }
+    ensures { GivesOperands (length names.now) controls result
+        (in_order (with_operand names.now controls) [] (tokens_of true [] (drop from line.now))) }
 {
     let mut kept = Operands::none();
     let mut at = from;

@@ -52,7 +52,8 @@ impl Texts {
     /// The text of an operand, where it is short.
     pub(crate) fn text(&self, line: u8, wanted: bool) -> Option<&ShortText>
         requires { line < MOST_LINES }
-        ensures { (names : List (List ℕ)) → AreTexts names self.now → IfSome result (λ text. short_bytes text.now ≡ 32 ∷ control_word (name_at names line) wanted) }
+        ensures { (names : List (List ℕ)) → AreTexts names self.now
+            → IfSome result (λ text. short_bytes text.now ≡ 32 ∷ control_word (name_at names line) wanted) }
     {
         text_on(self.texts(wanted), line)
     }
@@ -62,7 +63,8 @@ impl Texts {
 fn text_on(texts: &[Option<ShortText>; LINES], line: u8) -> Option<&ShortText>
     requires line { line < MOST_LINES }
     requires sized { length texts.now ≡ LINES }
-    ensures { (names : List (List ℕ)) (wanted : Bool) → AreTextsOf names wanted texts.now → IfSome result (λ text. short_bytes text.now ≡ 32 ∷ control_word (name_at names line) wanted) }
+    ensures { (names : List (List ℕ)) (wanted : Bool) → AreTextsOf names wanted texts.now
+        → IfSome result (λ text. short_bytes text.now ≡ 32 ∷ control_word (name_at names line) wanted) }
 {
     texts[usize::from(line)].as_ref()
 }

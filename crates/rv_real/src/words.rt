@@ -1,4 +1,5 @@
-ghost use Rattle.std.specs.Prelude.{◌≡◌, ◌≤◌, ◌<◌, ℕ, List, [], ◌∷◌, ◌==◌, not, true, false, drop, length, slice_index, slice_range, IfSome, Some};
+ghost use Rattle.std.specs.Prelude.{◌≡◌, ◌≤◌, ◌<◌, ℕ, List, [], ◌∷◌, ◌==◌, not, true, false, drop, length, slice_index};
+ghost use Rattle.std.specs.Prelude.{slice_range, IfSome, Some};
 ghost use Rattle.std.specs.List.{list_any};
 ghost use Rattle.rv_text.specs.Tokens.{tokens_of, tokens_from, inside, plain};
 ghost use Rattle.rv_text.specs.Found.{first_and_rest, IsWithin, IsUnquoted};
@@ -25,7 +26,8 @@ fn space_end(line: &[u8], from: usize) -> usize
 fn plain_end(line: &[u8], start: usize) -> usize
     requires { start ≤ length line.now }
     ensures range { (start ≤ result) × (result ≤ length line.now) }
-    ensures same { tokens_from true [] (inside (slice_range line.now start result)) (drop result line.now) ≡ tokens_from true [] (inside []) (drop start line.now) }
+    ensures same { tokens_from true [] (inside (slice_range line.now start result)) (drop result line.now)
+        ≡ tokens_from true [] (inside []) (drop start line.now) }
     ensures moves { start < result → 35 < slice_index line.now start }
 {
     let mut i = start;
@@ -39,7 +41,8 @@ fn plain_end(line: &[u8], start: usize) -> usize
 #[inline(always)]
 fn ends_word(line: &[u8], end: usize) -> bool
     requires { end ≤ length line.now }
-    ensures { result ≡ true → (begun : List ℕ) → tokens_from true [] (inside begun) (drop end line.now) ≡ plain begun ∷ tokens_of true [] (drop end line.now) }
+    ensures { result ≡ true → (begun : List ℕ)
+        → tokens_from true [] (inside begun) (drop end line.now) ≡ plain begun ∷ tokens_of true [] (drop end line.now) }
 {
     end == line.len() || line[end] == b' '
 }
@@ -49,7 +52,8 @@ fn ends_word(line: &[u8], end: usize) -> bool
 #[inline(always)]
 fn plain_word(line: &[u8], from: usize) -> Option<Token>
     requires { from ≤ length line.now }
-    ensures exact { IfSome result (λ t. tokens_of true [] (drop from line.now) ≡ first_and_rest true [] line.now (Some t)) }
+    ensures exact { IfSome result (λ t.
+        tokens_of true [] (drop from line.now) ≡ first_and_rest true [] line.now (Some t)) }
     ensures within { IfSome result (λ t. IsWithin t from (length line.now)) }
     ensures unquoted { IfSome result (λ t. (t.quoted ≡ false) × IsUnquoted t) }
 {

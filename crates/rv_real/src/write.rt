@@ -1,11 +1,13 @@
-ghost use Rattle.std.specs.Prelude.{◌≡◌, ℕ, List, ◌==◌, ◌||◌, ◌+◌, ◌<◌, ◌≤◌, [], ◌∷◌, ◌++◌, length, map, decimal, slice_index};
+ghost use Rattle.std.specs.Prelude.{◌≡◌, ℕ, List, ◌==◌, ◌||◌, ◌+◌, ◌<◌, ◌≤◌, [], ◌∷◌, ◌++◌, length, map, decimal};
+ghost use Rattle.std.specs.Prelude.{slice_index};
 ghost use Rattle.rv_io.specs.Sink.{Sends};
 ghost use Rattle.rv_io.specs.Writer.{Adds};
 ghost use Rattle.rv_text.specs.Spelled.{more_words, spelled, words_line};
 ghost use Rattle.rv_gate.specs.Gate.{FitsIn, Within};
 ghost use Rattle.rv_gate.specs.declared.word.TheConstants.{MOST_LINES};
 ghost use Rattle.rv_real.specs.Reading.{real_of};
-ghost use Rattle.rv_real.specs.Text.{control_word, controls_from, gate_words, header_lines, label_lines, label_word, name_at, size_lines, text_of, variables_line};
+ghost use Rattle.rv_real.specs.Text.{control_word, controls_from, gate_words, header_lines, label_lines, label_word};
+ghost use Rattle.rv_real.specs.Text.{name_at, size_lines, text_of, variables_line};
 ghost use Rattle.rv_real.specs.inside.Texts.{AreTexts};
 
 use crate::label::put_label;
@@ -89,7 +91,8 @@ fn put_labels<O: Sink>(writer: &mut Writer, sink: &mut O, circuit: &Circuit)
 }
 
 fn put_input_labels<O: Sink>(writer: &mut Writer, sink: &mut O, circuit: &Circuit)
-    ensures { Adds writer.old (O.view sink.old) (more_words (map label_word circuit.now.input_labels)) writer.new (O.view sink.new) }
+    ensures { Adds writer.old (O.view sink.old) (more_words (map label_word circuit.now.input_labels)) writer.new
+        (O.view sink.new) }
 {
     for line in 0..circuit.line_count() {
         put_next_label(writer, sink, circuit.input_label(line));
@@ -97,7 +100,8 @@ fn put_input_labels<O: Sink>(writer: &mut Writer, sink: &mut O, circuit: &Circui
 }
 
 fn put_output_labels<O: Sink>(writer: &mut Writer, sink: &mut O, circuit: &Circuit)
-    ensures { Adds writer.old (O.view sink.old) (more_words (map label_word circuit.now.output_labels)) writer.new (O.view sink.new) }
+    ensures { Adds writer.old (O.view sink.old) (more_words (map label_word circuit.now.output_labels)) writer.new
+        (O.view sink.new) }
 {
     for line in 0..circuit.line_count() {
         put_next_label(writer, sink, circuit.output_label(line));
@@ -114,7 +118,8 @@ fn put_next_label<O: Sink>(writer: &mut Writer, sink: &mut O, label: &[u8])
 
 // One line for each gate.
 fn put_gates<O: Sink>(writer: &mut Writer, sink: &mut O, circuit: &Circuit)
-    ensures { Adds writer.old (O.view sink.old) (spelled (map (gate_words circuit.now.names) circuit.now.gates)) writer.new (O.view sink.new) }
+    ensures { Adds writer.old (O.view sink.old) (spelled (map (gate_words circuit.now.names) circuit.now.gates))
+        writer.new (O.view sink.new) }
 {
     circuit.recall_invariant();
     let names = circuit.names();
@@ -129,7 +134,8 @@ fn put_gate<O: Sink>(writer: &mut Writer, sink: &mut O, names: &Names, texts: &T
     requires fits { FitsIn gate (length names.now) }
     requires few { length names.now ≤ MOST_LINES }
     requires texts { AreTexts names.now texts.now }
-    ensures { Adds writer.old (O.view sink.old) (spelled (gate_words names.now gate ∷ [])) writer.new (O.view sink.new) }
+    ensures { Adds writer.old (O.view sink.old) (spelled (gate_words names.now gate ∷ [])) writer.new
+        (O.view sink.new) }
 {
     put_gate_words(writer, sink, names, texts, gate);
     writer.put_byte(sink, b'\n');
@@ -171,7 +177,8 @@ fn put_flip<O: Sink>(
     requires target_in { target < length names.now }
     requires few { length names.now ≤ MOST_LINES }
     requires texts { AreTexts names.now texts.now }
-    ensures { Adds writer.old (O.view sink.old) (words_line (gate_words names.now (Shape.Flip care want target))) writer.new (O.view sink.new) }
+    ensures { Adds writer.old (O.view sink.old) (words_line (gate_words names.now (Shape.Flip care want target)))
+        writer.new (O.view sink.new) }
 {
     put_kind(writer, sink, b't', control_count(names, care) + 1);
     put_controls(writer, sink, names, texts, care, want);
@@ -193,7 +200,8 @@ fn put_swap<O: Sink>(
     requires b_in { b < length names.now }
     requires few { length names.now ≤ MOST_LINES }
     requires texts { AreTexts names.now texts.now }
-    ensures { Adds writer.old (O.view sink.old) (words_line (gate_words names.now (Shape.Swap care want a b))) writer.new (O.view sink.new) }
+    ensures { Adds writer.old (O.view sink.old) (words_line (gate_words names.now (Shape.Swap care want a b)))
+        writer.new (O.view sink.new) }
 {
     put_kind(writer, sink, b'f', control_count(names, care) + 2);
     put_controls(writer, sink, names, texts, care, want);
@@ -215,7 +223,8 @@ fn put_peres<O: Sink>(
     requires c_in { c < length names.now }
     requires few { length names.now ≤ MOST_LINES }
     requires texts { AreTexts names.now texts.now }
-    ensures { Adds writer.old (O.view sink.old) (words_line (gate_words names.now (Shape.Peres a b c))) writer.new (O.view sink.new) }
+    ensures { Adds writer.old (O.view sink.old) (words_line (gate_words names.now (Shape.Peres a b c))) writer.new
+        (O.view sink.new) }
 {
     put_kind(writer, sink, b'p', 3);
     put_operand(writer, sink, names, texts, a, true);
@@ -252,7 +261,8 @@ fn put_controls<O: Sink>(
     requires care_in { Within care (length names.now) }
     requires few { length names.now ≤ MOST_LINES }
     requires texts { AreTexts names.now texts.now }
-    ensures { Adds writer.old (O.view sink.old) (more_words (controls_from 0 names.now care want)) writer.new (O.view sink.new) }
+    ensures { Adds writer.old (O.view sink.old) (more_words (controls_from 0 names.now care want)) writer.new
+        (O.view sink.new) }
 {
     let mut left = care;
     while left != 0 {
@@ -274,7 +284,8 @@ fn put_operand<O: Sink>(
     requires line_in { line < length names.now }
     requires few { length names.now ≤ MOST_LINES }
     requires texts { AreTexts names.now texts.now }
-    ensures { Adds writer.old (O.view sink.old) (32 ∷ control_word (name_at names.now line) wanted) writer.new (O.view sink.new) }
+    ensures { Adds writer.old (O.view sink.old) (32 ∷ control_word (name_at names.now line) wanted) writer.new
+        (O.view sink.new) }
 {
     match texts.text(line, wanted) {
         Some(text) => writer.put_short(sink, text),

@@ -45,8 +45,8 @@ fn is_worth(before: usize, after: usize, cancelled: usize) -> bool {
     after < before && (before < SHORT || cancelled > before / 100)
 }
 
-/// A network with the amplitudes of this one, but for a factor of two for each pair of `H` less, with no more operations
-/// and no more T, and with nothing left to cancel.
+/// A network with the amplitudes of this one, but for a factor of two for each pair of `H` less, with no more
+/// operations and no more T, and with nothing left to cancel.
 ///
 /// The only refusal is want of memory.
 pub fn reduce(alloc: Global, net: &Net) -> Result<Net, AllocError>

@@ -2,8 +2,8 @@ use crate::Goal;
 use crate::measure::{most_controls, toffolis};
 use rv_gate::{Gate, MOST_LINES, Shape};
 
-// What gates cost in a search, for a goal and on so many lines, and whether a beam passes over what cannot end below its
-// bound.
+// What gates cost in a search, for a goal and on so many lines, and whether a beam passes over what cannot end below
+// its bound.
 #[derive(Clone, Copy)]
 pub(crate) struct Prices {
     pub(crate) goal: Goal,

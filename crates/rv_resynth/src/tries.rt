@@ -108,7 +108,8 @@ fn put(
     requires few { length gates.old.items ≤ MOST_GATES }
     requires from { from ≤ length gates.old.items }
     requires count { count ≤ length (drop from gates.old.items) }
-    requires splits { Splits lines (take count (drop from gates.old.items)) window.now.gates.items window.now.passed.items }
+    requires splits { Splits lines (take count (drop from gates.old.items)) window.now.gates.items
+        window.now.passed.items }
     ensures { OnOk result (Replaces lines gates.old.items gates.new.items) }
 {
     let passed = window.passed.len();

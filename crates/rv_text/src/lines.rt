@@ -1,4 +1,5 @@
-ghost use Rattle.std.specs.Prelude.{◌≡◌, ◌≤◌, ◌<◌, ◌+◌, ◌++◌, ◌↔◌, ◌==◌, ℕ, List, [], ◌∷◌, true, false, length, take, max, IfOk, OnOk, OnErr, IsTrue, if◌then◌else◌};
+ghost use Rattle.std.specs.Prelude.{◌≡◌, ◌≤◌, ◌<◌, ◌+◌, ◌++◌, ◌↔◌, ◌==◌, ℕ, List, [], ◌∷◌, true, false, length, take};
+ghost use Rattle.std.specs.Prelude.{max, IfOk, OnOk, OnErr, IsTrue, if◌then◌else◌};
 ghost use Rattle.std.specs.List.{position};
 ghost use Rattle.rv_text.specs.Bytes.{line_feed};
 ghost use Rattle.rv_text.specs.Lines.{first_end, lines_of};
@@ -56,9 +57,25 @@ impl Model for Lines {
 
     ghost Value = { Held };
 
-    ghost view = { λ s. record { line = s.bytes.items; is_ready = s.ready; number = s.number; taken = s.taken; greatest = s.greatest } };
+    ghost view = { λ s.
+        record {
+          line = s.bytes.items;
+          is_ready = s.ready;
+          number = s.number;
+          taken = s.taken;
+          greatest = s.greatest;
+        } };
 
-    ghost invariant = { λ s. IsHeld (record { line = s.bytes.items; is_ready = s.ready; number = s.number; taken = s.taken; greatest = s.greatest }) (vec_capacity s.bytes) };
+    ghost invariant = { λ s.
+        IsHeld
+        (record {
+          line = s.bytes.items;
+          is_ready = s.ready;
+          number = s.number;
+          taken = s.taken;
+          greatest = s.greatest;
+        })
+        (vec_capacity s.bytes) };
 }
 
 impl Lines {
@@ -82,7 +99,8 @@ impl Lines {
         requires not_ready { self.old.is_ready ≡ false }
         requires limit { self.old.taken + length piece.now ≤ MOST_BYTES }
         ensures ok { IfOk result (λ fed. TakesPiece self.old piece.now fed.used fed.ready self.new) }
-        ensures text { (text : List ℕ) → HasTaken self.old text → IfOk result (λ fed. HasTaken self.new (text ++ take fed.used piece.now)) }
+        ensures text { (text : List ℕ) → HasTaken self.old text
+            → IfOk result (λ fed. HasTaken self.new (text ++ take fed.used piece.now)) }
 
         // Want of memory comes only where the line would get longer than each line so far.
         ensures err { OnErr result (self.new ≡ self.old) }
@@ -127,7 +145,8 @@ impl Lines {
     pub fn finish(&mut self) -> bool
         requires { self.old.is_ready ≡ false }
         ensures held { IsTrue result ↔ (0 < length self.old.line) }
-        ensures new { self.new ≡ record self.old { is_ready = result; number = self.old.number + (if result then 1 else 0) } }
+        ensures new { self.new
+            ≡ record self.old { is_ready = result; number = self.old.number + (if result then 1 else 0) } }
         ensures text { (text : List ℕ) → HasTaken self.old text → HasGivenAll self.new text }
 
         // The lines of a text are those that make it again, and no others.
@@ -145,7 +164,8 @@ impl Lines {
         ensures line { result.now ≡ self.now.line }
 
         // It is this line of the text that was taken, whatever follows.
-        ensures text { (text more : List ℕ) → HasTaken self.now text → IsLine (text ++ more) self.now.number result.now }
+        ensures text { (text more : List ℕ) → HasTaken self.now text
+            → IsLine (text ++ more) self.now.number result.now }
     {
         self.bytes.as_slice()
     }

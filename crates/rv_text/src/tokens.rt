@@ -1,4 +1,5 @@
-ghost use Rattle.std.specs.Prelude.{◌≡◌, ◌≢◌, ◌≤◌, ◌<◌, ◌+◌, ◌↔◌, ℕ, Bool, List, [], ◌∷◌, true, false, drop, length, slice_index, slice_range, nat_lt, if◌then◌else◌, IfSome};
+ghost use Rattle.std.specs.Prelude.{◌≡◌, ◌≢◌, ◌≤◌, ◌<◌, ◌+◌, ◌↔◌, ℕ, Bool, List, [], ◌∷◌, true, false, drop, length};
+ghost use Rattle.std.specs.Prelude.{slice_index, slice_range, nat_lt, if◌then◌else◌, IfSome};
 ghost use Rattle.rv_text.specs.Bytes.{hash};
 ghost use Rattle.rv_text.specs.Tokens.{Lexeme, tokens_of, tokens_from, inside, quoting, is_blank, plain, in_quotes};
 ghost use Rattle.rv_text.specs.Separated.{AreTokens};
@@ -14,7 +15,8 @@ use crate::Token;
 /// blanks and a comment part, and no others.
 pub fn token(line: &[u8], from: usize, quotes: bool, blanks: &[u8]) -> Option<Token>
     requires { from ≤ length line.now }
-    ensures exact { tokens_of quotes blanks.now (drop from line.now) ≡ first_and_rest quotes blanks.now line.now result }
+    ensures exact { tokens_of quotes blanks.now (drop from line.now)
+        ≡ first_and_rest quotes blanks.now line.now result }
     ensures only { (tokens : List Lexeme)
         → AreTokens quotes blanks.now (drop from line.now) tokens
         ↔ (tokens ≡ tokens_of quotes blanks.now (drop from line.now)) }
@@ -54,7 +56,8 @@ fn is_blank(byte: u8, blanks: &[u8]) -> bool
 fn blanks_end(line: &[u8], from: usize, blanks: &[u8]) -> usize
     requires { from ≤ length line.now }
     ensures range { (from ≤ result) × (result ≤ length line.now) }
-    ensures same { (quotes : Bool) → tokens_of quotes blanks.now (drop result line.now) ≡ tokens_of quotes blanks.now (drop from line.now) }
+    ensures same { (quotes : Bool)
+        → tokens_of quotes blanks.now (drop result line.now) ≡ tokens_of quotes blanks.now (drop from line.now) }
     ensures blank { (k : ℕ) → from ≤ k → k < result → is_blank blanks.now (slice_index line.now k) ≡ true }
     ensures stops { result < length line.now → is_blank blanks.now (slice_index line.now result) ≡ false }
 {
@@ -71,7 +74,8 @@ fn plain_end(line: &[u8], start: usize, blanks: &[u8]) -> usize
     ensures range { (start ≤ result) × (result ≤ length line.now) }
     ensures same { (quotes : Bool) → tokens_from quotes blanks.now (inside []) (drop start line.now)
         ≡ plain (slice_range line.now start result) ∷ tokens_of quotes blanks.now (drop result line.now) }
-    ensures moves { start < length line.now → is_blank blanks.now (slice_index line.now start) ≡ false → slice_index line.now start ≢ hash → start < result }
+    ensures moves { start < length line.now → is_blank blanks.now (slice_index line.now start) ≡ false
+        → slice_index line.now start ≢ hash → start < result }
 {
     let mut i = start;
     while i < line.len() && !is_blank(line[i], blanks) && line[i] != b'#' {

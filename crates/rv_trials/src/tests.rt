@@ -1,5 +1,5 @@
-// Whole runs over files and sinks in memory: tables of what is typed, what the inputs hold, and how the run ends. A table
-// is a constant of texts and numbers, since its proof is short then, however many rows it has.
+// Whole runs over files and sinks in memory: tables of what is typed, what the inputs hold, and how the run ends. A
+// table is a constant of texts and numbers, since its proof is short then, however many rows it has.
 use rv_cmd::run;
 use rv_io::{MemFiles, MemSink};
 use std::alloc::Global;

@@ -47,7 +47,8 @@ fn only(slot: usize) -> u64
 // Clears one bit of all words.
 fn clear(words: &mut Vec<u64>, bit: u64)
     ensures count { length words.new.items ≡ length words.old.items }
-    ensures each { (line : ℕ) → line < length words.old.items → slice_index words.new.items line ≡ without (slice_index words.old.items line) bit }
+    ensures each { (line : ℕ) → line < length words.old.items
+        → slice_index words.new.items line ≡ without (slice_index words.old.items line) bit }
 {
     for line in 0..words.len() {
         words[line] = without(words[line], bit);
@@ -167,7 +168,8 @@ impl Waiting {
     // Those of the slots whose product has nothing but Z on the line.
     fn alone(&self, line: u8, slots: u64) -> u64
         requires { line < length self.now.flips.items }
-        ensures { (slot : ℕ) → has result slot ≡ true → (has slots slot ≡ true) × IsAlone (slots_of self.now) line slot }
+        ensures { (slot : ℕ) → has result slot ≡ true
+            → (has slots slot ≡ true) × IsAlone (slots_of self.now) line slot }
     {
         let mut left = without(slots, self.quarters | self.halves);
         for other in 0..self.flips.len() {
@@ -185,7 +187,9 @@ impl Waiting {
     /// A slot in use whose product is Z on the line.
     pub(crate) fn partner(&self, line: u8) -> Option<usize>
         requires { line < length self.now.flips.items }
-        ensures { IfSome result (λ slot. (slot < MOST_WAITING) × (has self.now.live slot ≡ true) × (pauli_at (slots_of self.now) slot ≡ sign_on (length self.now.flips.items) line)) }
+        ensures { IfSome result (λ slot.
+            (slot < MOST_WAITING) × (has self.now.live slot ≡ true)
+            × (pauli_at (slots_of self.now) slot ≡ sign_on (length self.now.flips.items) line)) }
     {
         let alone = self.alone(line, self.live & self.signs[usize::from(line)]);
         if alone == 0 {
@@ -226,7 +230,8 @@ impl Waiting {
         requires { line < length self.old.flips.items }
         ensures within { result < MOST_WAITING }
         ensures opened { pauli_at (slots_of self.new) result ≡ sign_on (length self.old.flips.items) line }
-        ensures others { (slot : ℕ) → slot ≢ result → pauli_at (slots_of self.new) slot ≡ pauli_at (slots_of self.old) slot }
+        ensures others { (slot : ℕ) → slot ≢ result
+            → pauli_at (slots_of self.new) slot ≡ pauli_at (slots_of self.old) slot }
         ensures live { (slot : ℕ) → slot ≢ result → has self.new.live slot ≡ has self.old.live slot }
         ensures count { length self.new.flips.items ≡ length self.old.flips.items }
         ensures places { self.new.places.items ≡ slice_set self.old.places.items result place }

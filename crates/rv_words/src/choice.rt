@@ -1,7 +1,8 @@
 // The values of the options. Of a bad value the option's place is told.
 ghost use Rattle.std.specs.Prelude.{◌≡◌, IfOk};
 ghost use Rattle.clap.specs.Matches.{first_value, found_of};
-ghost use Rattle.rv_words.specs.Values.{IsLineCount, aux_in, aux_of, blocks_in, blocks_of, effort_in, form_to, form_from};
+ghost use Rattle.rv_words.specs.Values.{IsLineCount, aux_in, aux_of, blocks_in, blocks_of, effort_in, form_to};
+ghost use Rattle.rv_words.specs.Values.{form_from};
 ghost use Rattle.rv_words.specs.Values.{goal_in, goal_of, lines_in, method_in, most_lines, picture_in, picture_of};
 ghost use Rattle.rv_words.specs.Values.{usual_effort, usual_goal, usual_lines, usual_seed};
 ghost use Rattle.rv_words.specs.Values.{method_of, origin_in, seed_in, to_in, usual_form, values_in, wrap_in};

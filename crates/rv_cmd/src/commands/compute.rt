@@ -23,7 +23,8 @@ pub(crate) fn compute<F: Files>(
 ) -> Result<Made, Unmade>
     requires input { length (names_read settings.now) ≡ 1 }
     requires lines { settings.now.lines ≤ MOST_LINES }
-    ensures { Makes (compute_row settings.now.lines) (names_read settings.now) (F.view files.old) (F.view files.new) result }
+    ensures { Makes (compute_row settings.now.lines) (names_read settings.now) (F.view files.old) (F.view files.new)
+        result }
 {
     computed(alloc, name_of(settings, 0), files, settings.lines)
 }

@@ -1,7 +1,8 @@
 ghost use Rattle.std.specs.Prelude.{◌≡◌, [], IfErr, IfOk, length};
 ghost use Rattle.rv_cube.specs.ReductionFor.{IsRight, IsSettledFor};
 ghost use Rattle.rv_exorlink.specs.Found.{IsFound};
-ghost use Rattle.rv_cmd.specs.Commands.Esop.{IsEsopReport, IsFoundCascade, IsFoundList, IsFoundReport, cascade_report, esop_goal, esop_report};
+ghost use Rattle.rv_cmd.specs.Commands.Esop.{IsEsopReport, IsFoundCascade, IsFoundList, IsFoundReport, cascade_report};
+ghost use Rattle.rv_cmd.specs.Commands.Esop.{esop_goal, esop_report};
 ghost use Rattle.rv_cmd.specs.Commands.Esop.{esop_row, found_limits, reduced_list};
 ghost use Rattle.rv_cmd.specs.Names.{names_read};
 ghost use Rattle.rv_cmd.specs.inside.Making.{Makes};
@@ -21,8 +22,8 @@ use rv_pla::{Pla, PlaReader};
 use rv_words::{Form, Goal as Wish, Settings};
 use std::alloc::{AllocError, Global};
 
-/// A cascade that adds the function of a PLA to its outputs, or the list of cubes from which it comes: the reduced list,
-/// or with a goal one that a search finds.
+/// A cascade that adds the function of a PLA to its outputs, or the list of cubes from which it comes: the reduced
+/// list, or with a goal one that a search finds.
 pub(crate) fn esop<F: Files>(
     alloc: Global,
     settings: &Settings,
@@ -117,7 +118,8 @@ impl Found {
 
     fn cubes(&self, alloc: Global, pla: &Pla) -> Result<Product, Refusal>
         ensures made { IfOk result
-            (λ product. IsProductOf (found_within [] (product_text product)) (IsFoundList self.now.goal pla.now) product) }
+            (λ product.
+            IsProductOf (found_within [] (product_text product)) (IsFoundList self.now.goal pla.now) product) }
         ensures unmade { IfErr result (IsRefusalOf 1 []) }
     {
         match self.list(alloc, pla) {

@@ -70,9 +70,11 @@ struct PermutationFlow {
 impl OneInput for PermutationFlow {
     type Text = PermReader;
 
-    ghost report = { λ command. flow_report command.asked.method command.asked.simplify command.asked.blocks command.asked.aux };
+    ghost report = { λ command.
+        flow_report command.asked.method command.asked.simplify command.asked.blocks command.asked.aux };
 
-    ghost Means = { λ command. IsFlow command.asked.method command.asked.simplify command.asked.blocks command.asked.aux };
+    ghost Means = { λ command.
+        IsFlow command.asked.method command.asked.simplify command.asked.blocks command.asked.aux };
 
     fn make(&self, alloc: Global, spec: &PermSpec) -> Result<Product, Refusal> {
         network(alloc, self.asked, spec)
@@ -88,9 +90,11 @@ struct FunctionFlow {
 impl OneInput for FunctionFlow {
     type Text = PlaReader;
 
-    ghost report = { λ command. function_report command.asked.method command.asked.simplify command.asked.blocks command.asked.aux };
+    ghost report = { λ command.
+        function_report command.asked.method command.asked.simplify command.asked.blocks command.asked.aux };
 
-    ghost Means = { λ command. IsFunctionFlow command.asked.method command.asked.simplify command.asked.blocks command.asked.aux };
+    ghost Means = { λ command.
+        IsFunctionFlow command.asked.method command.asked.simplify command.asked.blocks command.asked.aux };
 
     fn make(&self, alloc: Global, pla: &Pla) -> Result<Product, Refusal> {
         match embedding(alloc, pla) {
@@ -104,7 +108,8 @@ fn network(alloc: Global, asked: Asked, spec: &PermSpec) -> Result<Product, Refu
     ensures made { IfOk result
         (IsProductOf (flow_report asked.method asked.simplify asked.blocks asked.aux spec.now)
         (IsFlow asked.method asked.simplify asked.blocks asked.aux spec.now)) }
-    ensures unmade { IfErr result (IsRefusalOf 1 (flow_limits asked.method asked.simplify asked.blocks asked.aux spec.now)) }
+    ensures unmade { IfErr result
+        (IsRefusalOf 1 (flow_limits asked.method asked.simplify asked.blocks asked.aux spec.now)) }
 {
     spec.recall_invariant();
     match circuit_for(alloc, spec, asked.method, asked.simplify) {

@@ -92,7 +92,8 @@ fn network(circuit: Circuit) -> Result<Product, Refusal>
 
 // Of the circuit itself, with a ladder for each large gate.
 fn of_ladders(alloc: Global, aux: Aux, circuit: &Circuit) -> Result<Product, Refusal>
-    ensures made { IfOk result (IsProductOf (map_report Relative aux circuit.now) (IsMapping Relative aux circuit.now)) }
+    ensures made { IfOk result
+        (IsProductOf (map_report Relative aux circuit.now) (IsMapping Relative aux circuit.now)) }
     ensures unmade { IfErr result (IsRefusalOf 1 (map_limits Relative aux circuit.now)) }
 {
     match relative(alloc, circuit, aux) {

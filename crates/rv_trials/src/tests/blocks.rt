@@ -62,7 +62,8 @@ fn networks_of_all_blocks_do_what_the_circuit_does(rt: HostRuntime) -> Result<()
     expect_same_networks(&rt, alloc, "map --blocks near")
 }
 
-// By the line that stands between the others: the second control, the target, and the first control of two, which wants 0.
+// By the line that stands between the others: the second control, the target, and the first control of two, which wants
+// 0.
 #[test]
 fn three_lines_in_a_row_are_joined_as_neighbours(rt: HostRuntime) -> Result<(), Fail> {
     const CONTROL: &str = concat!(
@@ -123,7 +124,8 @@ fn lines_apart_have_the_usual_block(rt: HostRuntime) -> Result<(), Fail> {
     Ok(())
 }
 
-// By n controls: 20n - 24 operations with T 8n - 8, over clean lines 18n - 21 with T 8n - 9; a split has each half twice.
+// By n controls: 20n - 24 operations with T 8n - 8, over clean lines 18n - 21 with T 8n - 9; a split has each half
+// twice.
 #[test]
 fn ladders_have_as_many_as_are_counted(rt: HostRuntime) -> Result<(), Fail> {
     const RELATIVE: &str = "map --blocks relative";

@@ -36,8 +36,8 @@ const CHECK: Row<'static> = (
     "same\n",
 );
 
-// Permutations, truth tables, circuits and networks. The network of one Toffoli gate is a folded one, and in another one a
-// control that wants 0 is turned before and after.
+// Permutations, truth tables, circuits and networks. The network of one Toffoli gate is a folded one, and in another
+// one a control that wants 0 is turned before and after.
 const ROWS: [Row<'static>; 17] = [
     (
         "synth --method out p.txt",
@@ -427,8 +427,8 @@ fn files_that_hold_every_name_are_read_as_empty(rt: HostRuntime) -> Result<(), F
     Ok(())
 }
 
-// Runs words whose output has so much room, and whose error output has so much of its own, and of which this call fails: the
-// status, and what is written.
+// Runs words whose output has so much room, and whose error output has so much of its own, and of which this call
+// fails: the status, and what is written.
 fn end_by_errs(
     alloc: Global,
     typed: &str,

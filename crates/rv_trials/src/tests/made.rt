@@ -94,8 +94,8 @@ impl Files for Made<'_> {
     }
 }
 
-// Runs words over such inputs, with an output that takes every byte. It says nothing of the run, so that no caller has to
-// read its contract.
+// Runs words over such inputs, with an output that takes every byte. It says nothing of the run, so that no caller has
+// to read its contract.
 fn run_over_made(
     alloc: Global,
     words: &[String],
