@@ -4,8 +4,8 @@ use Rattle.std.specs.Result.{result_err}
 use Rattle.rv_text.specs.declared.fault.TextFault.{TextFault}
 use Rattle.rv_reader.specs.Feeding.{faulted, object_of}
 use Rattle.rv_reader.specs.Rules.{◌>>=◌, on_line, lines_read}
-use Rattle.rv_reader.specs.declared.refusal.Refusal.{Refusal}
-use Rattle.rv_reader.specs.declared.refusal.Refusal.TheVariants as refusals
+use Rattle.rv_reader.specs.declared.text_refusal.TextRefusal.{TextRefusal}
+use Rattle.rv_reader.specs.declared.text_refusal.TextRefusal.TheVariants as refusals
 use Rattle.rv_reader.specs.declared.whole.Whole.{Whole}
 use Rattle.rv_blif.specs.declared.fault.BlifFault.{BlifFault}
 use Rattle.rv_blif.specs.declared.fault.BlifFault.TheVariants as faults
@@ -14,7 +14,7 @@ use Rattle.rv_blif.specs.Given.{Given, closed, line_rules, netlist_of, whole_lin
 use Rattle.rv_blif.specs.Placing.{ordered}
 
 -- why a text was refused, before its end
-abbrev pub as_fault : Refusal → BlifFault
+abbrev pub as_fault : TextRefusal → BlifFault
 as_fault (refusals.Text fault) = faults.Text fault
 as_fault refusals.Mem = faults.Mem
 

@@ -26,7 +26,7 @@ use crate::names::Names;
 use crate::port::Port;
 use crate::product::MOST_OPERANDS;
 use crate::row::{are_literals, product_of};
-use rv_reader::{Format, Refusal, Stop, Whole};
+use rv_reader::{Format, Stop, TextRefusal, Whole};
 use rv_text::{begins_with_dot, first_place, joined, token};
 use std::alloc::{AllocError, Global};
 use std::marker::Model;
@@ -382,14 +382,14 @@ impl Format for State {
         self.read_whole(number, line)
     }
 
-    fn end(self, lines: u32) -> Result<Logic, BlifFault> {
-        end_of(Whole { state: self, lines })
+    fn end(whole: Whole<State>) -> Result<Logic, BlifFault> {
+        end_of(whole)
     }
 
-    fn fault(refusal: Refusal) -> BlifFault {
+    fn fault(refusal: TextRefusal) -> BlifFault {
         match refusal {
-            Refusal::Text(fault) => BlifFault::Text(fault),
-            Refusal::Mem => BlifFault::Mem,
+            TextRefusal::Text(fault) => BlifFault::Text(fault),
+            TextRefusal::Mem => BlifFault::Mem,
         }
     }
 }

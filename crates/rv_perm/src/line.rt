@@ -16,7 +16,7 @@ use crate::perm::MOST_NUMBERS;
 use crate::spec::PermSpec;
 use rv_gate::Mark;
 use rv_marks::read_marks;
-use rv_reader::{Format, Refusal, Stop, Whole};
+use rv_reader::{Format, Stop, TextRefusal, Whole};
 use rv_text::{begins_with_dot, decimal_value, token};
 use std::alloc::{AllocError, Global};
 use std::marker::Model;
@@ -190,14 +190,14 @@ impl Format for State {
         }
     }
 
-    fn end(self, lines: u32) -> Result<PermSpec, PermFault> {
-        end_of(Whole { state: self, lines })
+    fn end(whole: Whole<State>) -> Result<PermSpec, PermFault> {
+        end_of(whole)
     }
 
-    fn fault(refusal: Refusal) -> PermFault {
+    fn fault(refusal: TextRefusal) -> PermFault {
         match refusal {
-            Refusal::Text(fault) => PermFault::Text(fault),
-            Refusal::Mem => PermFault::Mem,
+            TextRefusal::Text(fault) => PermFault::Text(fault),
+            TextRefusal::Mem => PermFault::Mem,
         }
     }
 }

@@ -21,7 +21,7 @@ use crate::kind::Kind;
 use crate::pla::{MOST_TERMS, Pla};
 use crate::row::{BAR, term_of, written_term};
 use crate::term::Term;
-use rv_reader::{Format, Refusal, Stop, Whole};
+use rv_reader::{Format, Stop, TextRefusal, Whole};
 use rv_text::{begins_with_dot, count_of, joined, token};
 use std::alloc::Global;
 use std::marker::Model;
@@ -213,14 +213,14 @@ impl Format for State {
         }
     }
 
-    fn end(self, lines: u32) -> Result<Pla, PlaFault> {
-        end_of(Whole { state: self, lines })
+    fn end(whole: Whole<State>) -> Result<Pla, PlaFault> {
+        end_of(whole)
     }
 
-    fn fault(refusal: Refusal) -> PlaFault {
+    fn fault(refusal: TextRefusal) -> PlaFault {
         match refusal {
-            Refusal::Text(fault) => PlaFault::Text(fault),
-            Refusal::Mem => PlaFault::Mem,
+            TextRefusal::Text(fault) => PlaFault::Text(fault),
+            TextRefusal::Mem => PlaFault::Mem,
         }
     }
 }

@@ -2,8 +2,8 @@
 use Rattle.std.specs.Prelude.{◌≡◌, ℕ, List, Option, Some, None, Result, Ok, Err, ◌⊎◌}
 use Rattle.rv_text.specs.declared.fault.TextFault.{TextFault}
 use Rattle.rv_reader.specs.declared.whole.Whole.{Whole}
-use Rattle.rv_reader.specs.declared.refusal.Refusal.{Refusal}
-use Rattle.rv_reader.specs.declared.refusal.Refusal.TheVariants as refusals
+use Rattle.rv_reader.specs.declared.text_refusal.TextRefusal.{TextRefusal}
+use Rattle.rv_reader.specs.declared.text_refusal.TextRefusal.TheVariants as refusals
 use Rattle.rv_reader.specs.Rules.{Rules, ◌>>=◌, whole_of}
 
 -- what was wanted is answered, or want of memory
@@ -26,9 +26,9 @@ checked text (Ok x) = Ok tt
 checked text (Err fault) = Err (text fault)
 
 -- a text fault as a fault of the format
-abbrev pub text_as : {E : Type 0} → (Refusal → E) → TextFault → E
+abbrev pub text_as : {E : Type 0} → (TextRefusal → E) → TextFault → E
 text_as as_fault fault = as_fault (refusals.Text fault)
 
 -- what a text denotes by the rules of its lines and of its end, or its first fault
-unfoldable pub object_of : {S X E : Type 0} → Rules S → (Refusal → E) → (Whole S → Result X E) → List ℕ → Result X E
+unfoldable pub object_of : {S X E : Type 0} → Rules S → (TextRefusal → E) → (Whole S → Result X E) → List ℕ → Result X E
 object_of rules as_fault end_of text = faulted (text_as as_fault) (whole_of rules text) >>= end_of

@@ -2,15 +2,15 @@ ghost use Rattle.std.specs.Prelude.{◌≡◌, ◌≤◌, ◌+◌, ℕ, List, le
 ghost use Rattle.std.specs.Result.{result_err};
 ghost use Rattle.rv_text.specs.declared.lines.TheConstants.{MOST_BYTES};
 ghost use Rattle.rv_text.specs.Spelled.{IsOneLine};
-ghost use Rattle.rv_reader.specs.declared.refusal.Refusal.{Refusal};
-ghost use Rattle.rv_reader.specs.declared.refusal.Refusal.TheVariants.{Mem};
+ghost use Rattle.rv_reader.specs.declared.text_refusal.TextRefusal.{TextRefusal};
+ghost use Rattle.rv_reader.specs.declared.text_refusal.TextRefusal.TheVariants.{Mem};
 ghost use Rattle.rv_reader.specs.declared.whole.Whole.{Whole};
 ghost use Rattle.rv_text.specs.declared.fault.TextFault.{TextFault};
 ghost use Rattle.rv_reader.specs.Rules.{Rules, lines_read};
 ghost use Rattle.rv_reader.specs.Gives.{StepGives};
 ghost use Rattle.rv_reader.specs.Feeding.{Answers, object_of};
 
-use crate::{Refusal, Stop};
+use crate::{Stop, TextRefusal, Whole};
 use std::alloc::Global;
 
 /// A format that is read line by line: what its lines gave so far.
@@ -34,7 +34,7 @@ pub trait Format: Drop {
     ghost end_of: { Whole Self → Result Self.Object Self.Fault };
 
     /// Why a text was refused before its end.
-    ghost as_fault: { Refusal → Self.Fault };
+    ghost as_fault: { TextRefusal → Self.Fault };
 
     /// How much a state holds. A line adds no more than its bytes and its line feed.
     ghost size: { Self → ℕ } = { λ _. 0 };
@@ -54,13 +54,13 @@ pub trait Format: Drop {
         ensures gives { StepGives result self.new (rules.line_of self.old number line.now) }
         ensures size { OnOk result (size self.new ≤ size self.old + length line.now + 1) };
 
-    /// The object of all lines, which are so many, or the first fault of the end.
-    fn end(self, lines: u32) -> Result<Self::Object, Self::Fault>
-        requires room { size self ≤ MOST_BYTES + 1 }
-        ensures { Answers (as_fault Mem) result (end_of (record { state = self; lines = lines })) };
+    /// The object of what all lines gave, or the first fault of the end.
+    fn end(whole: Whole<Self>) -> Result<Self::Object, Self::Fault>
+        requires room { size whole.state ≤ MOST_BYTES + 1 }
+        ensures { Answers (as_fault Mem) result (end_of whole) };
 
     /// A refusal in the words of the format.
-    fn fault(refusal: Refusal) -> Self::Fault
+    fn fault(refusal: TextRefusal) -> Self::Fault
         ensures { result ≡ as_fault refusal };
 
     /// Line by line the rules find the first fault.

@@ -6,20 +6,20 @@ ghost use Rattle.rv_text.specs.Held.{Held};
 ghost use Rattle.rv_text.specs.Spelled.{IsOneLine};
 ghost use Rattle.rv_text.specs.declared.fault.TextFault.{TextFault};
 ghost use Rattle.rv_text.specs.declared.lines.TheConstants.{MOST_BYTES};
-ghost use Rattle.rv_reader.specs.declared.refusal.Refusal.{Refusal};
-ghost use Rattle.rv_reader.specs.declared.refusal.Refusal.TheVariants.{Text as Faulty, Mem as OutOfMemory};
+ghost use Rattle.rv_reader.specs.declared.text_refusal.TextRefusal.{TextRefusal};
+ghost use Rattle.rv_reader.specs.declared.text_refusal.TextRefusal.TheVariants.{Text as Faulty, Mem as OutOfMemory};
 ghost use Rattle.rv_reader.specs.Rules.{on_line, lines_read};
 ghost use Rattle.rv_reader.specs.inside.Progress.{reading, refused, fed_on, finished, refusal_of, StandsFor, FedOn};
 ghost use Rattle.rv_reader.specs.inside.Progress.{Leads, IsBetweenLines};
 ghost use Rattle.rv_reader.specs.Feeding.{text_as, unless_refused, Answers};
 
-use crate::{Format, Refusal, Stop, TextReader, Whole};
+use crate::{Format, Stop, TextReader, TextRefusal, Whole};
 use rv_text::{Lines, MOST_BYTES, TextFault};
 use std::alloc::Global;
 use std::marker::Model;
 
 // Reads the line that is ready.
-fn read_ready<S: Format>(lines: &Lines, state: &mut S) -> Result<(), Refusal>
+fn read_ready<S: Format>(lines: &Lines, state: &mut S) -> Result<(), TextRefusal>
     requires ready { lines.now.is_ready ≡ true }
     requires one { IsOneLine lines.now.line }
     requires room { S.size state.old + length lines.now.line ≤ MOST_BYTES }
@@ -29,16 +29,20 @@ fn read_ready<S: Format>(lines: &Lines, state: &mut S) -> Result<(), Refusal>
 {
     match state.read_line(lines.number(), lines.text()) {
         Ok(()) => Ok(()),
-        Err(Stop::Fault(code)) => Err(Refusal::Text(TextFault {
+        Err(Stop::Fault(code)) => Err(TextRefusal::Text(TextFault {
             line: lines.number(),
             code,
         })),
-        Err(Stop::Mem) => Err(Refusal::Mem),
+        Err(Stop::Mem) => Err(TextRefusal::Mem),
     }
 }
 
 // Takes bytes of the piece, up to its first line feed.
-fn take_some<S: Format>(lines: &mut Lines, state: &mut S, piece: &[u8]) -> Result<usize, Refusal>
+fn take_some<S: Format>(
+    lines: &mut Lines,
+    state: &mut S,
+    piece: &[u8],
+) -> Result<usize, TextRefusal>
     requires between { IsBetweenLines lines.old }
     requires size { S.size state.old + length lines.old.line ≤ lines.old.taken }
     requires limit { lines.old.taken + length piece.now ≤ MOST_BYTES }
@@ -56,7 +60,7 @@ fn take_some<S: Format>(lines: &mut Lines, state: &mut S, piece: &[u8]) -> Resul
 {
     let fed = match lines.feed(piece) {
         Ok(fed) => fed,
-        Err(_) => return Err(Refusal::Mem),
+        Err(_) => return Err(TextRefusal::Mem),
     };
     if fed.ready {
         let outcome = read_ready(lines, state);
@@ -71,7 +75,7 @@ fn take_some<S: Format>(lines: &mut Lines, state: &mut S, piece: &[u8]) -> Resul
 }
 
 // Takes the piece.
-fn take_all<S: Format>(lines: &mut Lines, state: &mut S, piece: &[u8]) -> Result<(), Refusal>
+fn take_all<S: Format>(lines: &mut Lines, state: &mut S, piece: &[u8]) -> Result<(), TextRefusal>
     requires between { IsBetweenLines lines.old }
     requires size { S.size state.old + length lines.old.line ≤ lines.old.taken }
     requires limit { lines.old.taken + length piece.now ≤ MOST_BYTES }
@@ -97,7 +101,7 @@ fn take_all<S: Format>(lines: &mut Lines, state: &mut S, piece: &[u8]) -> Result
 }
 
 // Takes a last line that lacks its line feed.
-fn take_last<S: Format>(lines: &mut Lines, state: &mut S) -> Result<(), Refusal>
+fn take_last<S: Format>(lines: &mut Lines, state: &mut S) -> Result<(), TextRefusal>
     requires between { IsBetweenLines lines.old }
     requires size { S.size state.old + length lines.old.line ≤ lines.old.taken }
     ensures size { OnOk result (S.size state.new ≤ MOST_BYTES + 1) }
@@ -120,7 +124,7 @@ fn take_last<S: Format>(lines: &mut Lines, state: &mut S) -> Result<(), Refusal>
 pub struct Reader<S: Format> {
     lines: Lines,
     state: S,
-    refused: Option<Refusal>,
+    refused: Option<TextRefusal>,
 }
 
 impl<S: Format> Model for Reader<S> {
@@ -170,7 +174,7 @@ impl<S: Format> TextReader for Reader<S> {
 
     fn finish(self) -> Result<S::Object, S::Fault> {
         match self.finish_all() {
-            Ok(whole) => whole.state.end(whole.lines),
+            Ok(whole) => S::end(whole),
             Err(refusal) => Err(S::fault(refusal)),
         }
     }
@@ -178,12 +182,12 @@ impl<S: Format> TextReader for Reader<S> {
 
 impl<S: Format> Reader<S> {
     // Takes the piece, unless the reader is refused.
-    fn feed_all(&mut self, piece: &[u8]) -> Result<(), Refusal>
+    fn feed_all(&mut self, piece: &[u8]) -> Result<(), TextRefusal>
         requires { self.old.fed + length piece.now ≤ MOST_BYTES }
         ensures fed { OnOk result (self.new.fed ≡ self.old.fed + length piece.now) }
         ensures fed_most { self.new.fed ≤ self.old.fed + length piece.now }
         ensures gives { FedOn S.rules result self.old.progress self.new.progress piece.now }
-        ensures stays { (refusal : Refusal) → self.old.progress ≡ refused refusal → self.new ≡ self.old }
+        ensures stays { (refusal : TextRefusal) → self.old.progress ≡ refused refusal → self.new ≡ self.old }
     {
         if let Some(refusal) = self.refused {
             return Err(refusal);
@@ -199,10 +203,10 @@ impl<S: Format> Reader<S> {
 
     // What all lines of the text gave, a last one that lacks its line feed too, or the first fault in
     // them.
-    fn finish_all(self) -> Result<Whole<S>, Refusal>
+    fn finish_all(self) -> Result<Whole<S>, TextRefusal>
         ensures gives { Answers OutOfMemory result (finished S.rules self.progress) }
         ensures size { IfOk result (λ whole. S.size whole.state ≤ MOST_BYTES + 1) }
-        ensures stays { (refusal : Refusal) → self.progress ≡ refused refusal → result ≡ Err refusal }
+        ensures stays { (refusal : TextRefusal) → self.progress ≡ refused refusal → result ≡ Err refusal }
     {
         let Reader {
             mut lines,

@@ -22,7 +22,7 @@ use crate::fault::RealFault;
 use crate::header::Header;
 use crate::words::{has_unclosed, word};
 use rv_gate::Circuit;
-use rv_reader::{Format, Refusal, Stop};
+use rv_reader::{Format, Stop, TextRefusal, Whole};
 use rv_text::{TextFault, Token};
 use std::alloc::Global;
 
@@ -184,17 +184,17 @@ impl Format for State {
         }
     }
 
-    fn end(self, lines: u32) -> Result<Circuit, RealFault> {
-        match self {
-            State::Gates { circuit, is_ended } => ended_circuit(circuit, is_ended, lines),
-            State::Header(_) => Err(no_end(lines)),
+    fn end(whole: Whole<State>) -> Result<Circuit, RealFault> {
+        match whole.state {
+            State::Gates { circuit, is_ended } => ended_circuit(circuit, is_ended, whole.lines),
+            State::Header(_) => Err(no_end(whole.lines)),
         }
     }
 
-    fn fault(refusal: Refusal) -> RealFault {
+    fn fault(refusal: TextRefusal) -> RealFault {
         match refusal {
-            Refusal::Text(fault) => RealFault::Text(fault),
-            Refusal::Mem => RealFault::Mem,
+            TextRefusal::Text(fault) => RealFault::Text(fault),
+            TextRefusal::Mem => RealFault::Mem,
         }
     }
 }

@@ -1,7 +1,7 @@
 // The texts of the libraries' faults. The lines of the program do not rest on them.
 use rv_embed::EmbedFault;
 use rv_gate::{LabelFault, NameFault, PushFault};
-use rv_reader::Refusal;
+use rv_reader::TextRefusal;
 use rv_real::RealFault;
 use rv_text::TextFault;
 use std::alloc::Global;
@@ -18,8 +18,8 @@ fn faults_say_what_is_wrong(rt: HostRuntime) {
     let alloc = rt.alloc();
     let fault = TextFault { line: 3, code: 14 };
     expect(&rt, alloc, &fault, "line 3: fault 14");
-    expect(&rt, alloc, &Refusal::Text(fault), "line 3: fault 14");
-    expect(&rt, alloc, &Refusal::Mem, "out of memory");
+    expect(&rt, alloc, &TextRefusal::Text(fault), "line 3: fault 14");
+    expect(&rt, alloc, &TextRefusal::Mem, "out of memory");
     let fault = RealFault::Text(TextFault { line: 1, code: 16 });
     expect(&rt, alloc, &fault, "line 1: fault 16");
     expect(&rt, alloc, &RealFault::Mem, "out of memory");

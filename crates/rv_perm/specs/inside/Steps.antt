@@ -8,8 +8,8 @@ use Rattle.rv_text.specs.Decimal.{is_decimal, decimal_value}
 use Rattle.rv_text.specs.Tokens.{Lexeme, tokens_of, joined}
 use Rattle.rv_marks.specs.Row.{marks_of, constant_of, garbage_of}
 use Rattle.rv_reader.specs.Rules.{Rules, ◌>>=◌, broken, found_or}
-use Rattle.rv_reader.specs.declared.refusal.Refusal.{Refusal}
-use Rattle.rv_reader.specs.declared.refusal.Refusal.TheVariants as refusals
+use Rattle.rv_reader.specs.declared.text_refusal.TextRefusal.{TextRefusal}
+use Rattle.rv_reader.specs.declared.text_refusal.TextRefusal.TheVariants as refusals
 use Rattle.rv_reader.specs.declared.whole.Whole.{Whole}
 use Rattle.rv_perm.specs.declared.code.TheConstants as code
 use Rattle.rv_perm.specs.declared.fault.PermFault.{PermFault}
@@ -85,6 +85,6 @@ abbrev pub end_given : Whole Given → Result Marked PermFault
 end_given whole = end_on (lines_for whole.state.count) whole.state
 
 -- why a text was refused, before its end
-abbrev pub as_fault : Refusal → PermFault
+abbrev pub as_fault : TextRefusal → PermFault
 as_fault (refusals.Text fault) = faults.Text fault
 as_fault refusals.Mem = faults.Mem

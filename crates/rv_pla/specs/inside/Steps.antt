@@ -3,8 +3,8 @@ use Rattle.std.specs.Prelude.{ℕ, ◌+◌, true, not, List, [], ◌∷◌, ◌+
 use Rattle.std.specs.Str.{bytes_eq}
 use Rattle.rv_text.specs.Tokens.{Lexeme, joined}
 use Rattle.rv_reader.specs.Rules.{Rules, ◌>>=◌, broken}
-use Rattle.rv_reader.specs.declared.refusal.Refusal.{Refusal}
-use Rattle.rv_reader.specs.declared.refusal.Refusal.TheVariants as refusals
+use Rattle.rv_reader.specs.declared.text_refusal.TextRefusal.{TextRefusal}
+use Rattle.rv_reader.specs.declared.text_refusal.TextRefusal.TheVariants as refusals
 use Rattle.rv_reader.specs.declared.whole.Whole.{Whole}
 use Rattle.rv_pla.specs.declared.cube.TheConstants.{MOST_INPUTS, MOST_OUTPUTS}
 use Rattle.rv_pla.specs.declared.code.TheConstants as code
@@ -75,6 +75,6 @@ abbrev pub end_given : Whole Given → Result TwoLevel PlaFault
 end_given whole = pla_with whole.state.inputs whole.state.outputs whole.lines whole.state.kind whole.state.terms
 
 -- why a text was refused, before its end
-abbrev pub as_fault : Refusal → PlaFault
+abbrev pub as_fault : TextRefusal → PlaFault
 as_fault (refusals.Text fault) = faults.Text fault
 as_fault refusals.Mem = faults.Mem

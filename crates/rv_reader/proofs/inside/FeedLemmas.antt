@@ -9,8 +9,8 @@ use Rattle.rv_text.specs.Spelled.{IsOneLine}
 use Rattle.rv_text.proofs.inside.Spelled.{list_all-push}
 use Rattle.rv_text.proofs.Cuts.{ended_after-append, begun_after-append}
 use Rattle.rv_text.specs.declared.fault.TextFault.{TextFault}
-use Rattle.rv_reader.specs.declared.refusal.Refusal.{Refusal}
-use Rattle.rv_reader.specs.declared.refusal.Refusal.TheVariants as refusals
+use Rattle.rv_reader.specs.declared.text_refusal.TextRefusal.{TextRefusal}
+use Rattle.rv_reader.specs.declared.text_refusal.TextRefusal.TheVariants as refusals
 use Rattle.rv_reader.specs.Rules.{Rules, ◌>>=◌, on_line, lines_read, with_count, whole_of}
 use Rattle.rv_reader.specs.inside.Progress.{Progress, reading, refused, Feeding, lines_gave, fed_on, progress_of, StandsFor, told, as_is, finished, FedOn, Stops, IsBetweenLines, ended_read}
 use Rattle.rv_reader.specs.Feeding.{Answers, faulted, checked}
@@ -54,7 +54,7 @@ checked-Ok : {X : Type 0} (r : Result X TextFault) (begun : List ℕ) (number : 
 checked-Ok (Ok x) begun number h = refl
 checked-Ok (Err fault) begun number h = absurd cc
 
-checked-Err : {X : Type 0} (r : Result X TextFault) (begun : List ℕ) (number : ℕ) (refusal : Refusal) → lines_gave begun number r ≡ refused refusal → Err refusal ≡ checked refusals.Text r
+checked-Err : {X : Type 0} (r : Result X TextFault) (begun : List ℕ) (number : ℕ) (refusal : TextRefusal) → lines_gave begun number r ≡ refused refusal → Err refusal ≡ checked refusals.Text r
 checked-Err (Ok x) begun number refusal h = absurd cc
 checked-Err (Err fault) begun number refusal h = cc
 
@@ -137,7 +137,7 @@ module _ {S : Type 0} (rules : Rules S) where
       took_line old new piece used ready s took is_ready ∙ rw there (ap (λ n. reading [] n t) (sym counted))
 
   -- a fault in it is a fault of the piece
-  pub took_fault : (old new : Held) (piece : List ℕ) (used : ℕ) (ready : Bool) (s : S) (e : Refusal) → TakesPiece old piece used ready new → ready ≡ true
+  pub took_fault : (old new : Held) (piece : List ℕ) (used : ℕ) (ready : Bool) (s : S) (e : TextRefusal) → TakesPiece old piece used ready new → ready ≡ true
       → Stops e (on_line new.number (rules.line_of s new.number new.line)) → (e ≡ refusals.Mem) ⊎ (fed_on rules (reading old.line old.number s) piece ≡ refused e)
   took_fault old new piece used ready s (refusals.Text f) took is_ready fails =
       let counted : new.number ≡ old.number + 1 = took.number ∙ ap (λ (b : Bool). old.number + cond b 1 0) is_ready in
@@ -160,12 +160,12 @@ module _ {S : Type 0} (rules : Rules S) where
   unfolding progress_of
   stands_more p new text piece stood fed = sym fed ∙ ap (λ (x : Progress S). fed_on rules x piece) stood ∙ sym (fed_on-append (reading [] 0 rules.start) text piece)
 
-  pub stands_on : (r : Result (Unit {0}) Refusal) (old new : Feeding S) (text piece : List ℕ) → StandsFor rules old text → FedOn rules r old.progress new.progress piece → OnOk r (StandsFor rules new (text ++ piece))
+  pub stands_on : (r : Result (Unit {0}) TextRefusal) (old new : Feeding S) (text piece : List ℕ) → StandsFor rules old text → FedOn rules r old.progress new.progress piece → OnOk r (StandsFor rules new (text ++ piece))
   stands_on (Ok x) old new text piece stood fed = record { progress = stands_more old.progress new.progress text piece stood.progress fed.0 }
   stands_on (Err e) old new text piece stood fed = tt
 
   -- where the fault is
-  pub says : (r : Result (Unit {0}) Refusal) (old new : Feeding S) (text piece : List ℕ) → StandsFor rules old text → FedOn rules r old.progress new.progress piece → Answers refusals.Mem r (checked refusals.Text (ended_read rules (text ++ piece)))
+  pub says : (r : Result (Unit {0}) TextRefusal) (old new : Feeding S) (text piece : List ℕ) → StandsFor rules old text → FedOn rules r old.progress new.progress piece → Answers refusals.Mem r (checked refusals.Text (ended_read rules (text ++ piece)))
   unfolding progress_of
   says (Ok x) old new text piece stood fed = inr (checked-Ok _ (begun_after [] (text ++ piece)) (0 + length (ended_after [] (text ++ piece))) (ap (told as_is) (sym (stands_more old.progress new.progress text piece stood.progress fed.0)) ∙ fed.1))
   says (Err e) old new text piece stood fed = elim fed.1 [
@@ -174,7 +174,7 @@ module _ {S : Type 0} (rules : Rules S) where
   ]
 
   -- and that it stays
-  pub holds : (r : Result (Unit {0}) Refusal) (old new : Feeding S) (text piece : List ℕ) → StandsFor rules old text → FedOn rules r old.progress new.progress piece
+  pub holds : (r : Result (Unit {0}) TextRefusal) (old new : Feeding S) (text piece : List ℕ) → StandsFor rules old text → FedOn rules r old.progress new.progress piece
       → (fault : TextFault) → r ≡ Err (refusals.Text fault) → (more : List ℕ) → whole_of rules ((text ++ piece) ++ more) ≡ Err fault
   unfolding progress_of
   holds (Ok x) old new text piece stood fed fault is more = absurd cc
@@ -185,6 +185,6 @@ module _ {S : Type 0} (rules : Rules S) where
         ended_holds (text ++ piece) more fault (lines_gave-Err _ _ _ fault (sym (stands_more old.progress (fed_on rules old.progress piece) text piece stood.progress refl) ∙ gave ∙ ap refused there)))
   ]
 
-  pub tells : (r : Result (Unit {0}) Refusal) (old new : Progress S) (piece : List ℕ) → FedOn rules r old new piece → r ≡ told as_is new
+  pub tells : (r : Result (Unit {0}) TextRefusal) (old new : Progress S) (piece : List ℕ) → FedOn rules r old new piece → r ≡ told as_is new
   tells (Ok x) old new piece fed = sym fed.1
   tells (Err e) old new piece fed = sym (ap (told as_is) fed.0)

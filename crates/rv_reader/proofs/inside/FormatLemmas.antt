@@ -3,8 +3,8 @@ use Rattle.std.specs.Option.{option_map}
 use Rattle.std.specs.Result.{result_err}
 use Rattle.std.proofs.Common.{◌≡◌, ◌⊎◌, ℕ, List, [], ◌++◌, Option, Result, Ok, Err, refl, sym, ap, subst, ◌∙◌, inl, inr}
 use Rattle.rv_text.specs.declared.fault.TextFault.{TextFault}
-use Rattle.rv_reader.specs.declared.refusal.Refusal.{Refusal}
-use Rattle.rv_reader.specs.declared.refusal.Refusal.TheVariants as refusals
+use Rattle.rv_reader.specs.declared.text_refusal.TextRefusal.{TextRefusal}
+use Rattle.rv_reader.specs.declared.text_refusal.TextRefusal.TheVariants as refusals
 use Rattle.rv_reader.specs.declared.whole.Whole.{Whole}
 use Rattle.rv_reader.specs.Rules.{Rules, ◌>>=◌, lines_read, whole_of}
 use Rattle.rv_reader.specs.inside.Progress.{Feeding, StandsFor, FedOn, finished, ended_read}
@@ -12,7 +12,7 @@ use Rattle.rv_reader.specs.Feeding.{Answers, faulted, checked, text_as, object_o
 use Rattle.rv_text.specs.Lines.{ended_after}
 use Rattle.rv_reader.proofs.inside.FeedLemmas.{ended_holds, says, finished_whole}
 
-checked-Err-back : {Y : Type 0} (refusal : Refusal) (r : Result Y TextFault) → Err refusal ≡ checked refusals.Text r → (f : TextFault) × ((refusal ≡ refusals.Text f) × (r ≡ Err f))
+checked-Err-back : {Y : Type 0} (refusal : TextRefusal) (r : Result Y TextFault) → Err refusal ≡ checked refusals.Text r → (f : TextFault) × ((refusal ≡ refusals.Text f) × (r ≡ Err f))
 checked-Err-back refusal (Ok y) h = absurd cc
 checked-Err-back refusal (Err f) h = (f, (cc, refl))
 
@@ -27,7 +27,7 @@ pub fault_found : {S E : Type 0} (rules : Rules S) (text : TextFault → E) (fau
 fault_found rules text fault_in bytes finds =
     checked_fault text (ended_read rules bytes) ∙ ap (λ f. unless_refused (option_map text f)) (finds (ended_after [] bytes))
 
-module _ {S X E : Type 0} (rules : Rules S) (as_fault : Refusal → E) (end : Whole S → Result X E) where
+module _ {S X E : Type 0} (rules : Rules S) (as_fault : TextRefusal → E) (end : Whole S → Result X E) where
   -- a piece was taken
   pub taken : (old new : Feeding S) (text piece : List ℕ) → StandsFor rules old text → FedOn rules (Ok tt) old.progress new.progress piece
       → Answers (as_fault refusals.Mem) (Ok tt) (checked (text_as as_fault) (ended_read rules (text ++ piece)))
@@ -37,7 +37,7 @@ module _ {S X E : Type 0} (rules : Rules S) (as_fault : Refusal → E) (end : Wh
   ] (says rules (Ok tt) old new text piece stood fed)
 
   -- a piece was refused
-  pub refused : (old new : Feeding S) (text piece : List ℕ) (refusal : Refusal) → StandsFor rules old text → FedOn rules (Err refusal) old.progress new.progress piece
+  pub refused : (old new : Feeding S) (text piece : List ℕ) (refusal : TextRefusal) → StandsFor rules old text → FedOn rules (Err refusal) old.progress new.progress piece
       → Answers (as_fault refusals.Mem) (Err (as_fault refusal)) (checked (text_as as_fault) (ended_read rules (text ++ piece)))
   refused old new text piece refusal stood fed = elim (says rules (Err refusal) old new text piece stood fed) [
     | inl mem ↦ inl (let is : refusal ≡ refusals.Mem = cc in ap (λ r. Err (as_fault r)) is)
@@ -49,7 +49,7 @@ module _ {S X E : Type 0} (rules : Rules S) (as_fault : Refusal → E) (end : Wh
   -- by what a text denotes, which is what its lines give
   module _ (denoted : List ℕ → Result X E) (denotes : (text : List ℕ) → object_of rules as_fault end text ≡ denoted text) where
     -- and each text that goes on so has that fault
-    pub stays_refused : (old new : Feeding S) (text piece : List ℕ) (refusal : Refusal) → StandsFor rules old text → FedOn rules (Err refusal) old.progress new.progress piece
+    pub stays_refused : (old new : Feeding S) (text piece : List ℕ) (refusal : TextRefusal) → StandsFor rules old text → FedOn rules (Err refusal) old.progress new.progress piece
         → (as_fault refusal ≡ as_fault refusals.Mem) ⊎ ((more : List ℕ) → denoted ((text ++ piece) ++ more) ≡ Err (as_fault refusal))
     unfolding object_of
     stays_refused old new text piece refusal stood fed = elim (says rules (Err refusal) old new text piece stood fed) [
@@ -70,7 +70,7 @@ module _ {S X E : Type 0} (rules : Rules S) (as_fault : Refusal → E) (end : Wh
     ] (subst (Answers refusals.Mem (Ok whole)) (ap (finished rules) stood.progress ∙ finished_whole rules text) read))
 
     -- the lines were refused
-    pub refuses : (reader : Feeding S) (text : List ℕ) (refusal : Refusal) → StandsFor rules reader text
+    pub refuses : (reader : Feeding S) (text : List ℕ) (refusal : TextRefusal) → StandsFor rules reader text
         → Answers refusals.Mem (Err refusal) (finished rules reader.progress)
         → Answers (as_fault refusals.Mem) (Err (as_fault refusal)) (denoted text)
     unfolding object_of

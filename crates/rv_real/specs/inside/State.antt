@@ -5,8 +5,8 @@ use Rattle.std.proofs.Common.{ap, add-zero, arith, ◌∙◌, sym}
 use Rattle.rv_text.specs.declared.fault.TextFault.{TextFault}
 use Rattle.rv_text.specs.Lines.{lines_of}
 use Rattle.rv_text.specs.Tokens.{Lexeme, tokens_of}
-use Rattle.rv_reader.specs.declared.refusal.Refusal.{Refusal}
-use Rattle.rv_reader.specs.declared.refusal.Refusal.TheVariants as refusals
+use Rattle.rv_reader.specs.declared.text_refusal.TextRefusal.{TextRefusal}
+use Rattle.rv_reader.specs.declared.text_refusal.TextRefusal.TheVariants as refusals
 use Rattle.rv_reader.specs.declared.whole.Whole.{Whole}
 use Rattle.rv_reader.specs.Rules.{Rules, ◌>>=◌, broken, on_line, lines_read, with_count, whole_of}
 use Rattle.rv_reader.specs.Feeding.{faulted, text_as, object_of}
@@ -73,7 +73,7 @@ abbrev pub end_of : Whole State → Result Cascade RealFault
 end_of whole = faulted faults.Text (end_in whole.state whole.lines)
 
 -- why a text was refused, before its end
-abbrev pub as_fault : Refusal → RealFault
+abbrev pub as_fault : TextRefusal → RealFault
 as_fault (refusals.Text fault) = faults.Text fault
 as_fault refusals.Mem = faults.Mem
 

@@ -1,6 +1,6 @@
 use Rattle.std.proofs.Common.{◌++◌, Ok, Err, subst}
 use Rattle.rv_reader.specs.Feeding.{Answers, text_as}
-use Rattle.rv_reader.specs.declared.refusal.Refusal.TheVariants.{Mem as OutOfMemory}
+use Rattle.rv_reader.specs.declared.text_refusal.TextRefusal.TheVariants.{Mem as OutOfMemory}
 use Rattle.rv_reader.proofs.inside.FeedLemmas.{stands_on}
 use Rattle.rv_reader.proofs.inside.FormatLemmas.{fault_found, taken, refused, stays_refused}
 use Rattle.rv_reader.proofs.reader.ReaderTextReader.feed.Goals as goal

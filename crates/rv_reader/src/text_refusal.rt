@@ -3,7 +3,7 @@ use thiserror::Error;
 
 /// Why a text was refused.
 #[derive(Clone, Copy, Debug, PartialEq, Eq, Error)]
-pub enum Refusal {
+pub enum TextRefusal {
     /// The text is not of its format.
     #[error("{0}")]
     Text(TextFault),
