@@ -382,8 +382,8 @@ impl Format for State {
         self.read_whole(number, line)
     }
 
-    fn end(whole: Whole<State>) -> Result<Logic, BlifFault> {
-        end_of(whole)
+    fn end(self, lines: u32) -> Result<Logic, BlifFault> {
+        end_of(Whole { state: self, lines })
     }
 
     fn fault(refusal: TextRefusal) -> BlifFault {

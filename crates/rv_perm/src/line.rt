@@ -190,8 +190,8 @@ impl Format for State {
         }
     }
 
-    fn end(whole: Whole<State>) -> Result<PermSpec, PermFault> {
-        end_of(whole)
+    fn end(self, lines: u32) -> Result<PermSpec, PermFault> {
+        end_of(Whole { state: self, lines })
     }
 
     fn fault(refusal: TextRefusal) -> PermFault {

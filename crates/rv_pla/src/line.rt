@@ -213,8 +213,8 @@ impl Format for State {
         }
     }
 
-    fn end(whole: Whole<State>) -> Result<Pla, PlaFault> {
-        end_of(whole)
+    fn end(self, lines: u32) -> Result<Pla, PlaFault> {
+        end_of(Whole { state: self, lines })
     }
 
     fn fault(refusal: TextRefusal) -> PlaFault {

@@ -10,7 +10,7 @@ ghost use Rattle.rv_reader.specs.Rules.{Rules, lines_read};
 ghost use Rattle.rv_reader.specs.Gives.{StepGives};
 ghost use Rattle.rv_reader.specs.Feeding.{Answers, object_of};
 
-use crate::{Stop, TextRefusal, Whole};
+use crate::{Stop, TextRefusal};
 use std::alloc::Global;
 
 /// A format that is read line by line: what its lines gave so far.
@@ -54,10 +54,10 @@ pub trait Format: Drop {
         ensures gives { StepGives result self.new (rules.line_of self.old number line.now) }
         ensures size { OnOk result (size self.new ≤ size self.old + length line.now + 1) };
 
-    /// The object of what all lines gave, or the first fault of the end.
-    fn end(whole: Whole<Self>) -> Result<Self::Object, Self::Fault>
-        requires room { size whole.state ≤ MOST_BYTES + 1 }
-        ensures { Answers (as_fault Mem) result (end_of whole) };
+    /// The object of all lines, which are so many, or the first fault of the end.
+    fn end(self, lines: u32) -> Result<Self::Object, Self::Fault>
+        requires room { size self ≤ MOST_BYTES + 1 }
+        ensures { Answers (as_fault Mem) result (end_of (record { state = self; lines = lines })) };
 
     /// A refusal in the words of the format.
     fn fault(refusal: TextRefusal) -> Self::Fault

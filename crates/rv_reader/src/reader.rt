@@ -174,7 +174,7 @@ impl<S: Format> TextReader for Reader<S> {
 
     fn finish(self) -> Result<S::Object, S::Fault> {
         match self.finish_all() {
-            Ok(whole) => S::end(whole),
+            Ok(whole) => whole.state.end(whole.lines),
             Err(refusal) => Err(S::fault(refusal)),
         }
     }

@@ -22,7 +22,7 @@ use crate::fault::RealFault;
 use crate::header::Header;
 use crate::words::{has_unclosed, word};
 use rv_gate::Circuit;
-use rv_reader::{Format, Stop, TextRefusal, Whole};
+use rv_reader::{Format, Stop, TextRefusal};
 use rv_text::{TextFault, Token};
 use std::alloc::Global;
 
@@ -184,10 +184,10 @@ impl Format for State {
         }
     }
 
-    fn end(whole: Whole<State>) -> Result<Circuit, RealFault> {
-        match whole.state {
-            State::Gates { circuit, is_ended } => ended_circuit(circuit, is_ended, whole.lines),
-            State::Header(_) => Err(no_end(whole.lines)),
+    fn end(self, lines: u32) -> Result<Circuit, RealFault> {
+        match self {
+            State::Gates { circuit, is_ended } => ended_circuit(circuit, is_ended, lines),
+            State::Header(_) => Err(no_end(lines)),
         }
     }
 
