@@ -102,11 +102,6 @@ pub with_nodes-push : (nodes : List Node) (node : Node) (bits : List Bool)
 with_nodes-push [] node bits = refl
 with_nodes-push (first ∷ nodes) node bits = with_nodes-push nodes node (bits ++ node_value first bits ∷ [])
 
-pub length-with_nodes : (nodes : List Node) (bits : List Bool) → length (with_nodes nodes bits) ≡ length bits + length nodes
-length-with_nodes [] bits = omega arith
-length-with_nodes (node ∷ nodes) bits =
-    length-with_nodes nodes (bits ++ node_value node bits ∷ []) ∙ omega (arith, length-append bits (node_value node bits ∷ []))
-
 pub node_more : (nodes : List Node) (rows : List Row) (inputs k : ℕ) (node none : Node) (bits : List Bool) (row : Row) (j : ℕ)
     → inputs + k < length rows → k < length nodes → get_or nodes k none ≡ node
     → take (inputs + k) (column rows j) ≡ with_nodes (take k nodes) bits

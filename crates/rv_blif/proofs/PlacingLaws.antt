@@ -29,11 +29,6 @@ signal_set (s ∷ signals) zero signal most lt h (suc name) = h (suc name)
 signal_set (s ∷ signals) (suc x) signal most lt h zero = h zero
 signal_set (s ∷ signals) (suc x) signal most lt h (suc name) = signal_set signals x signal most lt (λ n. h (suc n)) name
 
-pub none_below : (n most : ℕ) → AreBelow (replicate n None) most
-none_below zero most name = tt
-none_below (suc n) most zero = tt
-none_below (suc n) most (suc name) = none_below n most name
-
 -- the signals of names that are placed
 pub operands_below : (signals : List (Option ℕ)) (names : List ℕ) (most : ℕ) → all_placed signals names ≡ true → AreBelow signals most
     → All (λ s. s < most) (signals_by signals names)
@@ -81,12 +76,6 @@ pub covers_front : (covers : List Cover) (p : Placing) (numbers : List ℕ) (i d
     → with_covers covers p (drop i numbers)
     ≡ with_covers covers (with_cover_at p (get_or numbers i d) (slice_get covers (get_or numbers i d))) (drop (i + 1) numbers)
 covers_front covers p numbers i d lt = rw (add-one, drop-cons numbers i d) refl
-
-pub inputs_front : (signal : ℕ) (signals : List (Option ℕ)) (inputs : List ℕ) (i d : ℕ) → i < length inputs
-    → with_inputs signal signals (drop i inputs) ≡ with_inputs (signal + 1) (set signals (get_or inputs i d) (Some signal)) (drop (i + 1) inputs)
-inputs_front signal signals inputs i d lt =
-    ap (with_inputs signal signals) (drop-cons inputs i d lt)
-    ∙ ap (λ k. with_inputs (signal + 1) (set signals (get_or inputs i d) (Some signal)) (drop k inputs)) (sym (add-one i))
 
 pub rounds_on : (n : ℕ) (covers : List Cover) (p q start : Placing) → 0 < n → q ≡ round covers p → (length q.nodes ≡ length p.nodes → ⊥)
     → rounds n covers p ≡ start → rounds (n - 1) covers q ≡ start

@@ -6,7 +6,7 @@ use Rattle.std.specs.Int.Bits.{xor_assoc, xor_self, xor_zero_l}
 use Rattle.std.proofs.lemmas.Bool.{cases_eq, cases_lt, eqb-true, eqb-false, or_left, or_right}
 use Rattle.std.proofs.lemmas.Nat.{shr-shr, one_shl, pow_pos}
 use Rattle.std.proofs.Math.Nat.{div-lt_iff_lt-mul}
-use Rattle.std.proofs.lemmas.Nat.Bits.{shr_and_one, bit_at-lt, bit_at-zero, bit_at_and, bit_at_or, bit_at_xor, bit_at-pow_same, bit_at-pow_other, bit_at-trailing_zeros, bit_at_above, same_from_bits, same_from_bits_below}
+use Rattle.std.proofs.lemmas.Nat.Bits.{bit_at-lt, bit_at-zero, bit_at_and, bit_at_or, bit_at_xor, bit_at-pow_same, bit_at-pow_other, bit_at-trailing_zeros, bit_at_above, same_from_bits, same_from_bits_below}
 use Rattle.rv_gate.specs.Word.{has}
 use Rattle.rv_gate.specs.Gate.{xor, Within}
 use Rattle.rv_gate.proofs.Bits.{eqb_refl, or_assoc, or_off}
@@ -138,10 +138,6 @@ has-or_one_shl care target line h = ap (λ s. has (bit_or care s) line) (one_shl
 
 pub has-one_shl : (target line : ℕ) → target < 64 → has (1 * 2 ^ target % 2 ^ 64) line ≡ eqb line target
 has-one_shl target line h = ap (λ s. has s line) (one_shl target 64 h) ∙ has-line target line
-
--- the test `set >> line & 1 == 1` failed
-pub free_line : (lines line : ℕ) → (bit_and (lines / 2 ^ line) 1 ≡ 1 → ⊥) → has lines line ≡ false
-free_line lines line h = ne_eqb _ 1 (λ e. h (shr_and_one lines line ∙ e))
 
 -- ---- sets without a common line, and subsets
 

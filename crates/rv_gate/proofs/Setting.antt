@@ -1,6 +1,6 @@
 -- The entries of the lines, set one after another.
 use Rattle.std.proofs.Common.{◌≡◌, ℕ, ◌+◌, ◌<◌, List, [], ◌∷◌, ◌++◌, length, take, slice_get, get_or, Some, refl, sym, ap, ◌∙◌, arith, set, length-set}
-use Rattle.std.proofs.lemmas.List.{take_all, take_more}
+use Rattle.std.proofs.lemmas.List.{take_more}
 use Rattle.std.proofs.lemmas.Option.{get_or_from_slice_get}
 use Rattle.std.proofs.lemmas.Grind.{take-set_at}
 
@@ -8,9 +8,6 @@ use Rattle.std.proofs.lemmas.Grind.{take-set_at}
 pub record IsSetting {A : Type 0} (given now : List A) (line : ℕ) : Type 0 where
   pub count : length now ≡ length given
   pub same : take line now ≡ take line given
-
-pub IsSetting-none : {A : Type 0} (given now : List A) → length now ≡ length given → IsSetting given now 0
-IsSetting-none given now count = record { count = count; same = refl }
 
 -- the entry of one more line is set, which is known by its place
 pub IsSetting-more_at : {A : Type 0} (given now : List A) (line : ℕ) (x : A) → IsSetting given now line → line < length given → x ≡ get_or given line x → IsSetting given (set now line x) (line + 1)
@@ -21,7 +18,3 @@ IsSetting-more_at given now line x so_far lt is = record {
 
 pub IsSetting-more : {A : Type 0} (given now : List A) (line : ℕ) (x : A) → IsSetting given now line → line < length given → slice_get given line ≡ Some x → IsSetting given (set now line x) (line + 1)
 IsSetting-more given now line x so_far lt is = IsSetting-more_at given now line x so_far lt (sym (get_or_from_slice_get given line x x is))
-
-pub IsSetting-all : {A : Type 0} (given now : List A) (line : ℕ) → length given ≡ line → IsSetting given now line → now ≡ given
-IsSetting-all given now line e all =
-    sym (take_all line now (omega (arith, all.count))) ∙ all.same ∙ take_all line given (omega arith)

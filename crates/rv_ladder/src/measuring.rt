@@ -1,77 +1,15 @@
 // How many lines and operations there would be, before any is made.
 ghost use Rattle.std.specs.List.{sum_by};
 ghost use Rattle.std.specs.Prelude.{◌≡◌, ◌+◌, ◌*◌, ◌<◌, ◌≤◌, ◌↔◌, ℕ, length, IfOk, Err};
-ghost use Rattle.rv_gate.specs.Greatest.{greatest};
 ghost use Rattle.rv_gate.specs.declared.circuit.TheConstants.{MOST_GATES};
-ghost use Rattle.rv_mct.specs.Blocks.{added, flip_wish, wish};
+ghost use Rattle.rv_mct.specs.Blocks.{added};
 ghost use Rattle.rv_ladder.specs.Counts.{flip_count, gate_count, gates_count, ladder_count, long_count, operations};
 ghost use Rattle.rv_ladder.specs.Counts.{zero_count};
 
 use crate::RelativeFault;
 use rv_gate::{Circuit, Gate, LineSet, MOST_GATES, MOST_LINES, Shape};
-use rv_mct::{Aux, count_lines, flips_of, free_count};
+use rv_mct::{Aux, added, count_lines, flips_of, free_count};
 use rv_net::MOST_OPS;
-
-fn flip_wish(aux: Aux, lines: u8, flip: Gate) -> u8
-    requires { lines ≤ MOST_LINES }
-    ensures value { result ≡ flip_wish aux lines flip }
-    ensures few { result ≤ MOST_LINES }
-{
-    if let Shape::Flip { care, target, .. } = flip.shape() {
-        let controls = count_lines(care);
-        if controls < 3 {
-            return 0;
-        }
-        match aux {
-            Aux::Clean => return controls - 2,
-            Aux::Borrowed => {
-                if free_count(care, target, lines) == 0 {
-                    return 1;
-                }
-            }
-        }
-    }
-    0
-}
-
-fn most_wished(flips: &[Gate], aux: Aux, lines: u8) -> u8
-    requires { lines ≤ MOST_LINES }
-    ensures value { result ≡ greatest (flip_wish aux lines) flips.now }
-    ensures few { result ≤ MOST_LINES }
-{
-    let mut most = 0;
-    for flip in flips {
-        let wanted = flip_wish(aux, lines, *flip);
-        if most < wanted {
-            most = wanted;
-        }
-    }
-    most
-}
-
-fn wish(aux: Aux, lines: u8, gate: Gate) -> u8
-    requires { lines ≤ MOST_LINES }
-    ensures value { result ≡ wish aux lines gate }
-    ensures few { result ≤ MOST_LINES }
-{
-    let (flips, count) = flips_of(gate);
-    most_wished(&flips[..count], aux, lines)
-}
-
-fn added(gates: &[Gate], aux: Aux, lines: u8) -> u8
-    requires { lines ≤ MOST_LINES }
-    ensures value { result ≡ added aux lines gates.now }
-    ensures few { result ≤ MOST_LINES }
-{
-    let mut most = 0;
-    for gate in gates {
-        let wanted = wish(aux, lines, *gate);
-        if most < wanted {
-            most = wanted;
-        }
-    }
-    most
-}
 
 // How many controls want 0.
 fn zero_count(care: LineSet, want: LineSet) -> u8

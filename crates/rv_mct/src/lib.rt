@@ -29,3 +29,4 @@ pub use decomposing::{Decomposed, decompose};
 pub use fault::MctFault;
 pub use gate::flips_of;
 pub use lines::{controls_of, count_lines, first_control, first_free, free_count, free_lines};
+pub use measuring::added;

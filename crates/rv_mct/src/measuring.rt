@@ -6,7 +6,8 @@ use crate::gate::{gate_cost, wish};
 use crate::{Aux, MctFault};
 use rv_gate::{Circuit, Gate, MOST_GATES, MOST_LINES};
 
-fn added(gates: &[Gate], aux: Aux, lines: u8) -> u8
+/// How many lines the gates of a circuit on so many lines want beside them: the most that one of their flips wants.
+pub fn added(gates: &[Gate], aux: Aux, lines: u8) -> u8
     requires { lines ≤ MOST_LINES }
     ensures value { result ≡ added aux lines gates.now }
     ensures few { result ≤ MOST_LINES }

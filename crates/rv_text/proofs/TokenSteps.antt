@@ -2,11 +2,7 @@
 use Rattle.std.proofs.Common.{◌≡◌, ◌≢◌, ℕ, suc, ◌+◌, ◌-◌, ◌<◌, ◌≤◌, Bool, true, false, List, [], ◌∷◌, ◌++◌, length, get_or, drop, slice_range, refl, ◌∙◌, add-one, arith, drop-cons, nat_eq, length-drop, get_or-drop}
 use Rattle.std.proofs.Math.Seq.{take-suc}
 use Rattle.std.proofs.lemmas.Bool.{ne_eqb}
-use Rattle.rv_text.specs.Tokens.{Lexeme, tokens_from, between, inside, quoting, is_blank}
-
-pub step_blank : (quotes : Bool) (blanks line : List ℕ) (i : ℕ) → i < length line → is_blank blanks (get_or line i 0) ≡ true
-    → tokens_from quotes blanks between (drop (i + 1) line) ≡ tokens_from quotes blanks between (drop i line)
-step_blank quotes blanks line i lt h = rw (add-one, drop-cons line i 0, h) refl
+use Rattle.rv_text.specs.Tokens.{Lexeme, tokens_from, inside, quoting, is_blank}
 
 pub step_plain : (quotes : Bool) (blanks line begun : List ℕ) (i : ℕ) → i < length line → is_blank blanks (get_or line i 0) ≡ false → nat_eq (get_or line i 0) 35 ≡ false
     → tokens_from quotes blanks (inside (begun ++ get_or line i 0 ∷ [])) (drop (i + 1) line) ≡ tokens_from quotes blanks (inside begun) (drop i line)

@@ -316,31 +316,6 @@ own_first logic =
       few = record { few = omega arith; fit = λ k d lt. absurd (omega arith) };
     }
 
-pub own_ended : (logic : Logic) (count : ℕ) (gates : List Shape) → Own logic (length logic.outputs) 0 count gates
-    → Ended logic (length logic.nodes) gates
-own_ended logic count gates h = record {
-  held = h.held;
-  stands = h.stands;
-  done = λ line lt.
-      let n : ℕ = length logic.inputs in
-      let size = h.stands.count in
-      let there : Option ℕ = option_map (λ (o : Output). o.signal) (slice_get logic.outputs (line - n)) in
-      elim (cases_lt line n) [
-        | inl input ↦
-            (ap (held_at h.held) (sym (own_before logic line input)) ∙ h.own line (omega arith)
-            ∙ sym (ap (λ t. cond t (Some line) there) (lt-ltb line n input)))
-        | inr later ↦
-            (elim (cases_lt line (n + length logic.outputs)) [
-              | inl output ↦ h.copies line later output
-              | inr work ↦
-                  (h.no_node line (omega arith) (omega arith)
-                  ∙ sym (ap (λ t. cond t (Some line) there) (le-ltb line n later)
-                  ∙ ap (option_map (λ (o : Output). o.signal)) (slice_get_past logic.outputs (line - n) (omega arith))))
-            ])
-      ];
-  fit = h.few.fit;
-}
-
 twice : (nodes : List Node) → sum_by node_bound nodes ≡ 2 * sum_by (λ (node : Node). 2 ^ length node.operands) nodes
 twice [] = refl
 twice (node ∷ nodes) =

@@ -183,18 +183,6 @@ finish logic extra held gates target products signals next (Ok false) new_held n
     subst P (sym put.0) (subst Q (sym put.1) stands)
 finish logic extra held gates target products signals next (Err e) new_held new_gates stands lt change put = tt
 
--- the places that were found serve
-pub put_for : {E : Type 0} (logic : Logic) (held : List (Option ℕ)) (gates : List Shape) (target : ℕ)
-    (products : List Product) (signals : List ℕ) (places : List (Option Place)) (next : Option ℕ)
-    (result : Result Bool E) (new_held : List (Option ℕ)) (new_gates : List Shape)
-    → ArePlacesFor logic held target signals places
-    → IfOk result (IsPut places target products next held gates new_held new_gates)
-    → IfOk result (IsPutFor logic signals target products next held gates new_held new_gates)
-put_for logic held gates target products signals places next (Ok true) new_held new_gates are put =
-    record { places = places; are = are; puts = put }
-put_for logic held gates target products signals places next (Ok false) new_held new_gates are put = put
-put_for logic held gates target products signals places next (Err e) new_held new_gates are put = tt
-
 -- an entry that is there, by any default
 pub by_default : {A : Type 0} (xs : List A) (i : ℕ) (d e : A) → i < length xs → get_or xs i d ≡ get_or xs i e
 by_default [] i d e lt = absurd (omega arith)

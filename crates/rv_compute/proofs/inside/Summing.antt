@@ -20,17 +20,6 @@ any_here products k d word all h so_far on =
     ap (λ t. t || any_holds (drop (k + 1) products) word) (sym on)
     ∙ sym (at_drop_more (λ ps. any_holds ps word) products k d h) ∙ so_far
 
-pub any_later : (products : List Product) (k : ℕ) (d : Product) (word : List Bool) (all : Bool) → k < length products
-    → any_holds (drop k products) word ≡ all → holds (get_or products k d).care (get_or products k d).want word ≡ false
-    → any_holds (drop (k + 1) products) word ≡ all
-any_later products k d word all h so_far off =
-    ap (λ t. t || any_holds (drop (k + 1) products) word) (sym off)
-    ∙ sym (at_drop_more (λ ps. any_holds ps word) products k d h) ∙ so_far
-
-pub any_none : (products : List Product) (k : ℕ) (word : List Bool) (all : Bool) → length products ≤ k
-    → any_holds (drop k products) word ≡ all → false ≡ all
-any_none products k word all h so_far = sym (ap (λ ps. any_holds ps word) (drop_all k products h)) ∙ so_far
-
 pub sum_more : (products : List Product) (k : ℕ) (d : Product) (word : List Bool) (sum all : Bool) → k < length products
     → xor sum (sum_of (drop k products) word) ≡ all
     → xor (xor sum (holds (get_or products k d).care (get_or products k d).want word)) (sum_of (drop (k + 1) products) word)

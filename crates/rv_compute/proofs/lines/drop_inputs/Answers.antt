@@ -1,6 +1,7 @@
 use Rattle.std.proofs.Common.{◌-◌, ◌≡◌, ◌++◌, replicate, set, ◌∙◌, ap, sym, arith, true, false, append_assoc}
 use Rattle.rv_gate.specs.Circuit.{Cascade}
-use Rattle.rv_compute.proofs.Marks.{mark_before, with_garbage}
+use Rattle.rv_gate.proofs.Prefixes.{mark_before}
+use Rattle.rv_compute.proofs.Marks.{with_garbage}
 use Rattle.std.proofs.lemmas.List.{replicate-append-replicate}
 use Rattle.rv_compute.proofs.lines.drop_inputs.Goals as goal
 

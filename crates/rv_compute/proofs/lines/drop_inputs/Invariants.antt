@@ -1,5 +1,5 @@
 use Rattle.std.proofs.Common.{◌≡◌, ◌++◌, replicate, true, false}
-use Rattle.rv_compute.proofs.Marks.{marked}
+use Rattle.rv_gate.proofs.Prefixes.{marked}
 use Rattle.rv_compute.proofs.lines.drop_inputs.Given as goal
 
 abbrev pub invariant-loop-input : goal.invariant-loop-input

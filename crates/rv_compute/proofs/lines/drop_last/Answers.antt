@@ -1,7 +1,8 @@
 use Rattle.std.proofs.Common.{◌+◌, replicate, set, ◌∙◌, ap, arith, true, false}
 use Rattle.std.proofs.lemmas.List.{length-replicate}
 use Rattle.rv_gate.specs.Circuit.{Cascade}
-use Rattle.rv_compute.proofs.Marks.{mark_none, mark_after, with_garbage}
+use Rattle.rv_gate.proofs.Prefixes.{mark_none, mark_after}
+use Rattle.rv_compute.proofs.Marks.{with_garbage}
 use Rattle.rv_compute.proofs.lines.drop_last.Goals as goal
 
 pub loop-line-init : goal.loop-line-init

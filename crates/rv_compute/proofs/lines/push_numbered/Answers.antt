@@ -1,6 +1,6 @@
 use Rattle.std.proofs.Common.{length, ◌∙◌, ap, arith, ◌++◌, ◌∷◌, []}
 use Rattle.rv_gate.proofs.NameLemmas.{length-numbered}
-use Rattle.rv_compute.proofs.Marks.{name_next}
+use Rattle.rv_gate.proofs.Prefixes.{name_next}
 use Rattle.rv_compute.proofs.lines.push_numbered.Goals as goal
 
 pub name-requires : goal.name-requires

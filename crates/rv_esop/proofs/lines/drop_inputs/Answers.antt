@@ -1,6 +1,7 @@
 use Rattle.std.proofs.Common.{true, false, replicate, set, ◌∙◌, ap, arith}
 use Rattle.rv_gate.specs.Circuit.{Cascade}
-use Rattle.rv_esop.proofs.Marks.{mark_none_before, mark_before, with_garbage}
+use Rattle.rv_gate.proofs.Prefixes.{mark_none_before, mark_before}
+use Rattle.rv_esop.proofs.Marks.{with_garbage}
 use Rattle.rv_esop.proofs.lines.drop_inputs.Goals as goal
 
 pub loop-input-init : goal.loop-input-init

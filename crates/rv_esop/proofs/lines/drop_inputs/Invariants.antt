@@ -1,5 +1,5 @@
 use Rattle.std.proofs.Common.{◌≡◌, ◌++◌, true, false, replicate}
-use Rattle.rv_esop.proofs.Marks.{marked}
+use Rattle.rv_gate.proofs.Prefixes.{marked}
 use Rattle.rv_esop.proofs.lines.drop_inputs.Given as goal
 
 abbrev pub invariant-loop-input : goal.invariant-loop-input

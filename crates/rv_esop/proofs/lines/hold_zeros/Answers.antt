@@ -2,7 +2,8 @@ use Rattle.std.proofs.Common.{◌+◌, replicate, set, ◌∙◌, ap, arith}
 use Rattle.std.proofs.lemmas.List.{length-replicate}
 use Rattle.rv_gate.specs.Circuit.{Cascade}
 use Rattle.rv_gate.specs.declared.circuit.Mark.TheVariants.{Input, Zero}
-use Rattle.rv_esop.proofs.Marks.{mark_none, mark_after, with_constants}
+use Rattle.rv_gate.proofs.Prefixes.{mark_none, mark_after}
+use Rattle.rv_esop.proofs.Marks.{with_constants}
 use Rattle.rv_esop.proofs.lines.hold_zeros.Goals as goal
 
 pub loop-output-init : goal.loop-output-init

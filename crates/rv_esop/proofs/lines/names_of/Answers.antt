@@ -1,7 +1,7 @@
 use Rattle.std.proofs.Common.{length, ◌∙◌, ap, arith, ◌++◌, ◌∷◌, []}
 use Rattle.rv_gate.specs.Names.{numbered}
 use Rattle.rv_gate.proofs.NameLemmas.{length-numbered}
-use Rattle.rv_esop.proofs.Marks.{name_next}
+use Rattle.rv_gate.proofs.Prefixes.{name_next}
 use Rattle.rv_esop.proofs.lines.names_of.Goals as goal
 
 pub name-requires : goal.name-requires
