@@ -3,7 +3,7 @@ use Rattle.std.proofs.Common.{◌≡◌, ℕ, zero, suc, ◌+◌, ◌<◌, Bool,
 use Rattle.std.proofs.lemmas.List.{ext_get_or, get_or-map, length-map, map-append, take-append-le, take_all, take_more, take_more_set, take-map}
 use Rattle.rv_gate.specs.Word.{has, bit_of}
 use Rattle.rv_gate.specs.Gate.{all_below, holds, same}
-use Rattle.rv_gate.proofs.Bits.{and_comm, or_assoc}
+use Rattle.rv_gate.proofs.Bits.{and_comm, or_assoc, or_false}
 use Rattle.rv_many.specs.Column.{column, row_bit}
 use Rattle.rv_many.specs.declared.row.Row.{Row}
 use Rattle.rv_many.proofs.Columns.{bit_of-column, blank, column-set, length-column}
@@ -41,12 +41,8 @@ held rows care want on j is = is ∙ ap (all_below (literal care want (column ro
 
 -- ---- the products
 
-or_none : (b : Bool) → (b || false) ≡ b
-or_none true = refl
-or_none false = refl
-
 pub any_holds-push : (ps : List Product) (p : Product) (word : List Bool) → any_holds (ps ++ p ∷ []) word ≡ (any_holds ps word || holds p.care p.want word)
-any_holds-push [] p word = or_none (holds p.care p.want word)
+any_holds-push [] p word = or_false (holds p.care p.want word)
 any_holds-push (q ∷ ps) p word =
     ap (λ b. holds q.care q.want word || b) (any_holds-push ps p word)
     ∙ or_assoc (holds q.care q.want word) (any_holds ps word) (holds p.care p.want word)

@@ -1,5 +1,5 @@
 mod Cubes
 mod Values
 pub mod Steps
-mod Finds
+pub mod Finds
 pub mod inside

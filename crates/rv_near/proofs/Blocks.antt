@@ -10,6 +10,7 @@ use Rattle.rv_net.proofs.Frame.{AllWithin, puts, relabel, through}
 use Rattle.rv_net.proofs.Step.{Word, bit}
 use Rattle.rv_net.proofs.Toffoli.{changed, on_lines, through-toffoli}
 use Rattle.rv_near.specs.Near.{is_row, near_block, row_block}
+use Rattle.rv_gate.proofs.Bits.{and_comm}
 
 abbrev twice : (Word → Cyclotomic) → Word → Cyclotomic
 twice k x = plus (k x) (k x)
@@ -64,12 +65,6 @@ module _ (k : Word → Cyclotomic) (x : Word) (a b c : ℕ) (ha : a < length x) 
   unfolding row_block relabel
   through-between = on-row 2 1 (omega arith) (omega arith) between (row_block a c b c) refl
 
-and_turned : (p q : Bool) → (p && q) ≡ (q && p)
-and_turned true true = refl
-and_turned true false = refl
-and_turned false true = refl
-and_turned false false = refl
-
 -- the law
 pub through-near : (k : Word → Cyclotomic) (x : Word) (a b c : ℕ) → a < length x → b < length x → c < length x → a ≢ b → a ≢ c → b ≢ c
     → through (near_block a b c) k x ≡ through (toffoli a b c) k x
@@ -83,5 +78,5 @@ through-near k x a b c ha hb hc ab ac bc = go (is_row a b c) (is_row a c b) (is_
     go false true u = through-between k x a b c ha hb hc ab ac bc ∙ usual
     go false false true =
         through-aside k x b a c hb ha hc (λ e. ab (sym e)) bc ac
-        ∙ ap (λ (both : Bool). twice k (set x c (xor both (bit x c)))) (and_turned (bit x b) (bit x a)) ∙ usual
+        ∙ ap (λ (both : Bool). twice k (set x c (xor both (bit x c)))) (and_comm (bit x b) (bit x a)) ∙ usual
     go false false false = refl

@@ -17,16 +17,13 @@ use Rattle.rv_embed.specs.Realizes.{Meets}
 use Rattle.rv_esop.specs.Cascade.{esop_lines, xor_from, xor_set}
 use Rattle.rv_esop.proofs.inside.Flips.{length-xor_from}
 use Rattle.rv_cmd.specs.Commands.Esop.{Adds, Gives}
-
-xor-zero : (bit : Bool) → xor false bit ≡ bit
-xor-zero true = refl
-xor-zero false = refl
+use Rattle.rv_gate.proofs.Bits.{false_xor}
 
 -- what is added to zeros is what they hold then
 added : (j n set k : ℕ) → k < n → bit_of (xor_from j (replicate n false) set) k ≡ has set (j + k)
 unfolding xor_from
 added j zero set k h = absurd (omega (arith, h))
-added j (suc n) set zero h = xor-zero (has set j) ∙ ap (has set) (omega arith)
+added j (suc n) set zero h = false_xor (has set j) ∙ ap (has set) (omega arith)
 added j (suc n) set (suc k) h = added (j + 1) n set k (omega (arith, h)) ∙ ap (has set) (omega arith)
 
 -- the constants are zeros after the input

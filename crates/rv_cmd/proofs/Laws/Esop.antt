@@ -37,6 +37,7 @@ use Rattle.rv_faults.specs.declared.fault.Refusal.{Refusal}
 use Rattle.rv_cmd.specs.Limits.{found_within, unlimited}
 use Rattle.rv_cmd.specs.inside.Products.{IsProductOf, IsRefusalOf, product_text}
 use Rattle.rv_cmd.proofs.Laws.Cascade.{cascade-gives}
+use Rattle.rv_exorlink.proofs.Finds.{no_worse_self}
 
 -- ---- as a circuit
 
@@ -148,15 +149,6 @@ list-answers pla list is value settled valid =
 
 -- ---- what a search finds
 
-few-self : (goal : Goal) (count : ℕ) → count ≤ MOST_CUBES → count ≤ most_of goal count
-few-self goals.Cubes count few = omega arith
-few-self goals.Gates count few = few
-few-self goals.Quantum count few = few
-few-self goals.T count few = few
-
-no_worse-self : (goal : Goal) (cubes : List Cube) → length cubes ≤ MOST_CUBES → IsNoWorse goal cubes cubes
-no_worse-self goal cubes few = record { lighter = omega arith; few = few-self goal (length cubes) few }
-
 -- the code found this circuit, on these lines, for this list
 pub found-cascade : (goal : Goal) (pla : TwoLevel) (list : Esop) (circuit : circuits.Cascade) → flip_count (reduced_list pla) ≤ MOST_GATES → IsFound goal pla list
     → IsOnLines list.inputs list.outputs circuit → Adds list circuit → cost_of goal circuit.gates ≤ cost_of goal (cascade_of list).gates
@@ -192,7 +184,7 @@ found-plain goal pla list circuit is right bounded few made adds valid =
       inputs = refl;
       outputs = refl;
       right = subst (λ (e : Esop). IsRight pla e.cubes) is right;
-      no_worse = no_worse-self goal (reduced_list pla).cubes (subst (λ (e : Esop). length e.cubes ≤ MOST_CUBES) is bounded);
+      no_worse = no_worse_self goal (reduced_list pla).cubes (subst (λ (e : Esop). length e.cubes ≤ MOST_CUBES) is bounded);
     } in
     found-cascade goal pla list circuit (subst Few is few) (subst Found (sym is) found)
     (made ∙ ap (λ (c : circuits.Cascade). record (esop_lines list.inputs list.outputs) { gates = c.gates }) (sym made)) adds

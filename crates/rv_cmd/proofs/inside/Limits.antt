@@ -8,6 +8,7 @@ use Rattle.rv_faults.specs.declared.fault.Refusal.{Refusal}
 use Rattle.rv_faults.specs.declared.fault.Refusal.TheVariants.{Refused, OutOfMemory}
 use Rattle.rv_cmd.specs.Limits.{AreKept, IsKept, Limit, LimitedText, Report, at_most, first_refused, no_fault, refused_by, report_unless, within}
 use Rattle.rv_cmd.specs.inside.Products.{IsRefusalOf}
+use Rattle.rv_gate.proofs.FirstAnswer.{or_none}
 
 -- ---- kept or not
 
@@ -24,10 +25,6 @@ none-kept (at_most input count most why) none = ltb-false most count (by (nat_lt
 none-kept (no_fault input None) none = refl
 none-kept (no_fault input (Some why)) none = absurd (let z = none in cc)
 
-both-none : {X : Type 0} (first rest : Option X) → option_or first rest ≡ None → (first ≡ None) × (rest ≡ None)
-both-none None rest none = (refl, none)
-both-none (Some x) rest none = absurd (let z = none in cc)
-
 pub all-kept : (limits : List Limit) → AreKept limits → first_refused limits ≡ None
 all-kept [] kept = refl
 all-kept (limit ∷ rest) kept = ap (λ first. option_or first (first_refused rest)) (kept-none limit kept.0) ∙ all-kept rest kept.1
@@ -35,7 +32,7 @@ all-kept (limit ∷ rest) kept = ap (λ first. option_or first (first_refused re
 pub are-kept : (limits : List Limit) → first_refused limits ≡ None → AreKept limits
 are-kept [] none = tt
 are-kept (limit ∷ rest) none =
-    let both = both-none (refused_by limit) (first_refused rest) none in (none-kept limit both.0, are-kept rest both.1)
+    let both = or_none (refused_by limit) (first_refused rest) none in (none-kept limit both.0, are-kept rest both.1)
 
 -- ---- a text within limits
 

@@ -8,13 +8,13 @@ use Rattle.std.proofs.lemmas.Option.{slice_get-get_or, slice_get_past}
 use Rattle.rv_gate.specs.Word.{bit_of}
 use Rattle.rv_gate.specs.Gate.{run, xor}
 use Rattle.rv_gate.specs.declared.gate.Shape.{Shape}
-use Rattle.rv_gate.proofs.Bits.{xor_false}
+use Rattle.rv_gate.proofs.Bits.{xor_false, false_xor}
 use Rattle.rv_gate.proofs.inside.GateLemmas.{length-run}
 use Rattle.rv_blif.specs.Logic.{Logic, Output, values, outputs_of}
 use Rattle.rv_compute.specs.Computed.{xor_each}
 use Rattle.rv_compute.specs.inside.Held.{held_value, held_at, put_in, line_count, Stands, IsDone, due}
 use Rattle.rv_compute.proofs.inside.Signals.{input_bit}
-use Rattle.rv_compute.proofs.inside.Standing.{base_free, length-put_in, none_xor}
+use Rattle.rv_compute.proofs.inside.Standing.{base_free, length-put_in}
 
 -- ---- the beginning
 
@@ -68,7 +68,7 @@ first_stands logic extra held count le first ge = record {
             (get_or_append_left (x ++ y) (replicate extra false) false line (omega (arith, length-append x y))
             ∙ get_or_append_left x y false line (omega arith)
             ∙ sym (input_bit logic x line (omega arith))
-            ∙ sym (none_xor (bit_of (values logic x) line))
+            ∙ sym (false_xor (bit_of (values logic x) line))
             ∙ ap (λ b. xor b (bit_of (values logic x) line)) (sym (base_free logic extra x y line lx ly lt (inl input)))
             ∙ ap (λ (t : Bool). xor (bit_of (put_in extra zeros y) line) (held_value (values logic x) (cond t (Some line) None)))
             (sym (lt-ltb line n input))
@@ -129,7 +129,7 @@ end_bit logic extra x y line lx ly lt =
       | inl input ↦
           (ap (λ (t : Bool). xor base (held_value v (cond t (Some line) at))) (lt-ltb line n input)
           ∙ ap (λ b. xor b (bit_of v line)) (base_free logic extra x y line lx ly lt (inl input))
-          ∙ none_xor (bit_of v line)
+          ∙ false_xor (bit_of v line)
           ∙ input_bit logic x line (omega arith)
           ∙ sym (get_or_append_left (x ++ changed) rest false line (omega (arith, length-append x changed))
           ∙ get_or_append_left x changed false line (omega arith)))

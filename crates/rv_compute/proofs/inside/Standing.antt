@@ -6,7 +6,7 @@ use Rattle.std.proofs.lemmas.List.{length-replicate, length-map, get_or-map, get
 use Rattle.rv_gate.specs.Word.{bit_of}
 use Rattle.rv_gate.specs.Gate.{run, holds, xor}
 use Rattle.rv_gate.specs.declared.gate.Shape.{Shape}
-use Rattle.rv_gate.proofs.Bits.{xor_assoc}
+use Rattle.rv_gate.proofs.Bits.{xor_assoc, false_xor}
 use Rattle.rv_gate.proofs.inside.GateLemmas.{run-append, length-run}
 use Rattle.rv_blif.specs.Logic.{Logic, Node, values, IsLogic}
 use Rattle.rv_blif.specs.declared.product.Product.{Product}
@@ -22,10 +22,6 @@ xor_self true true = refl
 xor_self true false = refl
 xor_self false true = refl
 xor_self false false = refl
-
-pub none_xor : (b : Bool) → xor false b ≡ b
-none_xor true = refl
-none_xor false = refl
 
 pub length-put_in : (extra : ℕ) (x y : List Bool) → length (put_in extra x y) ≡ length x + length y + extra
 length-put_in extra x y =
@@ -57,7 +53,7 @@ told logic extra held gates x y stands lx ly line lt free =
     let within : line < line_count logic extra = let e = stands.count in omega arith in
     stands.each x y line lx ly within
     ∙ ap (λ b. xor b (held_value (values logic x) (held_at held line))) (base_free logic extra x y line lx ly within free)
-    ∙ none_xor _
+    ∙ false_xor _
 
 -- an operand that has a place is among the operands
 pub place_within : (places : List (Option Place)) (operand : ℕ) (place : Place) → place_at places operand ≡ Some place
