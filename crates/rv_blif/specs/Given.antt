@@ -50,7 +50,12 @@ nothing_given = record {
 -- ---- names
 
 abbrev pub added : Given → List ℕ → Option ℕ → Given
-added given name None = record given { names = given.names ++ name ∷ []; driven = given.driven ++ false ∷ []; exported = given.exported ++ false ∷ [] }
+added given name None =
+    record given {
+      names = given.names ++ name ∷ [];
+      driven = given.driven ++ false ∷ [];
+      exported = given.exported ++ false ∷ [];
+    }
 added given name (Some number) = given
 
 abbrev pub number_by : Given → Option ℕ → ℕ
@@ -91,7 +96,10 @@ abbrev pub output_numbered : ℕ → ℕ → Given → Result Given ℕ
 output_numbered line name given =
     broken (slice_index_or given.exported name false) code.REPEATED_OUTPUT
     (broken (not (nat_lt (length given.outputs) MOST_SIGNALS)) code.TOO_MANY_SIGNALS
-    (Ok (record given { exported = slice_set given.exported name true; outputs = given.outputs ++ record { line = line; name = name } ∷ [] })))
+    (Ok (record given {
+      exported = slice_set given.exported name true;
+      outputs = given.outputs ++ record { line = line; name = name } ∷ [];
+    })))
 
 abbrev pub output_given : ℕ → Given → List ℕ → Result Given ℕ
 output_given line given name = output_numbered line (number_of given name) (with_name given name)
@@ -114,7 +122,8 @@ numbered given numbers (word ∷ words) =
 
 -- a `.names` without rows: the last name is driven, by 0
 abbrev pub empty_cover : ℕ → List ℕ → ℕ → Cover
-empty_cover line operands name = record { line = line; node = record { operands = operands; products = []; on = true }; name = name }
+empty_cover line operands name =
+    record { line = line; node = record { operands = operands; products = []; on = true }; name = name }
 
 abbrev pub cover_numbered : ℕ → List ℕ → ℕ → Given → Result Given ℕ
 cover_numbered line operands name given =
@@ -126,7 +135,8 @@ abbrev pub cover_given : ℕ → Numbered → Result Given ℕ
 cover_given line n =
     broken (length n.numbers == 0) code.MISSING_NAME
     (broken (nat_lt (MOST_OPERANDS + 1) (length n.numbers)) code.TOO_MANY_OPERANDS
-    (cover_numbered line (take (length n.numbers - 1) n.numbers) (slice_index n.numbers (length n.numbers - 1)) n.given))
+    (cover_numbered line (take (length n.numbers - 1) n.numbers) (slice_index n.numbers (length n.numbers - 1))
+    n.given))
 
 abbrev pub names_given : ℕ → Given → List Lexeme → Result Given ℕ
 names_given line given words = cover_given line (numbered given [] words)
@@ -135,7 +145,8 @@ names_given line given words = cover_given line (numbered given [] words)
 
 -- a cover with one row more: its rows are all of the ON set, or all of the OFF set
 abbrev pub with_row : Cover → Product → Bool → Cover
-with_row cover product on = record cover { node = record cover.node { products = cover.node.products ++ product ∷ []; on = on } }
+with_row cover product on =
+    record cover { node = record cover.node { products = cover.node.products ++ product ∷ []; on = on } }
 
 abbrev pub is_mixed : Cover → Bool → Bool
 is_mixed cover on = nat_lt 0 (length cover.node.products) && not (same on cover.node.on)
@@ -168,7 +179,8 @@ directive_of line given name words =
     if bytes_eq name (codes ".names") then names_given line given words
     else (if bytes_eq name (codes ".inputs") then inputs_given given words
     else (if bytes_eq name (codes ".outputs") then outputs_given line given words
-    else (if bytes_eq name (codes ".model") then broken given.is_named code.SECOND_MODEL (Ok (record given { is_named = true }))
+    else (if bytes_eq name (codes ".model")
+    then broken given.is_named code.SECOND_MODEL (Ok (record given { is_named = true }))
     else (if bytes_eq name (codes ".end") then Ok (record given { is_ended = true })
     else (if is_dropped name then Ok given
     else (if is_latch name then Err code.LATCH

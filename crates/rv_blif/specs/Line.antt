@@ -31,4 +31,5 @@ is_latch name = bytes_eq name (codes ".latch") || bytes_eq name (codes ".mlatch"
 -- models in models, gates of a library, and external don't cares
 unfoldable pub is_unsupported : List ℕ → Bool
 is_unsupported name =
-    bytes_eq name (codes ".subckt") || bytes_eq name (codes ".gate") || bytes_eq name (codes ".search") || bytes_eq name (codes ".exdc")
+    bytes_eq name (codes ".subckt") || bytes_eq name (codes ".gate") || bytes_eq name (codes ".search")
+    || bytes_eq name (codes ".exdc")

@@ -128,7 +128,8 @@ outputs_by names signals made (port ∷ rest) =
     output_by names port (signal_of signals port.name) >>= λ output. outputs_by names signals (made ++ output ∷ []) rest
 
 abbrev pub network_of : Netlist → Placing → List Output → Result Logic TextFault
-network_of netlist p outputs = Ok (record { inputs = map (name_at netlist.names) netlist.inputs; nodes = p.nodes; outputs = outputs })
+network_of netlist p outputs =
+    Ok (record { inputs = map (name_at netlist.names) netlist.inputs; nodes = p.nodes; outputs = outputs })
 
 -- the network of what is placed, where nothing is left
 abbrev pub placed_network : Netlist → Placing → Result Logic TextFault
@@ -140,7 +141,8 @@ placed_network netlist p =
 abbrev pub ordered : ℕ → List Bool → Netlist → Result Logic TextFault
 ordered lines driven netlist =
     broken (length netlist.outputs == 0) (record { line = lines; code = code.NO_OUTPUTS })
-    (unless_on code.NEVER_DRIVEN (first_undriven driven netlist.covers) (placed_network netlist (placed (length netlist.names) netlist.inputs netlist.covers)))
+    (unless_on code.NEVER_DRIVEN (first_undriven driven netlist.covers)
+    (placed_network netlist (placed (length netlist.names) netlist.inputs netlist.covers)))
 
 -- ---- what every placing keeps
 

@@ -33,8 +33,8 @@ use Rattle.rv_cmd.specs.Row.{End, IsAccepted, Lacks, Means, Row, answers_as_it_r
 
 -- ---- What status 0 gives, and status 1 of `check` and `compare`
 
--- The inputs hold texts of at most 2^27 bytes; a text was sent to the output, whole and flushed; it means what the command's row says of
--- these texts.
+-- The inputs hold texts of at most 2^27 bytes; a text was sent to the output, whole and flushed; it means what the
+-- command's row says of these texts.
 pub record Writes (row : Row) (contents : Contents) (old new : SinkView) : Type 0 where
   pub texts : List (List ℕ)
   pub held : contents ≡ held_as texts
@@ -49,8 +49,8 @@ pub record Scene : Type 0 where
   pub files : FilesView
   pub out : SinkView
 
--- Status 0, or 1 by `check` or `compare`: the arguments are understood, and that was written. The contents are what the files tell of the inputs, or some
--- that they may hold.
+-- Status 0, or 1 by `check` or `compare`: the arguments are understood, and that was written. The contents are what the
+-- files tell of the inputs, or some that they may hold.
 pub record Written (settings : Settings) (old new : Scene) : Type 0 where
   pub contents : Contents
   pub counted : length contents ≡ length (names_read settings)
@@ -64,21 +64,26 @@ WrittenBy (Err fault) old new = ⊥
 -- ---- The five ways to end
 
 -- A run by arguments that are understood ends in one of five ways:
---   1. with status 0, or 1 if it says that the inputs of `check` or `compare` differ: the report that the contents ask for was written whole and flushed, and has its meaning;
---   2. as the contents ask: with the first fault that they have; or a search ended without a text, for a reason that its row allows;
+--   1. with status 0, or 1 if it says that the inputs of `check` or `compare` differ: the report that the contents ask
+--      for was written whole and flushed, and has its meaning;
+--   2. as the contents ask: with the first fault that they have; or a search ended without a text, for a reason that
+--      its row allows;
 --   3. a call of the files failed;
---   4. a call of the output failed, and a prefix of the text was sent, or, by a command that searches, of one with the meaning;
+--   4. a call of the output failed, and a prefix of the text was sent, or, by a command that searches, of one with the
+--      meaning;
 --   5. for want of memory, and nothing was sent.
 -- The counts of faults rise in 3 and 4 alone.
 -- `names` are those of the inputs.
 
 -- 1. Status 0 or 1: what was written is the report that the contents ask for, and the last input was read to its end.
-pub record Succeeds (row : Row) (names : List (List ℕ)) (contents : Contents) (old new : Scene) (differs : Bool) : Type 0 where
+pub record Succeeds (row : Row) (names : List (List ℕ)) (contents : Contents) (old new : Scene)
+    (differs : Bool) : Type 0 where
   pub writes : Writes row contents old.out new.out
   pub asked : outcome row writes.text contents ≡ ended (Ok (record { text = writes.text; differs = differs }))
   pub read : LastIsRead names contents old.files new.files
 
--- What a fault of an input leaves on the output: nothing new. A command that answers as it reads its last input leaves this text.
+-- What a fault of an input leaves on the output: nothing new. A command that answers as it reads its last input leaves
+-- this text.
 abbrev pub Leaves : Row → ℕ → List ℕ → SinkView → SinkView → Type 0
 Leaves (reads_first row) input text old new = new ≡ old
 Leaves (answers_as_it_reads row) zero text old new = new ≡ old
@@ -100,13 +105,15 @@ pub record HasNoText (row : Row) (contents : Contents) (old new : Scene) (fault 
   pub unsent : new.out ≡ old.out
 
 -- 2. As asked: what an input holds is refused,
-pub record Refuses (row : Row) (names : List (List ℕ)) (contents : Contents) (old new : Scene) (input : ℕ) (fault : Fault) : Type 0 where
+pub record Refuses (row : Row) (names : List (List ℕ)) (contents : Contents) (old new : Scene) (input : ℕ)
+    (fault : Fault) : Type 0 where
   pub named : input < length names
   pub faulty : HasFault row contents old new input fault ⊎ HasNoText row contents old new fault
   pub read : HasRead row names contents input old.files new.files
 
 -- or is too long: one byte more than the limit was read of it,
-pub record IsTooLong (row : Row) (names : List (List ℕ)) (contents : Contents) (old new : Scene) (input : ℕ) : Type 0 where
+pub record IsTooLong (row : Row) (names : List (List ℕ)) (contents : Contents) (old new : Scene)
+    (input : ℕ) : Type 0 where
   pub named : input < length names
   pub faulty : HasFault row contents old new input (TooLong input)
   pub started : IsOpen (name_at names input) old.files new.files
@@ -134,14 +141,16 @@ pub record InputFails (row : Row) (contents : Contents) (old new : Scene) (input
   pub before : WroteBefore row contents old new input
 
 -- 2 or 3. If a name is started at the end, it is this input's, and at most one byte more than the limit was read of it.
-pub record CannotBeRead (row : Row) (names : List (List ℕ)) (contents : Contents) (old new : Scene) (input : ℕ) : Type 0 where
+pub record CannotBeRead (row : Row) (names : List (List ℕ)) (contents : Contents) (old new : Scene)
+    (input : ℕ) : Type 0 where
   pub named : input < length names
   pub opened : old.files.tells ≡ true → new.files.is_started ≡ true → new.files.is_opened (name_at names input) ≡ true
   pub place : new.files.is_started ≡ true → new.files.place ≤ MOST_BYTES + 1
   pub cause : IsNotHeld row contents old new input ⊎ InputFails row contents old new input
 
 -- there is a report to write, which means what the row says of these texts, and the last input was read to its end
-pub record HasReport (row : Row) (found : List ℕ) (names : List (List ℕ)) (contents : Contents) (old new : FilesView) : Type 0 where
+pub record HasReport (row : Row) (found : List ℕ) (names : List (List ℕ)) (contents : Contents)
+    (old new : FilesView) : Type 0 where
   pub texts : List (List ℕ)
   pub held : contents ≡ held_as texts
   pub report : Report
@@ -235,7 +244,8 @@ status_of_run_end (Understood settings end) = status_of_end end
 status_of_run_end (ArgumentsRefused fault) = status_of_arguments fault
 
 -- What a run does, by its arguments, whatever the files and sinks.
-pub record Headline (arguments : List (List ℕ)) (old new : Scene) (errs_old errs_new : SinkView) (status : ℕ) : Type 0 where
+pub record Headline (arguments : List (List ℕ)) (old new : Scene) (errs_old errs_new : SinkView)
+    (status : ℕ) : Type 0 where
   -- the end comes first; the status and the line on the error output follow from it
   pub end : RunEnd
   pub ends : EndsAs arguments end old new
@@ -252,14 +262,15 @@ pub record EndsLacking (row : Row) (contents : Contents) (status : ℕ) : Type 0
   pub lacks : Lacks row contents fault
   pub is : status ≡ status_of fault
 
--- the status is the one that is wanted, or it is 4 and a count of faults rose, or it is 6, or a search ended without a text
+-- the status is the one that is wanted, or it is 4 and a count of faults rose, or it is 6, or a search ended without a
+-- text
 abbrev pub Yields : Row → Contents → ℕ → Scene → Scene → ℕ → Type 0
 Yields row contents wanted old new status =
     (status ≡ wanted) ⊎ (((status ≡ 4) × (Rose old.files.faults new.files.faults ⊎ Rose old.out.faults new.out.faults))
     ⊎ ((status ≡ 6) ⊎ EndsLacking row contents status))
 
--- Completeness: if the contents are told, the status is that of their outcome, or it is 4 and a count of faults rose, or it is 6, or a
--- search ended without a text.
+-- Completeness: if the contents are told, the status is that of their outcome, or it is 4 and a count of faults rose,
+-- or it is 6, or a search ended without a text.
 abbrev pub IsCompleteBy : Result Settings ArgumentFault → Scene → Scene → ℕ → Type 0
 IsCompleteBy (Err fault) old new status = (status ≡ status_of_arguments fault) ⊎ (status ≡ 6)
 IsCompleteBy (Ok settings) old new status =
@@ -276,25 +287,26 @@ abbrev pub AsksToCompare : Result Settings ArgumentFault → Type 0
 AsksToCompare (Ok settings) = Compares settings.command
 AsksToCompare (Err fault) = ⊥
 
--- The contents ask for a report; by any other command it never says that inputs differ. The status is 0, or 1 if it says so, or it
--- is 4 and a count of faults rose, or it is 6, or a search ended without a text.
+-- The contents ask for a report; by any other command it never says that inputs differ. The status is 0, or 1 if it
+-- says so, or it is 4 and a count of faults rose, or it is 6, or a search ended without a text.
 pub record YieldsReport (settings : Settings) (contents : Contents) (old new : Scene) (status : ℕ) : Type 0 where
   pub differs : Bool
   pub asked : end_of (row_of settings) contents ≡ Ok differs
   pub alike : ¬ Compares settings.command → differs ≡ false
   pub yields : Yields (row_of settings) contents (status_of_end (Ok differs)) old new status
 
--- Told contents ask for no fault exactly if they are accepted. Then the status is that of their report, unless a call failed, memory
--- was wanting or a search ended without a text; else it is neither 0 nor 1. `demo` has no input, and is always accepted.
+-- Told contents ask for no fault exactly if they are accepted. Then the status is that of their report, unless a call
+-- failed, memory was wanting or a search ended without a text; else it is neither 0 nor 1. `demo` has no input, and is
+-- always accepted.
 pub record IsExact (settings : Settings) (contents : Contents) (old new : Scene) (status : ℕ) : Type 0 where
   pub asked : IsOk (end_of (row_of settings) contents) ↔ IsAccepted (row_of settings) contents
   pub only : status ≤ 1 → IsAccepted (row_of settings) contents
   pub each : IsAccepted (row_of settings) contents → YieldsReport settings contents old new status
   pub demo : settings.command ≡ Demo → IsAccepted (row_of settings) contents
 
--- Acceptance in the subject's terms, where a limit is no count: a given template is a few flips on a few lines that change no word; the
--- operations of `toreal` are classical and few enough; by `check` the lines are few and no coefficient is beyond its limit; and two
--- circuits that are compared have few inputs.
+-- Acceptance in the subject's terms, where a limit is no count: a given template is a few flips on a few lines that
+-- change no word; the operations of `toreal` are classical and few enough; by `check` the lines are few and no
+-- coefficient is beyond its limit; and two circuits that are compared have few inputs.
 pub record LimitsInTerms : Type 0 where
   pub template : (given : Cascade) → AreKept (template_limits given) ↔ CanBeTemplate given
   pub operations : (ops : List Op) → AreKept (toreal_limits ops) ↔ AreClassical ops

@@ -16,8 +16,8 @@ pub record Report : Type 0 where
 abbrev pub done : List ℕ → Report
 done text = record { text = text; differs = false }
 
--- What has to hold: a count is at most so many, or else the input of this number is refused for this fault; or there is no fault. (A
--- condition whose fault has status 3 stands here as a limit, too.)
+-- What has to hold: a count is at most so many, or else the input of this number is refused for this fault; or there is
+-- no fault. (A condition whose fault has status 3 stands here as a limit, too.)
 pub data Limit : Type 0 where
   at_most : ℕ → ℕ → ℕ → InputFault → Limit
   no_fault : ℕ → Option InputFault → Limit
@@ -55,7 +55,8 @@ found_within limits found = record { limits = limits; text = found }
 
 -- the text, if the limits are kept, with what it says of the inputs
 abbrev pub within : LimitedText → Bool → Result Report Refusal
-within limited differs = report_unless (first_refused limited.limits) (record { text = limited.text; differs = differs })
+within limited differs =
+    report_unless (first_refused limited.limits) (record { text = limited.text; differs = differs })
 
 -- ---- limits of the first input
 

@@ -32,14 +32,16 @@ ended (Err fault) = record { text = []; end = Err fault }
 
 -- ---- rows
 
--- A command that reads all its inputs before it writes; it has none, one or two. Its row has the format of each, the text with its
--- limits that it makes of what they denote, and what that text means. Where there are two inputs the row also has whether the text
--- says that they differ, so that only these rows can end with status 1. A command that searches has limits, the reasons for which its
--- search may end without a text where they are kept, and the meaning: any text with it may be found.
+-- A command that reads all its inputs before it writes; it has none, one or two. Its row has the format of each, the
+-- text with its limits that it makes of what they denote, and what that text means. Where there are two inputs the row
+-- also has whether the text says that they differ, so that only these rows can end with status 1. A command that
+-- searches has limits, the reasons for which its search may end without a text where they are kept, and the meaning:
+-- any text with it may be found.
 pub data ReadsFirst : Type 1 where
   none : List ℕ → (List ℕ → Type 0) → ReadsFirst
   one : {X : Type 0} → Format X → (X → LimitedText) → (X → List ℕ → Type 0) → ReadsFirst
-  two : {X Y : Type 0} → Format X → Format Y → (X → Y → LimitedText) → (X → Y → Bool) → (X → Y → List ℕ → Type 0) → ReadsFirst
+  two : {X Y : Type 0} → Format X → Format Y → (X → Y → LimitedText) → (X → Y → Bool) → (X → Y → List ℕ → Type 0)
+      → ReadsFirst
   finds : {X : Type 0} → Format X → (X → List Limit) → (X → Refusal → Type 0) → (X → List ℕ → Type 0) → ReadsFirst
 
 -- a search that always ends with a text
@@ -70,14 +72,16 @@ IsReadsFirst (answers_as_it_reads row) = ⊥
 
 -- ---- what is asked for
 
--- the report that is made of these texts of the inputs, or the first of them that is refused, or the first limit that is not kept; only
--- a command that searches writes the text that is found
+-- the report that is made of these texts of the inputs, or the first of them that is refused, or the first limit that
+-- is not kept; only a command that searches writes the text that is found
 abbrev pub report_by : ReadsFirst → List ℕ → List (List ℕ) → Result Report Refusal
 report_by (none text Means) found texts = Ok (done text)
 report_by (one format report Means) found texts = at_input 0 (format (text_at texts 0)) >>= λ x. within (report x) false
 report_by (two first second report differs Means) found texts =
-    at_input 0 (first (text_at texts 0)) >>= λ x. (at_input 1 (second (text_at texts 1)) >>= λ y. within (report x y) (differs x y))
-report_by (finds format limits Lacks Means) found texts = at_input 0 (format (text_at texts 0)) >>= λ x. within (found_within (limits x) found) false
+    at_input 0 (first (text_at texts 0)) >>= λ x.
+    (at_input 1 (second (text_at texts 1)) >>= λ y. within (report x y) (differs x y))
+report_by (finds format limits Lacks Means) found texts =
+    at_input 0 (format (text_at texts 0)) >>= λ x. within (found_within (limits x) found) false
 
 abbrev pub as_unmade : {X : Type 0} → Result X Refusal → Result X Unmade
 as_unmade (Ok x) = Ok x
@@ -87,10 +91,11 @@ abbrev pub as_report : Result Report Unmade → Result Report Fault
 as_report (Ok report) = Ok report
 as_report (Err unmade) = Err (fault_of unmade)
 
--- what the contents ask for: the first input that isn't held or is too long, then the command's own order; with a text that is found,
--- which all commands ignore but those that search
+-- what the contents ask for: the first input that isn't held or is too long, then the command's own order; with a text
+-- that is found, which all commands ignore but those that search
 abbrev pub outcome : Row → List ℕ → Contents → Outcome
-outcome (reads_first row) found contents = ended (as_report (texts_of contents >>= λ texts. as_unmade (report_by row found texts)))
+outcome (reads_first row) found contents =
+    ended (as_report (texts_of contents >>= λ texts. as_unmade (report_by row found texts)))
 outcome (answers_as_it_reads row) found contents = row.outcome_by contents
 
 -- the end that the contents ask for, whatever is found, unless a search ends without a text

@@ -12,8 +12,8 @@ xor_each [] changes = []
 xor_each (bit ∷ word) [] = bit ∷ word
 xor_each (bit ∷ word) (change ∷ changes) = xor bit change ∷ xor_each word changes
 
--- the circuit has the network's lines; whatever the lines of the outputs hold, it adds the network's outputs to them, bit
--- by bit, keeps the inputs, and leaves the work lines at 0
+-- the circuit has the network's lines; whatever the lines of the outputs hold, it adds the network's outputs to them,
+-- bit by bit, keeps the inputs, and leaves the work lines at 0
 pub record IsComputed (logic : Logic) (c : Cascade) : Type 0 where
   pub work : ℕ
   pub lines : c ≡ record (logic_lines logic work) { gates = c.gates }

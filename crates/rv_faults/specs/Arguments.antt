@@ -13,7 +13,8 @@ status_of_arguments _ = 2
 abbrev pub arguments_reason : ArgumentFault → List ℕ
 arguments_reason arguments.NotUnderstood = codes "words not understood"
 arguments_reason (arguments.UnknownCommand name) = codes "unknown command " ++ name
-arguments_reason (arguments.NotUsed command place) = codes "option --" ++ (option_name place ++ (codes " not used by " ++ (usage_of command).name))
+arguments_reason (arguments.NotUsed command place) =
+    codes "option --" ++ (option_name place ++ (codes " not used by " ++ (usage_of command).name))
 arguments_reason (arguments.BadValue place) = codes "bad value for --" ++ option_name place
 arguments_reason (arguments.InputCount command) = codes "wrong number of inputs for " ++ (usage_of command).name
 arguments_reason arguments.TwiceStandard = codes "standard input named twice"

@@ -98,11 +98,14 @@ abbrev pub said_of : InputFault → List ℕ
 said_of (Text format line code) = at_line line (rule_of format code)
 said_of (WrongLength count) = counted_to count (codes " numbers are no power of two from 2 to ") (2 ^ MOST_PERM_LINES)
 said_of (OutOfRange place) = codes ": image out of range at place " ++ decimal place
-said_of (Repeated first second) = codes ": image repeated at places " ++ (decimal first ++ (codes " and " ++ decimal second))
+said_of (Repeated first second) =
+    codes ": image repeated at places " ++ (decimal first ++ (codes " and " ++ decimal second))
 said_of (Conflict on off inputs word) =
-    codes ": lines " ++ (decimal on ++ (codes " and " ++ (decimal off ++ (codes " conflict at word " ++ bits_of inputs word))))
+    codes ": lines "
+    ++ (decimal on ++ (codes " and " ++ (decimal off ++ (codes " conflict at word " ++ bits_of inputs word))))
 said_of (NotToffoli place) = codes ": gate " ++ (decimal place ++ codes " is no Toffoli gate")
-said_of (NotIdentity lines word image) = codes ": no identity: word " ++ (bits_of lines word ++ (codes " gives " ++ bits_of lines image))
+said_of (NotIdentity lines word image) =
+    codes ": no identity: word " ++ (bits_of lines word ++ (codes " gives " ++ bits_of lines image))
 said_of (NotClassical place) = codes ": operation " ++ (decimal place ++ codes " is not classical")
 said_of (WideTemplate lines most) = template_of lines (codes " lines is wider than ") most
 said_of (LongTemplate gates most) = template_of gates (codes " gates is longer than ") most

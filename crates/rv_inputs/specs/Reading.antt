@@ -42,7 +42,8 @@ pub record HasTexts (names : List (List ℕ)) (old new : FilesView) (texts : Lis
 pub record LacksInput (names : List (List ℕ)) (old new : FilesView) (input : ℕ) : Type 0 where
   pub named : input < length names
   pub opened : old.tells ≡ true → new.is_started ≡ true → new.is_opened (name_at names input) ≡ true
-  pub cause : ((old.tells ≡ true) × (texts_of (map old.held names) ≡ Err (CannotRead input))) ⊎ Rose old.faults new.faults
+  pub cause : ((old.tells ≡ true) × (texts_of (map old.held names) ≡ Err (CannotRead input)))
+      ⊎ Rose old.faults new.faults
 
 -- one of them is too long, and no call failed
 pub record HasLongInput (names : List (List ℕ)) (old new : FilesView) (input : ℕ) : Type 0 where
@@ -64,20 +65,23 @@ IsUnread names old new P OutOfMemory = new.faults ≡ old.faults
 
 -- ---- the object of an only input
 
-pub record HasObject {X : Type 0} (format : Format X) (names : List (List ℕ)) (old new : FilesView) (object : X) : Type 0 where
+pub record HasObject {X : Type 0} (format : Format X) (names : List (List ℕ)) (old new : FilesView)
+    (object : X) : Type 0 where
   pub text : List ℕ
   pub read : HasTexts names old new (text ∷ [])
   pub is : format text ≡ Ok object
 
 -- its text is refused
-pub record LacksObject {X : Type 0} (format : Format X) (names : List (List ℕ)) (old new : FilesView) (refused : Refusal) : Type 0 where
+pub record LacksObject {X : Type 0} (format : Format X) (names : List (List ℕ)) (old new : FilesView)
+    (refused : Refusal) : Type 0 where
   pub text : List ℕ
   pub read : HasTexts names old new (text ∷ [])
   pub is : at_input 0 (format text) ≡ Err refused
 
 -- ---- the objects of two inputs
 
-pub record HasObjects {X Y : Type 0} (first : Format X) (second : Format Y) (names : List (List ℕ)) (old new : FilesView) (x : X) (y : Y) : Type 0 where
+pub record HasObjects {X Y : Type 0} (first : Format X) (second : Format Y) (names : List (List ℕ))
+    (old new : FilesView) (x : X) (y : Y) : Type 0 where
   pub first_text : List ℕ
   pub second_text : List ℕ
   pub read : HasTexts names old new (first_text ∷ second_text ∷ [])
@@ -85,7 +89,8 @@ pub record HasObjects {X Y : Type 0} (first : Format X) (second : Format Y) (nam
   pub second_is : second second_text ≡ Ok y
 
 -- a text is refused: that of the first one comes first
-pub record LacksObjects {X Y : Type 0} (first : Format X) (second : Format Y) (names : List (List ℕ)) (old new : FilesView) (refused : Refusal) : Type 0 where
+pub record LacksObjects {X Y : Type 0} (first : Format X) (second : Format Y) (names : List (List ℕ))
+    (old new : FilesView) (refused : Refusal) : Type 0 where
   pub first_text : List ℕ
   pub second_text : List ℕ
   pub read : HasTexts names old new (first_text ∷ second_text ∷ [])

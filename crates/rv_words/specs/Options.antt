@@ -4,7 +4,8 @@ use Rattle.rv_words.specs.declared.options.TheConstants.{METHOD, TO, FROM, LIBRA
 
 abbrev pub option_names : List (List ℕ)
 option_names = codes "method" ∷ codes "to" ∷ codes "from" ∷ codes "library" ∷ codes "aux" ∷ codes "lines" ∷ codes "seed"
-    ∷ codes "all" ∷ codes "simplify" ∷ codes "wrap" ∷ codes "goal" ∷ codes "effort" ∷ codes "marks" ∷ codes "blocks" ∷ codes "as" ∷ []
+    ∷ codes "all" ∷ codes "simplify" ∷ codes "wrap" ∷ codes "goal" ∷ codes "effort" ∷ codes "marks" ∷ codes "blocks"
+    ∷ codes "as" ∷ []
 
 abbrev pub places : List ℕ
 places = METHOD ∷ TO ∷ FROM ∷ LIBRARY ∷ AUX ∷ LINES ∷ SEED ∷ ALL ∷ SIMPLIFY ∷ WRAP

@@ -39,7 +39,9 @@ usage_of Resynth = row (codes "resynth") 0 1 (GOAL ∷ EFFORT ∷ SEED ∷ MARKS
 usage_of Compute = row (codes "compute") 0 1 (LINES ∷ [])
 
 abbrev pub commands : List Command
-commands = Synth ∷ Embed ∷ Esop ∷ Templates ∷ Decompose ∷ Map ∷ Cost ∷ Simulate ∷ ToReal ∷ Flow ∷ Demo ∷ Fold ∷ Reduce ∷ Check ∷ Single ∷ Route ∷ Draw
+commands =
+    Synth ∷ Embed ∷ Esop ∷ Templates ∷ Decompose ∷ Map ∷ Cost ∷ Simulate ∷ ToReal ∷ Flow ∷ Demo ∷ Fold ∷ Reduce ∷ Check
+    ∷ Single ∷ Route ∷ Draw
     ∷ Compare ∷ Resynth ∷ Compute ∷ []
 
 -- the command of this name

@@ -43,8 +43,8 @@ form_to value =
     else (if bytes_eq value (codes "pla") then Some Pla
     else None)
 
--- `flow` reads a truth table or a permutation, `compare` as its second input a circuit, one of these or a logic network, and `cost` and
--- `draw` a circuit or a network
+-- `flow` reads a truth table or a permutation, `compare` as its second input a circuit, one of these or a logic
+-- network, and `cost` and `draw` a circuit or a network
 abbrev pub form_from : Command → List ℕ → Option Form
 form_from Flow value =
     if bytes_eq value (codes "pla") then Some Pla

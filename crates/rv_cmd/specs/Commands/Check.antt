@@ -30,7 +30,8 @@ too_large lines _ = None
 
 -- the first one, for the least word; none is looked for if the circuit has another number of lines
 abbrev pub coefficient_fault : Cascade → Network → Option InputFault
-coefficient_fault c net = if length c.names == net.lines then option_and_then (too_large net.lines) (first_large net) else None
+coefficient_fault c net =
+    if length c.names == net.lines then option_and_then (too_large net.lines) (first_large net) else None
 
 -- the circuit's lines, then the network's, then the coefficients
 abbrev pub check_limits : Cascade → Network → List Limit
@@ -56,7 +57,8 @@ no_verdict lines Mem = OutOfMemory
 -- ---- the report
 
 abbrev pub lines_said : ℕ → ℕ → List ℕ
-lines_said circuit_lines net_lines = codes "differs in lines " ++ (decimal circuit_lines ++ (codes " and " ++ decimal net_lines))
+lines_said circuit_lines net_lines =
+    codes "differs in lines " ++ (decimal circuit_lines ++ (codes " and " ++ decimal net_lines))
 
 -- a word is told in bits, as many as there are lines
 abbrev pub verdict_said : ℕ → Verdict → List ℕ
@@ -74,21 +76,26 @@ says_different (Differs word) = true
 
 -- what is found within the limits
 abbrev pub verdict_for : Cascade → Network → Verdict
-verdict_for c net = if length c.names == net.lines then verdict_of (first_difference c.gates net) else Lines (length c.names) net.lines
+verdict_for c net =
+    if length c.names == net.lines then verdict_of (first_difference c.gates net) else Lines (length c.names) net.lines
 
 abbrev pub check_report : Cascade → Listing → LimitedText
-check_report c listing = record { limits = check_limits c listing.net; text = verdict_text listing.net.lines (verdict_for c listing.net) }
+check_report c listing =
+    record { limits = check_limits c listing.net; text = verdict_text listing.net.lines (verdict_for c listing.net) }
 
 abbrev pub check_differs : Cascade → Listing → Bool
 check_differs c listing = says_different (verdict_for c listing.net)
 
--- The report is `same`, with status 0, exactly if the network denotes the circuit's run: for all words its exact amplitudes are those of
--- the circuit's permutation, times the root of two for each H; no phase is free. Else it tells the least word from which an amplitude is
--- another one, or both numbers of lines, with status 1.
+-- The report is `same`, with status 0, exactly if the network denotes the circuit's run: for all words its exact
+-- amplitudes are those of the circuit's permutation, times the root of two for each H; no phase is free. Else it tells
+-- the least word from which an amplitude is another one, or both numbers of lines, with status 1.
 pub record TellsVerdict (c : Cascade) (listing : Listing) (text : List ℕ) : Type 0 where
   pub is : text ≡ verdict_text listing.net.lines (verdict_for c listing.net)
-  pub same : (verdict_for c listing.net ≡ Same) ↔ ((length c.names ≡ listing.net.lines) × Denotes listing.net.lines listing.net.ops (run c.gates))
-  pub differs : (word : ℕ) → (verdict_for c listing.net ≡ Differs word) ↔ ((length c.names ≡ listing.net.lines) × IsLeastBreak c.gates listing.net word)
+  pub same : (verdict_for c listing.net ≡ Same) ↔
+      ((length c.names ≡ listing.net.lines) × Denotes listing.net.lines listing.net.ops (run c.gates))
+  pub differs : (word : ℕ)
+      → (verdict_for c listing.net ≡ Differs word) ↔
+      ((length c.names ≡ listing.net.lines) × IsLeastBreak c.gates listing.net word)
   pub lines :
       (n m : ℕ) → (verdict_for c listing.net ≡ Lines n m) ↔ ((length c.names ≡ n) × (listing.net.lines ≡ m) × (n ≢ m))
   pub status : (check_differs c listing ≡ false) ↔ (verdict_for c listing.net ≡ Same)

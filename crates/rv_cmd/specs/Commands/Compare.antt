@@ -1,4 +1,5 @@
--- `compare`: whether a circuit has the function of another circuit, a permutation or a logic network, or one that a table allows.
+-- `compare`: whether a circuit has the function of another circuit, a permutation or a logic network, or one that a
+-- table allows.
 use Rattle.std.specs.Prelude.{◌≡◌, ◌↔◌, ℕ, Bool, true, false, List, [], ◌∷◌, ◌++◌, ◌==◌, if◌then◌else◌, length, codes, decimal}
 use Rattle.rv_gate.specs.Circuit.{Cascade}
 use Rattle.rv_gate.specs.Marks.{input_count}
@@ -28,7 +29,8 @@ use Rattle.rv_cmd.specs.Row.{ReadsFirst, two}
 
 -- a circuit that is compared with another has at most so many inputs
 abbrev pub of_inputs : ℕ → Cascade → Limit
-of_inputs input c = at_most input (input_count c.constants) MOST_INPUTS (TooManyInputs (input_count c.constants) MOST_INPUTS)
+of_inputs input c =
+    at_most input (input_count c.constants) MOST_INPUTS (TooManyInputs (input_count c.constants) MOST_INPUTS)
 
 -- the first circuit's inputs, then the second one's
 abbrev pub compare_limits : Cascade → Cascade → List Limit
@@ -37,7 +39,8 @@ compare_limits a b = of_inputs 0 a ∷ of_inputs 1 b ∷ []
 -- the circuit's inputs, then the network's
 abbrev pub logic_limits : Cascade → Logic → List Limit
 logic_limits c network =
-    of_inputs 0 c ∷ at_most 1 (length network.inputs) MOST_INPUTS (TooManyInputs (length network.inputs) MOST_INPUTS) ∷ []
+    of_inputs 0 c ∷ at_most 1 (length network.inputs) MOST_INPUTS (TooManyInputs (length network.inputs) MOST_INPUTS)
+    ∷ []
 
 -- By `LimitsInTerms` these limits are kept exactly if:
 pub record CanBeCompared (a b : Cascade) : Type 0 where
@@ -61,7 +64,8 @@ counts_said what n m = what ++ (decimal n ++ (codes " and " ++ decimal m))
 
 -- a word is told in bits, as many as there are inputs
 abbrev pub differs_said : ℕ → ℕ → List ℕ
-differs_said inputs word = if inputs == 0 then codes "differs at the empty word" else codes "differs at word " ++ bits_of inputs word
+differs_said inputs word =
+    if inputs == 0 then codes "differs at the empty word" else codes "differs at word " ++ bits_of inputs word
 
 abbrev pub comparison_said : ℕ → Comparison → List ℕ
 comparison_said inputs Same = codes "same"
@@ -78,9 +82,11 @@ says_apart (Inputs n m) = true
 says_apart (Outputs n m) = true
 says_apart (Differs word) = true
 
--- The report is `same`, with status 0, exactly if both sides have as many inputs and as many outputs, and agree at each input word. Else
--- it tells the least input word at which they don't, or both numbers of inputs, or of outputs, with status 1.
-pub record TellsComparison (a b : Size) (Agree : List Bool → Type 0) (answer : Comparison) (text : List ℕ) : Type 0 where
+-- The report is `same`, with status 0, exactly if both sides have as many inputs and as many outputs, and agree at each
+-- input word. Else it tells the least input word at which they don't, or both numbers of inputs, or of outputs, with
+-- status 1.
+pub record TellsComparison (a b : Size) (Agree : List Bool → Type 0) (answer : Comparison)
+    (text : List ℕ) : Type 0 where
   pub is : text ≡ comparison_text a.inputs answer
   pub exact : (other : Comparison) → (answer ≡ other) ↔ IsAnswer a b Agree other
   pub status : (says_apart answer ≡ false) ↔ (answer ≡ Same)
@@ -88,7 +94,8 @@ pub record TellsComparison (a b : Size) (Agree : List Bool → Type 0) (answer :
 -- ---- a circuit and another: they give the same word
 
 abbrev pub circuits_report : Cascade → Cascade → LimitedText
-circuits_report a b = record { limits = compare_limits a b; text = comparison_text (input_count a.constants) (circuits_answer a b) }
+circuits_report a b =
+    record { limits = compare_limits a b; text = comparison_text (input_count a.constants) (circuits_answer a b) }
 
 abbrev pub circuits_differ : Cascade → Cascade → Bool
 circuits_differ a b = says_apart (circuits_answer a b)
@@ -122,7 +129,10 @@ TellsTable c pla = TellsComparison (size_of c) (size_for pla) (GivesAllowed c pl
 
 abbrev pub logic_report : Cascade → Logic → LimitedText
 logic_report c network =
-    record { limits = logic_limits c network; text = comparison_text (input_count c.constants) (logic_answer c network) }
+    record {
+      limits = logic_limits c network;
+      text = comparison_text (input_count c.constants) (logic_answer c network);
+    }
 
 abbrev pub logic_differs : Cascade → Logic → Bool
 logic_differs c network = says_apart (logic_answer c network)
@@ -160,7 +170,11 @@ MeansLogic all c network = TellsLogic (asked all c) network
 
 -- by the form of the second input
 abbrev pub compare_row : Form → Bool → ReadsFirst
-compare_row form.Pla all = two circuit table (with_table table_report all) (with_table table_differs all) (MeansTable all)
-compare_row form.Perm all = two circuit permutation (with_perm perm_report all) (with_perm perm_differs all) (MeansPerm all)
-compare_row form.Blif all = two circuit logic (with_logic logic_report all) (with_logic logic_differs all) (MeansLogic all)
-compare_row _ all = two circuit circuit (with_circuit circuits_report all) (with_circuit circuits_differ all) (MeansCircuits all)
+compare_row form.Pla all =
+    two circuit table (with_table table_report all) (with_table table_differs all) (MeansTable all)
+compare_row form.Perm all =
+    two circuit permutation (with_perm perm_report all) (with_perm perm_differs all) (MeansPerm all)
+compare_row form.Blif all =
+    two circuit logic (with_logic logic_report all) (with_logic logic_differs all) (MeansLogic all)
+compare_row _ all =
+    two circuit circuit (with_circuit circuits_report all) (with_circuit circuits_differ all) (MeansCircuits all)

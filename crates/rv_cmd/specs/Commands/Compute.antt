@@ -21,9 +21,10 @@ use Rattle.rv_cmd.specs.Row.{ReadsFirst, finds}
 abbrev pub compute_limits : Logic → List Limit
 compute_limits network = []
 
--- Why the search may end without a circuit on so many lines. The best order of steps that it found takes more lines, and not more than
--- one for each input, output and node, so that it never ends so where there are as many; or the circuit would have more gates than a
--- circuit has, and then a flip for each word of each node's operands, there and back, and one for each output are too many, too.
+-- Why the search may end without a circuit on so many lines. The best order of steps that it found takes more lines,
+-- and not more than one for each input, output and node, so that it never ends so where there are as many; or the
+-- circuit would have more gates than a circuit has, and then a flip for each word of each node's operands, there and
+-- back, and one for each output are too many, too.
 abbrev pub EndsFor : ℕ → Logic → InputFault → Type 0
 EndsFor most network (TooManyLines found limit) = (limit ≡ most) × (most < found) × (found ≤ line_bound network)
 EndsFor most network (MoreGates limit) = (limit ≡ MOST_GATES) × (MOST_GATES < gate_bound network)
@@ -39,9 +40,9 @@ abbrev pub EndsInVain : ℕ → Logic → Refusal → Type 0
 EndsInVain most network (Refused input why) = (input ≡ 0) × EndsFor most network why
 EndsInVain most network OutOfMemory = ⊥
 
--- Read back, the text is a circuit on at most so many lines: those of the network's inputs, which end as they began, those of its outputs,
--- to which the outputs are added, and work lines, which hold 0 at first and at the end. By its marks it gives the network's outputs at
--- each input word.
+-- Read back, the text is a circuit on at most so many lines: those of the network's inputs, which end as they began,
+-- those of its outputs, to which the outputs are added, and work lines, which hold 0 at first and at the end. By its
+-- marks it gives the network's outputs at each input word.
 pub record IsComputation (most : ℕ) (network : Logic) (text : List ℕ) : Type 0 where
   pub circuit : Cascade
   pub is : text ≡ text_of circuit

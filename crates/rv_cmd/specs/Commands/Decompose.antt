@@ -18,8 +18,8 @@ decomposition_limits aux c = of_lines (lines_with_helpers aux c) MOST_LINES ∷ 
 abbrev pub decompose_report : Aux → Cascade → LimitedText
 decompose_report aux c = record { limits = decomposition_limits aux c; text = text_of (decomposed aux c) }
 
--- Read back, the text is the decomposed circuit: it does what the circuit does and gives each helper line back, by NOT, CNOT and
--- Toffoli gates alone, as many as the costs say.
+-- Read back, the text is the decomposed circuit: it does what the circuit does and gives each helper line back, by NOT,
+-- CNOT and Toffoli gates alone, as many as the costs say.
 pub record IsDecomposition (aux : Aux) (c : Cascade) (text : List ℕ) : Type 0 where
   pub read_back : real_of text ≡ Ok (decomposed aux c)
   pub decomposes : Decomposes aux c (decomposed aux c)

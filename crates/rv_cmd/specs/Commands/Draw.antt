@@ -72,7 +72,9 @@ pub record IsDrawing (picture : PictureForm) (wrap : ℕ) (c : Cascade) (text : 
 -- exchanged from the top), which have the same amplitudes.
 pub record IsNetworkDrawing (picture : PictureForm) (wrap : ℕ) (listing : Listing) (text : List ℕ) : Type 0 where
   pub shows : shown_in picture op_of text ≡ Some (network_picture (network_lines listing.net.lines) listing.net.ops)
-  pub same : (x y : List Bool) → amplitude (network_picture (network_lines listing.net.lines) listing.net.ops).gates x y ≡ amplitude listing.net.ops x y
+  pub same : (x y : List Bool)
+      → amplitude (network_picture (network_lines listing.net.lines) listing.net.ops).gates x y
+      ≡ amplitude listing.net.ops x y
   pub laid_out : StandsInRows picture wrap text
 
 -- by the form of the input

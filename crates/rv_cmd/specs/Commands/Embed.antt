@@ -17,7 +17,8 @@ embed_limits pla = of_lines (least_lines pla) MOST_PERM_LINES ∷ []
 abbrev pub embed_report : TwoLevel → LimitedText
 embed_report pla = record { limits = embed_limits pla; text = text_of (embedding_of pla) }
 
--- Read back, the text is a permutation with marks that gives what the PLA asks. Where no entry is free, none does so on fewer lines.
+-- Read back, the text is a permutation with marks that gives what the PLA asks. Where no entry is free, none does so on
+-- fewer lines.
 pub record IsEmbedded (pla : TwoLevel) (text : List ℕ) : Type 0 where
   pub read_back : permutation_of text ≡ Ok (embedding_of pla)
   pub means : Embeds pla (embedding_of pla)

@@ -1,4 +1,5 @@
--- `esop`: a cascade that adds the function of a PLA to its outputs, or its list of cubes: the reduced one, or one that a search finds.
+-- `esop`: a cascade that adds the function of a PLA to its outputs, or its list of cubes: the reduced one, or one that
+-- a search finds.
 use Rattle.std.specs.Prelude.{◌≡◌, ◌≤◌, ℕ, Bool, List, [], ◌∷◌, ◌++◌, length, Option, Some, None, Ok}
 use Rattle.rv_gate.specs.Circuit.{Cascade}
 use Rattle.rv_gate.specs.Gate.{run}
@@ -49,17 +50,18 @@ abbrev pub Adds : Esop → Cascade → Type 0
 Adds list c = (x v : List Bool) → length x ≡ list.inputs → length v ≡ list.outputs
     → run c.gates (x ++ v) ≡ x ++ xor_set v (esop_value list.cubes x)
 
--- Read back, the text is a circuit that keeps the inputs and adds the value of the cubes to the outputs, whatever these hold. The
--- value has the bit of each entry that isn't free, so with its constants put in and its garbage left out the circuit gives what the
--- PLA asks.
+-- Read back, the text is a circuit that keeps the inputs and adds the value of the cubes to the outputs, whatever these
+-- hold. The value has the bit of each entry that isn't free, so with its constants put in and its garbage left out the
+-- circuit gives what the PLA asks.
 pub record IsEsopCascade (pla : TwoLevel) (text : List ℕ) : Type 0 where
   pub read_back : real_of text ≡ Ok (cascade_of (reduced_list pla))
   pub adds : Adds (reduced_list pla) (cascade_of (reduced_list pla))
   pub value : IsRight pla (reduced_list pla).cubes
   pub gives : Gives pla (cascade_of (reduced_list pla))
 
--- Read back, the text is a PLA of type esop with these sizes and cubes. Its function has the bit of each entry that isn't free, and no
--- step of the reduction applies to its cubes: no two have one input part or merge, no exorlink leads on, and no output is idle.
+-- Read back, the text is a PLA of type esop with these sizes and cubes. Its function has the bit of each entry that
+-- isn't free, and no step of the reduction applies to its cubes: no two have one input part or merge, no exorlink leads
+-- on, and no output is idle.
 pub record IsList (pla : TwoLevel) (text : List ℕ) : Type 0 where
   pub back : TwoLevel
   pub read_back : pla_of text ≡ Ok back
@@ -86,9 +88,10 @@ abbrev pub found_limits : Form → TwoLevel → List Limit
 found_limits Pla pla = []
 found_limits _ pla = (cascade_report (reduced_list pla)).limits
 
--- Read back, the text is a circuit on the lines of the cascade. It keeps the inputs and adds the value of a list of cubes, which is no
--- worse by the goal than the reduced list, and whose value has the bit of each entry that isn't free. So the circuit gives what the PLA
--- asks. By the goal it costs no more than the cascade of that list, and no more than that of the reduced one.
+-- Read back, the text is a circuit on the lines of the cascade. It keeps the inputs and adds the value of a list of
+-- cubes, which is no worse by the goal than the reduced list, and whose value has the bit of each entry that isn't
+-- free. So the circuit gives what the PLA asks. By the goal it costs no more than the cascade of that list, and no more
+-- than that of the reduced one.
 pub record IsFoundCascade (goal : Goal) (pla : TwoLevel) (text : List ℕ) : Type 0 where
   pub circuit : Cascade
   pub is : text ≡ text_of circuit
@@ -101,7 +104,8 @@ pub record IsFoundCascade (goal : Goal) (pla : TwoLevel) (text : List ℕ) : Typ
   pub no_dearer_than_reduced : cost_of goal circuit.gates ≤ cost_of goal (cascade_of (reduced_list pla)).gates
   pub gives : Gives pla circuit
 
--- Read back, the text is a PLA of type esop with the cubes of such a list. Its function has the bit of each entry that isn't free.
+-- Read back, the text is a PLA of type esop with the cubes of such a list. Its function has the bit of each entry that
+-- isn't free.
 pub record IsFoundList (goal : Goal) (pla : TwoLevel) (text : List ℕ) : Type 0 where
   pub list : Esop
   pub is : text ≡ esop_text list.inputs list.outputs list.cubes

@@ -36,15 +36,21 @@ module _ (method : Synthesis) (simplify : Bool) (blocks : Blocks) (aux : Aux) wh
   flow_limits spec = network_limits blocks aux (circuit_for method simplify spec)
 
   abbrev pub flow_report : Marked → LimitedText
-  flow_report spec = record { limits = flow_limits spec; text = text_of (mapped blocks aux (circuit_for method simplify spec)) }
+  flow_report spec =
+      record { limits = flow_limits spec; text = text_of (mapped blocks aux (circuit_for method simplify spec)) }
 
   -- the embedding's limit, then those of its flow
   abbrev pub function_report : TwoLevel → LimitedText
-  function_report pla = record { limits = embed_limits pla ++ flow_limits (embedding_of pla); text = (flow_report (embedding_of pla)).text }
+  function_report pla =
+      record {
+        limits = embed_limits pla ++ flow_limits (embedding_of pla);
+        text = (flow_report (embedding_of pla)).text;
+      }
 
-  -- Read back, the text is the network of the permutation's circuit, in one register q, on its lines and the helper lines after them. It
-  -- carries the permutation: for each word and whatever the helper lines may hold, its exact amplitudes are those of the permutation,
-  -- which gives the helper lines back, times the root of two for each H; no phase is free.
+  -- Read back, the text is the network of the permutation's circuit, in one register q, on its lines and the helper
+  -- lines after them. It carries the permutation: for each word and whatever the helper lines may hold, its exact
+  -- amplitudes are those of the permutation, which gives the helper lines back, times the root of two for each H; no
+  -- phase is free.
   pub record IsFlow (spec : Marked) (text : List ℕ) : Type 0 where
     pub net : Network
     pub is : text ≡ text_of net
@@ -53,7 +59,8 @@ module _ (method : Synthesis) (simplify : Bool) (blocks : Blocks) (aux : Aux) wh
     pub valid : IsNetwork net
     pub lines : net.lines ≡ spec.table.lines + helper_count aux (circuit_for method simplify spec)
     pub few : net.lines ≤ spec.table.lines + 13
-    pub carries : Carries aux spec.table.lines (helper_count aux (circuit_for method simplify spec)) net.ops (permuted spec.table)
+    pub carries : Carries aux spec.table.lines (helper_count aux (circuit_for method simplify spec)) net.ops
+        (permuted spec.table)
 
   -- It carries the embedding, which gives what the PLA asks.
   pub record IsFunctionFlow (pla : TwoLevel) (text : List ℕ) : Type 0 where
@@ -62,5 +69,7 @@ module _ (method : Synthesis) (simplify : Bool) (blocks : Blocks) (aux : Aux) wh
 
 -- by the form of the input
 abbrev pub flow_row : Form → Synthesis → Bool → Blocks → Aux → ReadsFirst
-flow_row form.Perm method simplify blocks aux = one permutation (flow_report method simplify blocks aux) (IsFlow method simplify blocks aux)
-flow_row _ method simplify blocks aux = one table (function_report method simplify blocks aux) (IsFunctionFlow method simplify blocks aux)
+flow_row form.Perm method simplify blocks aux =
+    one permutation (flow_report method simplify blocks aux) (IsFlow method simplify blocks aux)
+flow_row _ method simplify blocks aux =
+    one table (function_report method simplify blocks aux) (IsFunctionFlow method simplify blocks aux)

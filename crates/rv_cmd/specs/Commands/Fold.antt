@@ -10,9 +10,9 @@ use Rattle.rv_cmd.specs.Row.{ReadsFirst, one}
 abbrev pub fold_report : Listing → LimitedText
 fold_report listing = unlimited (text_of (folded_network listing.net))
 
--- Read back, the text is the folded network, in one register q and without a measurement. It has the same amplitude between all words
--- and as many H, no more operations and no more T, and nothing is left to join. What joins is an equivalence, and what an operation
--- restarts is least.
+-- Read back, the text is the folded network, in one register q and without a measurement. It has the same amplitude
+-- between all words and as many H, no more operations and no more T, and nothing is left to join. What joins is an
+-- equivalence, and what an operation restarts is least.
 pub record IsFolded (listing : Listing) (text : List ℕ) : Type 0 where
   pub read_back : qasm_of text ≡ Ok (in_register_q (folded_network listing.net))
   pub folding : IsFoldingOf listing.net (folded_network listing.net)

@@ -19,9 +19,9 @@ use Rattle.rv_inputs.specs.Formats.{circuit}
 use Rattle.rv_cmd.specs.Limits.{Limit, LimitedText, of_gates, of_lines, of_ops}
 use Rattle.rv_cmd.specs.Row.{ReadsFirst, one}
 
--- The network of a circuit, on its lines and the helper lines of its decomposition: each gate of the decomposed circuit becomes
--- operations of its own; or each gate of the circuit a ladder whose phases cancel; or each of the decomposed circuit one operation;
--- or each of these operations on neighbours, where its lines are a row.
+-- The network of a circuit, on its lines and the helper lines of its decomposition: each gate of the decomposed circuit
+-- becomes operations of its own; or each gate of the circuit a ladder whose phases cancel; or each of the decomposed
+-- circuit one operation; or each of these operations on neighbours, where its lines are a row.
 abbrev pub mapped : Blocks → Aux → Cascade → Network
 mapped Exact aux c = expanded (decomposed aux c)
 mapped Relative aux c = relative_net aux c
@@ -48,8 +48,8 @@ MapsBy Relative aux c net = MapsRelative aux c net
 MapsBy Toffoli aux c net = MapsToffoli aux c net
 MapsBy Near aux c net = MapsNear aux c net
 
--- Read back, the text is a network, in one register q, that carries the circuit: with the exact amplitudes of its permutation on the
--- lines and helper lines of the decomposed circuit.
+-- Read back, the text is a network, in one register q, that carries the circuit: with the exact amplitudes of its
+-- permutation on the lines and helper lines of the decomposed circuit.
 pub record IsMapping (blocks : Blocks) (aux : Aux) (c : Cascade) (text : List ℕ) : Type 0 where
   pub net : Network
   pub is : text ≡ text_of net

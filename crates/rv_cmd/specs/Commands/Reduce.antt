@@ -12,9 +12,9 @@ use Rattle.rv_cmd.specs.Row.{ReadsFirst, always, finds}
 abbrev pub reduce_limits : Listing → List Limit
 reduce_limits listing = []
 
--- Read back, the text is a network in one register q and without a measurement. Each amplitude of what was read is 2^k times
--- the network's, which has k pairs of H less, no more operations and no more T, and nothing left to cancel. What was denoted or
--- carried still is.
+-- Read back, the text is a network in one register q and without a measurement. Each amplitude of what was read is 2^k
+-- times the network's, which has k pairs of H less, no more operations and no more T, and nothing left to cancel. What
+-- was denoted or carried still is.
 pub record IsReduced (listing : Listing) (text : List ℕ) : Type 0 where
   pub net : Network
   pub is : text ≡ text_of net

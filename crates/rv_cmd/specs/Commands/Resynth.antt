@@ -26,8 +26,8 @@ abbrev pub resynth_limits : Bool → Cascade → List Limit
 resynth_limits true c = of_inputs 0 c ∷ []
 resynth_limits false c = []
 
--- Read back, the text is a circuit with the names, labels and marks of the one that was read. It makes the same of every word, and the
--- goal counts no more of it.
+-- Read back, the text is a circuit with the names, labels and marks of the one that was read. It makes the same of
+-- every word, and the goal counts no more of it.
 pub record IsResynthesized (goal : Goal) (c : Cascade) (text : List ℕ) : Type 0 where
   pub new : Cascade
   pub is : text ≡ text_of new

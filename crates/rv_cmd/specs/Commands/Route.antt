@@ -13,8 +13,8 @@ use Rattle.rv_cmd.specs.Row.{ReadsFirst, one}
 abbrev pub route_report : Cascade → LimitedText
 route_report c = record { limits = of_gates (length (routed c).gates) ∷ []; text = text_of (routed c) }
 
--- Read back, the text is the routed circuit, with the names, labels and marks of the given one: it does the same to every word, and
--- each of its gates touches consecutive lines.
+-- Read back, the text is the routed circuit, with the names, labels and marks of the given one: it does the same to
+-- every word, and each of its gates touches consecutive lines.
 pub record IsRouting (c : Cascade) (text : List ℕ) : Type 0 where
   pub read_back : real_of text ≡ Ok (routed c)
   pub same : (word : List Bool) → length word ≡ length c.names → run (routed c).gates word ≡ run c.gates word

@@ -34,7 +34,8 @@ answered_by all words (Err unmade) = ended (Err (fault_of unmade))
 
 abbrev pub simulated : Bool → Contents → Outcome
 simulated all contents =
-    answered_by all (content_at contents 1) (content_or_fault 0 (content_at contents 0) >>= λ text. as_unmade (at_input 0 (circuit text)))
+    answered_by all (content_at contents 1)
+    (content_or_fault 0 (content_at contents 0) >>= λ text. as_unmade (at_input 0 (circuit text)))
 
 -- The text is the answers to all words by the circuit: what it makes of each, with the constants filled in.
 pub record IsSimulation (all : Bool) (words text : List ℕ) (c : Cascade) : Type 0 where
@@ -78,7 +79,8 @@ pub record ReachesWrong (all : Bool) (place : ℕ) (words : List ℕ) (c : Casca
   pub found : first_wrong c all words ≡ Some line
   pub is : IsFirstWrong c all (lines_within words) line
   pub within : place ≤ length words
-  pub reached : (wrong_line (answer_to c all) 1 (ended_after [] (take place words)) ≡ Some line) ⊎ (place ≡ length words)
+  pub reached : (wrong_line (answer_to c all) 1 (ended_after [] (take place words)) ≡ Some line)
+      ⊎ (place ≡ length words)
 
 -- the circuit and the words are held, and their first wrong line was read
 pub record HasReachedWrong (all : Bool) (contents : Contents) (place : ℕ) : Type 0 where
@@ -90,8 +92,10 @@ pub record HasReachedWrong (all : Bool) (contents : Contents) (place : ℕ) : Ty
 
 -- where an input is refused: the circuit, which was read to its end, or the words, up to a wrong line
 abbrev pub HasReadInputs : Bool → List (List ℕ) → Contents → ℕ → FilesView → FilesView → Type 0
-HasReadInputs all names contents zero old new = IfSome (content_at contents 0) (λ text. IsReadWhole (name_at names 0) text old new)
-HasReadInputs all names contents (suc input) old new = IsOpen (name_at names 1) old new × HasReachedWrong all contents new.place
+HasReadInputs all names contents zero old new =
+    IfSome (content_at contents 0) (λ text. IsReadWhole (name_at names 0) text old new)
+HasReadInputs all names contents (suc input) old new =
+    IsOpen (name_at names 1) old new × HasReachedWrong all contents new.place
 
 -- a line of words is blank, or has a bit for each line of the circuit that takes one
 pub record IsWordFor (c : Cascade) (all : Bool) (line : List ℕ) : Type 0 where

@@ -22,13 +22,14 @@ rows_method SingleTargets = Best
 abbrev pub synth_report : Method → Marked → LimitedText
 synth_report method spec = unlimited (text_of (synthesis_of method spec))
 
--- Read back, the text is a circuit that computes the permutation on every word, with its marks, of at most n * 2^n gates on n lines. By `best` it has
--- no more gates than by any other method.
+-- Read back, the text is a circuit that computes the permutation on every word, with its marks, of at most n * 2^n
+-- gates on n lines. By `best` it has no more gates than by any other method.
 pub record IsSynthesis (method : Method) (spec : Marked) (text : List ℕ) : Type 0 where
   pub read_back : real_of text ≡ Ok (synthesis_of method spec)
   pub computes : Computes spec.table.lines (synthesis_of method spec).gates spec.table.images
   pub bound : length (synthesis_of method spec).gates ≤ spec.table.lines * 2 ^ spec.table.lines
-  pub shortest : method ≡ Best → (other : Method) → length (synthesis_of method spec).gates ≤ length (synthesis_of other spec).gates
+  pub shortest : method ≡ Best → (other : Method)
+      → length (synthesis_of method spec).gates ≤ length (synthesis_of other spec).gates
 
 abbrev pub synth_row : Method → ReadsFirst
 synth_row method = one permutation (synth_report method) (IsSynthesis method)

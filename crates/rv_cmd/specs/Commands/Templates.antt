@@ -52,10 +52,12 @@ abbrev pub simplified_report : Cascade → LimitedText
 simplified_report c = unlimited (text_of (simplified_by built_in c))
 
 abbrev pub templates_report : Cascade → Cascade → LimitedText
-templates_report c given = record { limits = template_limits given; text = text_of (simplified_by (library_with given) c) }
+templates_report c given =
+    record { limits = template_limits given; text = text_of (simplified_by (library_with given) c) }
 
--- Read back, the text is the simplified circuit: it does the same on every word, with no more gates, which touch no more lines in sum, and
--- neither a pair nor a window is left. Each step on the way made the first pair, or replaced the first window where there was no pair.
+-- Read back, the text is the simplified circuit: it does the same on every word, with no more gates, which touch no
+-- more lines in sum, and neither a pair nor a window is left. Each step on the way made the first pair, or replaced the
+-- first window where there was no pair.
 pub record IsSimplified (library : List (List Shape)) (c : Cascade) (text : List ℕ) : Type 0 where
   pub read_back : real_of text ≡ Ok (simplified_by library c)
   pub same : Same (length c.names) c.gates (simplified library c.gates)
@@ -67,4 +69,5 @@ pub record IsSimplified (library : List (List Shape)) (c : Cascade) (text : List
 -- by the built-in templates, or by a given one too
 abbrev pub templates_row : Option (List ℕ) → ReadsFirst
 templates_row None = one circuit simplified_report (IsSimplified built_in)
-templates_row (Some name) = two circuit circuit templates_report (λ c given. false) (λ c given. IsSimplified (library_with given) c)
+templates_row (Some name) =
+    two circuit circuit templates_report (λ c given. false) (λ c given. IsSimplified (library_with given) c)

@@ -14,7 +14,8 @@ pub record IsMadeBy (row : ReadsFirst) (names : List (List ℕ)) (old new : File
   pub report : IsReportOf (report_by row (product_text made.product) texts) (MeansBy row texts) made
 
 -- the command refuses the texts, or searches in vain
-pub record IsRefusedBy (row : ReadsFirst) (names : List (List ℕ)) (old new : FilesView) (refused : Refusal) : Type 0 where
+pub record IsRefusedBy (row : ReadsFirst) (names : List (List ℕ)) (old new : FilesView)
+    (refused : Refusal) : Type 0 where
   pub texts : List (List ℕ)
   pub read : HasTexts names old new texts
   pub is : (report_by row [] texts ≡ Err refused) ⊎ LacksBy row texts refused
@@ -23,7 +24,8 @@ abbrev pub IsUnmadeBy : ReadsFirst → List (List ℕ) → FilesView → FilesVi
 IsUnmadeBy row names old new = IsUnread names old new (IsRefusedBy row names old new)
 
 -- what is made of the inputs, or why nothing is
-pub record Makes (row : ReadsFirst) (names : List (List ℕ)) (old new : FilesView) (result : Result Made Unmade) : Type 0 where
+pub record Makes (row : ReadsFirst) (names : List (List ℕ)) (old new : FilesView)
+    (result : Result Made Unmade) : Type 0 where
   pub keeps : ReadsOnly names old new
   pub made : IfOk result (IsMadeBy row names old new)
   pub unmade : IfErr result (IsUnmadeBy row names old new)

@@ -56,7 +56,8 @@ pub record Own (logic : Logic) (copied made count : ℕ) (gates : List Shape) : 
   pub held : List (Option ℕ)
   pub stands : Stands logic (length logic.nodes) held gates
   pub own : (signal : ℕ) → signal < length logic.inputs + made → held_at held (own_line logic signal) ≡ Some signal
-  pub copies : (line : ℕ) → length logic.inputs ≤ line → line < length logic.inputs + copied → held_at held line ≡ due logic line
+  pub copies : (line : ℕ) → length logic.inputs ≤ line → line < length logic.inputs + copied
+      → held_at held line ≡ due logic line
   pub no_output : (line : ℕ) → length logic.inputs + copied ≤ line → line < length logic.inputs + length logic.outputs
       → held_at held line ≡ None
   pub no_node : (line : ℕ) → length logic.inputs + length logic.outputs + made ≤ line → line < line_bound logic

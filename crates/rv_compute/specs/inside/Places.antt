@@ -20,7 +20,8 @@ IsBeside lines target (Line line on) = (line < lines) × (line ≢ target)
 IsBeside lines target (Constant bit) = Unit {0}
 
 abbrev pub AreBeside : ℕ → ℕ → List (Option Place) → Type 0
-AreBeside lines target places = (operand : ℕ) (place : Place) → place_at places operand ≡ Some place → IsBeside lines target place
+AreBeside lines target places =
+    (operand : ℕ) (place : Place) → place_at places operand ≡ Some place → IsBeside lines target place
 
 -- each operand has its place
 abbrev pub AreThere : List (Option Place) → Type 0
