@@ -11,6 +11,7 @@ use Rattle.rv_net.proofs.inside.Network.{ArePlain}
 use Rattle.rv_near.specs.Near.{MapsNear, near_net, near_ops}
 use Rattle.rv_near.proofs.Flips.{carries-near}
 use Rattle.rv_near.proofs.Operations.{near-fits, on-neighbours}
+use Rattle.rv_near.proofs.Routed.{decomposed-near}
 
 -- the law
 pub maps-near : (aux : Aux) (c : Cascade) → IsCascade c → lines_with_helpers aux c ≤ MOST_LINES → IsCascade (decomposed aux c)
@@ -27,5 +28,8 @@ maps-near aux c given few valid short =
       lines = lines;
       is = refl;
       near = on-neighbours n made.gates valid.names.few plain;
+      routed = λ routed.
+          on-neighbours n made.gates valid.names.few plain
+          (decomposed-near aux (length c.names) (helper_count aux c) c.gates routed);
       carries = carries-near n made.gates valid.names.few plain aux (length c.names) (helper_count aux c) c.gates (sym lines) is.extends;
     }

@@ -1,11 +1,11 @@
 -- The network of a circuit of flips with at most two controls, in which CNOT joins neighbours where a flip's lines are a row.
-use Rattle.std.specs.Prelude.{◌≡◌, ℕ, ◌+◌, ◌==◌, ◌&&◌, ◌||◌, ◌⊎◌, Bool, List, [], ◌∷◌, ◌++◌, All, if◌then◌else◌, length}
+use Rattle.std.specs.Prelude.{◌≡◌, ◌≤◌, ℕ, ◌+◌, ◌==◌, ◌&&◌, ◌||◌, ◌⊎◌, Bool, List, [], ◌∷◌, ◌++◌, All, if◌then◌else◌, length}
 use Rattle.std.specs.List.{flat_map}
 use Rattle.rv_gate.specs.Circuit.{Cascade}
 use Rattle.rv_gate.specs.Gate.{run}
 use Rattle.rv_gate.specs.declared.gate.Shape.{Shape}
 use Rattle.rv_gate.specs.declared.gate.Shape.TheVariants.{Flip, Swap as SwapGate, Peres}
-use Rattle.rv_mct.specs.Blocks.{controls_of}
+use Rattle.rv_mct.specs.Blocks.{controls_of, count_lines}
 use Rattle.rv_mct.specs.Widened.{decomposed, helper_count, lines_with_helpers}
 use Rattle.rv_mct.specs.declared.aux.Aux.{Aux}
 use Rattle.rv_mct.specs.declared.control.Control.{Control}
@@ -61,12 +61,21 @@ IsOnNeighbours (Ccx a b c) = ⊥
 IsOnNeighbours (Cswap c a b) = ⊥
 IsOnNeighbours _ = Unit {0}
 
--- A network on the lines of the decomposed circuit. If each gate of that circuit touches consecutive lines, each operation is on
--- neighbours. For each word and whatever the helper lines may hold, its exact amplitudes are those of the circuit's
--- permutation, which gives the helper lines back, times the root of two for each H; no phase is free.
+-- A gate as a circuit has it that was decomposed and then routed: its lines are consecutive, and it is a flip with at
+-- most two controls, or a swap without a control.
+abbrev pub IsRouted : Shape → Type 0
+IsRouted (Flip care want t) = (count_lines care ≤ 2) × IsNear (Flip care want t)
+IsRouted (SwapGate care want a b) = (care ≡ 0) × IsNear (SwapGate care want a b)
+IsRouted (Peres a b c) = ⊥
+
+-- A network on the lines of the decomposed circuit. If each gate of that circuit touches consecutive lines, each
+-- operation is on neighbours; and so it is if each gate of the given circuit is as `route` leaves it. For each word and
+-- whatever the helper lines may hold, its exact amplitudes are those of the circuit's permutation, which gives the helper
+-- lines back, times the root of two for each H; no phase is free.
 pub record MapsNear (aux : Aux) (c : Cascade) (net : Network) : Type 0 where
   pub valid : IsNetwork net
   pub lines : net.lines ≡ lines_with_helpers aux c
   pub is : net ≡ near_net (decomposed aux c)
   pub near : All IsNear (decomposed aux c).gates → All IsOnNeighbours net.ops
+  pub routed : All IsRouted c.gates → All IsOnNeighbours net.ops
   pub carries : Carries aux (length c.names) (helper_count aux c) net.ops (run c.gates)
