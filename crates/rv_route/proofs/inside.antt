@@ -3,4 +3,5 @@ pub mod Shifts
 pub mod Gathers
 pub mod Running
 pub mod Routes
+pub mod Moving
 pub mod Steps

@@ -1,5 +1,5 @@
 -- The lines at some positions gather: after the moves they stand at consecutive positions.
-use Rattle.std.proofs.Common.{◌≡◌, ℕ, zero, suc, ◌+◌, ◌-◌, ◌<◌, ◌≤◌, Bool, true, false, cond, not, List, [], ◌∷◌, ◌++◌, length, get_or, take, drop, reverse, All, refl, sym, ◌∙◌, ap, inl, inr, arith, subst, add-one, append_assoc, length-append}
+use Rattle.std.proofs.Common.{◌≡◌, ℕ, zero, suc, ◌+◌, ◌-◌, ◌<◌, ◌≤◌, Bool, true, false, cond, not, List, [], ◌∷◌, ◌++◌, length, get_or, take, drop, reverse, All, refl, sym, ◌∙◌, ap, inl, inr, arith, add-one, append_assoc, length-append}
 use Rattle.std.proofs.lemmas.Bool.{cases_lt, false≢true}
 use Rattle.std.proofs.lemmas.List.{get_or_append_left, get_or-append_right}
 use Rattle.std.proofs.lemmas.List.Elements.{All-append, All-cons, filter_passes}
@@ -11,29 +11,9 @@ use Rattle.rv_route.proofs.inside.Shifts.{Moves, stay, Moves-append, Moves-same,
 
 -- ---- ascending positions
 
-pub AreAscending-room : (low n : ℕ) (ps : List ℕ) → low ≤ n → AreAscending low n ps → low + length ps ≤ n
-AreAscending-room low n [] le h = omega arith
-AreAscending-room low n (p ∷ rest) le h =
-    let r = AreAscending-room (p + 1) n rest (omega (arith, h.1)) h.2 in
-    omega (arith, h.0, h.1, r)
-
 AreAscending-weaker : (low n : ℕ) (ps : List ℕ) → AreAscending (low + 1) n ps → AreAscending low n ps
 AreAscending-weaker low n [] h = tt
 AreAscending-weaker low n (p ∷ rest) h = (omega (arith, h.0), h.1, h.2)
-
--- of the position at an index: those before it are below, and those behind it above
-pub record At (low n i : ℕ) (ps : List ℕ) : Type 0 where
-  pub from : low + i ≤ get_or ps i 0
-  pub room : get_or ps i 0 + (length ps - i) ≤ n
-
-pub ascending_at : (low n i : ℕ) (ps : List ℕ) → i < length ps → AreAscending low n ps → At low n i ps
-ascending_at low n i [] lt h = absurd (omega (arith, lt))
-ascending_at low n zero (p ∷ rest) lt h =
-    let r = AreAscending-room (p + 1) n rest (omega (arith, h.1)) h.2 in
-    record { from = omega (arith, h.0); room = omega (arith, r, h.1) }
-ascending_at low n (suc i) (p ∷ rest) lt h =
-    let r = ascending_at (p + 1) n i rest (omega (arith, lt)) h.2 in
-    record { from = omega (arith, h.0, r.from); room = omega (arith, r.room) }
 
 -- ---- the positions of the lines that are meant
 
@@ -216,13 +196,10 @@ module _ (f : ℕ → Bool) where
             last = c.last ∙ ap (λ n. places (n + 1) c.behind) (next (length c.before));
           }
 
-  -- the middle position, those below it and above it, and the row that is made: those that are meant stand together
+  -- the row that is made: those that are meant stand together
   pub record Gathered (s ps : List ℕ) : Type 0 where
-    pub lt : middle (length ps) < length ps
-    pub centre : get_or ps (middle (length ps)) 0 < length s
-    pub below : AreAscending 0 (get_or ps (middle (length ps)) 0) (take (middle (length ps)) ps)
-    pub above : AreAscending (get_or ps (middle (length ps)) 0 + 1) (length s) (drop (middle (length ps) + 1) ps)
-    pub few : length ps ≤ length s
+    pub some : 0 < length ps
+    pub ascending : AreAscending 0 (length s) ps
     pub low : List ℕ
     pub meant : List ℕ
     pub high : List ℕ
@@ -245,8 +222,6 @@ module _ (f : ℕ → Bool) where
       let last : List ℕ = filter f c.behind in
       let above : List ℕ = filter others c.behind in
       let a : List ℕ = below ++ (first ++ c.line ∷ []) in
-      let all : length s ≡ length c.before + 1 + length c.behind = ap length c.whole
-      ∙ (let e = length-append c.before (c.line ∷ c.behind) in omega (arith, e)) in
       let at : get_or ps k 0 ≡ length c.before = (let e = c.at in omega (arith, e)) in
       let len : length c.before + 1 ≡ length a =
       (let e = length-append below (first ++ c.line ∷ []) in
@@ -255,7 +230,6 @@ module _ (f : ℕ → Bool) where
       omega (arith, e, g, h)) in
       let from : length a + 0 ≡ 0 + length c.before + 1 = omega (arith, len) in
       let rest : drop (k + 1) ps ≡ places (0 + length c.before + 1) c.behind = ap (λ n. drop n ps) (add-one k) ∙ c.last in
-      let same : 0 + length c.before + 1 ≡ length c.before + 1 = omega arith in
       let up = Moves-same _ _ _ _ _ _
       (ap (λ l. moves_up l (0 + length c.before)) (sym c.first) ∙ ap (moves_up (take k ps)) (sym c.at)) (sym c.whole) refl
       (gathered_up c.before [] (c.line ∷ c.behind)) in
@@ -267,18 +241,9 @@ module _ (f : ℕ → Bool) where
       ∙ ap (λ l. below ++ l)
       (append_assoc first (c.line ∷ []) (last ++ above) ∙ sym (append_assoc first (c.line ∷ last) above)))
       (gathered_down c.behind a [] (length c.before) len) in
-      let Below : ℕ → Type 0 = λ n. AreAscending 0 n (take k ps) in
-      let Above : ℕ → Type 0 = λ n. AreAscending (n + 1) (length s) (drop (k + 1) ps) in
-      let P : List ℕ → Type 0 = AreAscending 0 (length c.before) in
-      let Q : List ℕ → Type 0 = AreAscending (length c.before + 1) (length s) in
       record {
-        lt = lt;
-        centre = omega (arith, at, all);
-        below = subst Below (sym at) (subst P (sym c.first) (places_ascend 0 (length c.before) c.before (omega arith)));
-        above = subst Above (sym at)
-            (subst Q (sym (rest ∙ ap (λ n. places n c.behind) same))
-            (places_ascend (length c.before + 1) (length s) c.behind (sym all)));
-        few = omega (arith, AreAscending-room 0 (length s) ps (omega arith) (places_ascend 0 (length s) s (omega arith)));
+        some = some;
+        ascending = places_ascend 0 (length s) s (omega arith);
         low = below;
         meant = first ++ c.line ∷ last;
         high = above;

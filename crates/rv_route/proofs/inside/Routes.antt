@@ -22,7 +22,7 @@ use Rattle.rv_route.proofs.inside.Running.{stands, bit_of-word_on, run_swaps, ac
 
 -- ---- home
 
-home_at : (n p : ℕ) → p < n → get_or (home n) p 0 ≡ p
+pub home_at : (n p : ℕ) → p < n → get_or (home n) p 0 ≡ p
 home_at n p lt = let e = get_or-range_with_len 0 n p 0 lt in omega (arith, e)
 
 pub IsPlacement-home : (n : ℕ) → IsPlacement n (home n)

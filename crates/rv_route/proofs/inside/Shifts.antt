@@ -13,25 +13,25 @@ use Rattle.rv_route.specs.inside.Standing.{IsPlacement, IsSwap}
 -- ---- one swap
 
 -- where the line at a position stood before its neighbours were swapped
-abbrev twin : ℕ → ℕ → ℕ
+abbrev pub twin : ℕ → ℕ → ℕ
 twin p q = cond (eqb q p) (p + 1) (cond (eqb q (p + 1)) p q)
 
-twin_low : (p q : ℕ) → q ≡ p → twin p q ≡ p + 1
+pub twin_low : (p q : ℕ) → q ≡ p → twin p q ≡ p + 1
 twin_low p q e = rw (eq-eqb q p e) refl
 
-twin_high : (p q : ℕ) → q ≡ p + 1 → twin p q ≡ p
+pub twin_high : (p q : ℕ) → q ≡ p + 1 → twin p q ≡ p
 twin_high p q e = let ne : q ≢ p = omega arith in rw (ne_eqb q p ne, eq-eqb q (p + 1) e) refl
 
-twin_other : (p q : ℕ) → q ≢ p → q ≢ p + 1 → twin p q ≡ q
+pub twin_other : (p q : ℕ) → q ≢ p → q ≢ p + 1 → twin p q ≡ q
 twin_other p q n m = rw (ne_eqb q p n, ne_eqb q (p + 1) m) refl
 
-twin-twin : (p q : ℕ) → twin p (twin p q) ≡ q
+pub twin-twin : (p q : ℕ) → twin p (twin p q) ≡ q
 twin-twin p q = grind arith
 
-twin-lt : (n p q : ℕ) → p + 1 < n → q < n → twin p q < n
+pub twin-lt : (n p q : ℕ) → p + 1 < n → q < n → twin p q < n
 twin-lt n p q h lt = grind arith
 
-get_or-swap : (s : List ℕ) (p q : ℕ) → p + 1 < length s → get_or (swap s p (p + 1)) q 0 ≡ get_or s (twin p q) 0
+pub get_or-swap : (s : List ℕ) (p q : ℕ) → p + 1 < length s → get_or (swap s p (p + 1)) q 0 ≡ get_or s (twin p q) 0
 get_or-swap s p q h = grind (arith, common_steps, swapped_from_swap, cases_eq, twin_low, twin_high, twin_other)
 
 pub IsPlacement-swap : (n : ℕ) (s : List ℕ) (p : ℕ) → p + 1 < n → IsPlacement n s → IsPlacement n (swap s p (p + 1))
