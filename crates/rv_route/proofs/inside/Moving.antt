@@ -6,6 +6,7 @@ use Rattle.std.proofs.Math.Nat.{mul-le-mul_left}
 use Rattle.std.proofs.lemmas.List.{append-nil, take_more, at_drop_all, drop_more, get_or-take, length-take, length-reverse, reverse-append, map-append, get_or-reverse, length-take-le, length-drop}
 use Rattle.std.proofs.lemmas.List.FromFn.{length-range_with_len, get_or-range_with_len}
 use Rattle.std.proofs.lemmas.List.Elements.{All-nil, All-cons, All-append, All-head, All-tail}
+use Rattle.std.proofs.lemmas.List.Edits.{length-swap}
 use Rattle.std.specs.List.{range_with_len, swap}
 use Rattle.rv_gate.proofs.Ranges.{range-suc}
 use Rattle.rv_gate.specs.declared.gate.Shape.{Shape}
@@ -27,11 +28,11 @@ position-swap n s p line h lt i =
     let at : get_or t q 0 ≡ line = get_or-swap s p q (omega (arith, i.len)) ∙ ap (λ k. get_or s k 0) (twin-twin p (position_of s line)) ∙ w.1 in
     position_is n t j line lt ∙ ap j.place (sym at) ∙ (j.line q (twin-lt n p (position_of s line) h w.0)).1
 
-unfoldable travels : List ℕ → ℕ → ℕ
+unfoldable pub travels : List ℕ → ℕ → ℕ
 travels [] q = q
 travels (p ∷ ps) q = travels ps (twin p q)
 
-position-swapped : (n : ℕ) (ps s : List ℕ) (line : ℕ) → line < n → All (IsSwap n) ps → IsPlacement n s → position_of (swapped ps s) line ≡ travels ps (position_of s line)
+pub position-swapped : (n : ℕ) (ps s : List ℕ) (line : ℕ) → line < n → All (IsSwap n) ps → IsPlacement n s → position_of (swapped ps s) line ≡ travels ps (position_of s line)
 unfolding swapped travels
 position-swapped n [] s line lt w i = refl
 position-swapped n (p ∷ ps) s line lt w i =
@@ -39,10 +40,18 @@ position-swapped n (p ∷ ps) s line lt w i =
     position-swapped n ps (swap s p (p + 1)) line lt (All-tail (IsSwap n) p ps w) (IsPlacement-swap n s p h i)
     ∙ ap (travels ps) (position-swap n s p line h lt i)
 
-travels-append : (ps qs : List ℕ) (q : ℕ) → travels (ps ++ qs) q ≡ travels qs (travels ps q)
+pub travels-append : (ps qs : List ℕ) (q : ℕ) → travels (ps ++ qs) q ≡ travels qs (travels ps q)
 unfolding travels
 travels-append [] qs q = refl
 travels-append (p ∷ ps) qs q = travels-append ps qs (twin p q)
+
+-- a line is found where it went
+pub moved_on : (n : ℕ) (ps s : List ℕ) (q : ℕ) → length s ≡ n → All (IsSwap n) ps → get_or (swapped ps s) (travels ps q) 0 ≡ get_or s q 0
+unfolding swapped travels
+moved_on n [] s q len w = refl
+moved_on n (p ∷ ps) s q len w =
+    moved_on n ps (swap s p (p + 1)) (twin p q) (length-swap s p (p + 1) ∙ len) (All-tail (IsSwap n) p ps w)
+    ∙ get_or-swap s p (twin p q) (let h = All-head (IsSwap n) p ps w in omega arith) ∙ ap (λ k. get_or s k 0) (twin-twin p q)
 
 stays : (a q : ℕ) → shifted a a q ≡ q
 stays a q = grind arith
@@ -132,28 +141,32 @@ length-swaps_of a b =
     length-append (swaps_up a b) (swaps_down a b)
     ∙ (let e = length-range_with_len a (b - a) in let f = length-reverse (range_with_len b (a - b)) in let g = length-range_with_len b (a - b) in omega arith)
 
-pub swaps_of-within : (n a b : ℕ) → a < n → b < n → All (IsSwap n) (swaps_of a b)
-swaps_of-within n a b la lb =
-    All-append (IsSwap n) (swaps_up a b) (swaps_down a b) (range_within a (b - a) (omega arith))
-    (λ i d lt.
-    let len : length (reverse (range_with_len b (a - b))) ≡ a - b = length-reverse (range_with_len b (a - b)) ∙ length-range_with_len b (a - b) in
+pub swaps_up-within : (n a b : ℕ) → b < n → All (IsSwap n) (swaps_up a b)
+swaps_up-within n a b lt i d h = let l = length-range_with_len a (b - a) in let e = get_or-range_with_len a (b - a) i d (omega arith) in omega arith
+
+pub swaps_down-within : (n a b : ℕ) → a < n → All (IsSwap n) (swaps_down a b)
+swaps_down-within n a b lt i d h =
+    let r : List ℕ = range_with_len b (a - b) in
     let l = length-range_with_len b (a - b) in
-    let e = get_or-reverse (range_with_len b (a - b)) i d (omega arith) in
-    let f = range_within b (a - b) (omega arith) (length (range_with_len b (a - b)) - 1 - i) d (omega arith) in
-    omega (arith, e, f))
-  where
-    range_within : (c m : ℕ) → c + m < n → All (IsSwap n) (range_with_len c m)
-    range_within c m room i d lt = let e = get_or-range_with_len c m i d (let l = length-range_with_len c m in omega arith) in let l = length-range_with_len c m in omega arith
+    let m = length-reverse r in
+    let e = get_or-reverse r i d (omega arith) in
+    let f = get_or-range_with_len b (a - b) (length r - 1 - i) d (omega arith) in
+    omega arith
+
+pub swaps_of-within : (n a b : ℕ) → a < n → b < n → All (IsSwap n) (swaps_of a b)
+swaps_of-within n a b la lb = All-append (IsSwap n) (swaps_up a b) (swaps_down a b) (swaps_up-within n a b lb) (swaps_down-within n a b la)
+
+pub travels_rise : (a b q : ℕ) → a ≤ b → travels (swaps_up a b) q ≡ shifted a b q
+travels_rise a b q le = let e : a + (b - a) ≡ b = omega arith in travels_up a (b - a) q ∙ ap (λ k. shifted a k q) e
+
+pub travels_fall : (a b q : ℕ) → b ≤ a → travels (swaps_down a b) q ≡ shifted a b q
+travels_fall a b q le = let e : b + (a - b) ≡ a = omega arith in travels_down b (a - b) q ∙ ap (λ k. shifted k b q) e
 
 travels_of : (a b q : ℕ) → travels (swaps_of a b) q ≡ shifted a b q
 travels_of a b q =
     elim (cases_lt b a) [
-      | inl down ↦
-          let e : b + (a - b) ≡ a = omega arith in
-          ap (λ l. travels l q) (swaps_of-down a b (omega arith)) ∙ travels_down b (a - b) q ∙ ap (λ k. shifted k b q) e
-      | inr up ↦
-          let e : a + (b - a) ≡ b = omega arith in
-          ap (λ l. travels l q) (swaps_of-up a b up) ∙ travels_up a (b - a) q ∙ ap (λ k. shifted a k q) e
+      | inl down ↦ ap (λ l. travels l q) (swaps_of-down a b (omega arith)) ∙ travels_fall a b q (omega arith)
+      | inr up ↦ ap (λ l. travels l q) (swaps_of-up a b up) ∙ travels_rise a b q up
     ]
 
 -- ---- one move
@@ -335,7 +348,7 @@ length-moves_down low b (p ∷ rest) h =
 few_in_all : (below above centre one two : ℕ) → below ≤ 31 → above ≤ 32 → centre ≤ 63 → one ≤ below * centre → two ≤ above * (63 - centre) → one + two ≤ 2016
 few_in_all below above centre one two lb la lc h k = grind arith
 
-AreAscending-drop : (low n k : ℕ) (ps : List ℕ) → AreAscending low n ps → (from : ℕ) × AreAscending from n (drop k ps)
+pub AreAscending-drop : (low n k : ℕ) (ps : List ℕ) → AreAscending low n ps → (from : ℕ) × AreAscending from n (drop k ps)
 AreAscending-drop low n zero ps h = (low, h)
 AreAscending-drop low n (suc k) [] h = (low, tt)
 AreAscending-drop low n (suc k) (p ∷ rest) h = AreAscending-drop (p + 1) n k rest h.2
@@ -353,3 +366,40 @@ length-gathering ps some h =
     let all = few_in_all (length (take m ps)) (length (drop (m + 1) ps)) c _ _ (omega arith) (omega arith) (omega (arith, ascending_below 0 64 m ps lt h))
     (length-moves_up (take m ps) c) (length-moves_down d.0 c (drop (m + 1) ps) d.1) in
     omega arith
+
+-- ---- where a move leads
+
+pub shifted-at : (a b : ℕ) → shifted a b a ≡ b
+shifted-at a b = grind arith
+
+pub shifted-below : (a b q : ℕ) → q < a → q < b → shifted a b q ≡ q
+shifted-below a b q l m = grind arith
+
+pub shifted-above : (a b q : ℕ) → a < q → b < q → shifted a b q ≡ q
+shifted-above a b q l m = grind arith
+
+pub shifted-up : (a b q : ℕ) → a < q → q ≤ b → shifted a b q ≡ q - 1
+shifted-up a b q l m = grind arith
+
+pub shifted-down : (a b q : ℕ) → b ≤ q → q < a → shifted a b q ≡ q + 1
+shifted-down a b q l m = grind arith
+
+-- ---- the swaps of gathering
+
+pub moves_up-within : (n top : ℕ) (ps : List ℕ) → top < n → All (IsSwap n) (moves_up ps top)
+unfolding moves_up
+moves_up-within n top [] lt = All-nil (IsSwap n)
+moves_up-within n top (p ∷ rest) lt =
+    All-append (IsSwap n) (moves_up rest top) (swaps_up p (top - length (p ∷ rest))) (moves_up-within n top rest lt) (swaps_up-within n p (top - length (p ∷ rest)) (omega arith))
+
+pub moves_down-within : (n low b : ℕ) (ps : List ℕ) → AreAscending low n ps → All (IsSwap n) (moves_down ps b)
+unfolding moves_down
+moves_down-within n low b [] h = All-nil (IsSwap n)
+moves_down-within n low b (p ∷ rest) h =
+    All-append (IsSwap n) (swaps_down p (b + 1)) (moves_down rest (b + 1)) (swaps_down-within n p (b + 1) h.1) (moves_down-within n (p + 1) (b + 1) rest h.2)
+
+pub gathering-within : (n : ℕ) (ps : List ℕ) → 0 < length ps → AreAscending 0 n ps → All (IsSwap n) (gathering ps)
+gathering-within n ps some h =
+    let m : ℕ = middle (length ps) in
+    let d = AreAscending-drop 0 n (m + 1) ps h in
+    All-append (IsSwap n) _ _ (moves_up-within n (get_or ps m 0) (take m ps) (ascending_below 0 n m ps (omega arith) h)) (moves_down-within n d.0 (get_or ps m 0) (drop (m + 1) ps) d.1)

@@ -174,10 +174,9 @@ pub record Touched (n : ℕ) (ps : List ℕ) : Type 0 where
 
 pub touched_by : (row places ps : List ℕ) (g : Shape) → Stands row places → FitsIn g (length places) → ps ≡ touched_positions row g → Touched (length places) ps
 touched_by row places ps g s fits e =
-    let p = (gathers (length places) row g s.placement fits).parts in
-    let P : ℕ → Type 0 = λ k. AreAscending 0 k (touched_positions row g) in
+    let p = gathers (length places) row g s.placement fits in
     let Q : List ℕ → Type 0 = Touched (length places) in
-    let both : Touched (length places) (touched_positions row g) = record { some = p.some; ascending = subst P s.placement.len p.ascending } in
+    let both : Touched (length places) (touched_positions row g) = record { some = p.some; ascending = p.ascending } in
     subst Q (sym e) both
 
 -- ---- home
