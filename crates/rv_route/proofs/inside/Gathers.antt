@@ -23,7 +23,7 @@ module _ (f : ℕ → Bool) where
       by_test true rest = (omega arith, omega arith, rest)
       by_test false rest = AreAscending-weaker low n (passing (low + 1) d) rest
 
-  few : (low d : ℕ) → length (passing low d) ≤ d
+  pub few : (low d : ℕ) → length (passing low d) ≤ d
   few low zero = omega arith
   few low (suc d) = by_test (f low) (few (low + 1) d)
     where

@@ -71,10 +71,3 @@ unfolding swapped
 IsPlacement-swapped n [] s w i = i
 IsPlacement-swapped n (p ∷ ps) s w i =
     IsPlacement-swapped n ps (swap s p (p + 1)) (All-tail (IsSwap n) p ps w) (IsPlacement-swap n s p (All-head (IsSwap n) p ps w) i)
-
--- the lines are as many as the row is long
-pub measured : (n : ℕ) (s : List ℕ) → IsPlacement n s → IsPlacement (length s) s
-measured n s i = let P : ℕ → Type 0 = λ k. IsPlacement k s in subst P (sym i.len) i
-
-pub wider : (n : ℕ) (ps : List ℕ) → n ≤ 64 → All (IsSwap n) ps → All (IsSwap 64) ps
-wider n ps few w i d lt = let h = w i d lt in omega (arith, h, few)

@@ -18,6 +18,7 @@ use Rattle.rv_route.specs.Routed.{routed_from}
 use Rattle.rv_route.specs.declared.moves.Move.{Move}
 use Rattle.rv_route.specs.inside.Standing.{IsPlacement, Stands, AreAscending, shifted, swaps_by, swaps_of}
 use Rattle.rv_route.proofs.inside.Running.{stands, position_is, has-positions_of}
+use Rattle.rv_route.proofs.inside.Gathers.{few}
 use Rattle.rv_route.proofs.inside.Routes.{IsPlacement-home, home_at, routed_none, routed_first, AreHome, one_home, gathers}
 use Rattle.rv_route.proofs.inside.Shifts.{swapped_none, swapped-append}
 use Rattle.rv_route.proofs.inside.Moving.{swaps_of-down, swaps_by_none, Stands-first, Stands-moved, place_of}
@@ -61,18 +62,10 @@ pub lines_end : (left : ℕ) (now all : List ℕ) → left ≡ 0 → now ++ filt
 lines_end left now all z so_far =
     sym (append-nil now) ∙ ap (λ x. now ++ x) (sym (none_pass (has left) 64 (λ k lt. ap (λ s. has s k) z ∙ none_left k))) ∙ so_far
 
-few_pass : (p : ℕ → Bool) (n : ℕ) → length (filter p (range_with_len 0 n)) ≤ n
-few_pass p zero = omega arith
-few_pass p (suc n) = by_test (p n) (filter-suc p n) (few_pass p n)
-  where
-    by_test : (b : Bool) → filter p (range_with_len 0 (suc n)) ≡ filter p (range_with_len 0 n) ++ cond b (n ∷ []) [] → length (filter p (range_with_len 0 n)) ≤ n → length (filter p (range_with_len 0 (suc n))) ≤ suc n
-    by_test true e few = omega (arith, ap length e, length-append (filter p (range_with_len 0 n)) (n ∷ []))
-    by_test false e few = omega (arith, ap length e, length-append {A = ℕ} (filter p (range_with_len 0 n)) [])
-
 pub lines_room : (set left line rest : ℕ) (now : List ℕ) → IsLowest left line rest → now ++ filter (has left) (range_with_len 0 64) ≡ filter (has set) (range_with_len 0 64) → length now < 64
 lines_room set left line rest now l so_far =
     let e = ap length (sym (ap (λ x. now ++ x) (lowest_of left line rest 64 (omega arith) l.within l)) ∙ so_far) in
-    omega (arith, e, length-append now (line ∷ filter (has rest) (range_with_len 0 64)), few_pass (has set) 64)
+    omega (arith, e, length-append now (line ∷ filter (has rest) (range_with_len 0 64)), few (has set) 0 64)
 
 -- ---- positions
 
