@@ -1,4 +1,4 @@
-ghost use Rattle.std.specs.Prelude.{◌≡◌, ◌<◌, ◌≤◌, ℕ, List, length, slice_index};
+ghost use Rattle.std.specs.Prelude.{◌≡◌, ◌<◌, ◌≤◌, ℕ, List, Some, length, slice_index};
 ghost use Rattle.std.specs.List.{filter, range_with_len};
 ghost use Rattle.rv_gate.specs.Word.{has};
 ghost use Rattle.rv_gate.specs.Gate.{FitsIn, Within};
@@ -88,14 +88,14 @@ pub(crate) fn touched_positions(places: &[u8], gate: Gate) -> ArrayVec<u8, 64>
     lines_of(positions_of(places, gate.touched()))
 }
 
-/// The gate with each line replaced by its position.
-pub(crate) fn gate_on(places: &[u8], gate: Gate) -> Gate
+// The gate with each line replaced by its position, which is one.
+fn placed_on(places: &[u8], gate: Gate) -> Option<Gate>
     requires table { IsTable places.now }
     requires few { length places.now ≤ MOST_LINES }
     requires fits { FitsIn gate (length places.now) }
-    ensures { (row : List ℕ) → Stands row places.now → result ≡ gate_on row gate }
+    ensures { (row : List ℕ) → Stands row places.now → result ≡ Some (gate_on row gate) }
 {
-    let placed = match gate.shape() {
+    match gate.shape() {
         Shape::Flip { care, want, target } => Gate::flip(
             positions_of(places, care),
             positions_of(places, want),
@@ -110,8 +110,17 @@ pub(crate) fn gate_on(places: &[u8], gate: Gate) -> Gate
         Shape::Peres { a, b, c } => {
             Gate::peres(places[a as usize], places[b as usize], places[c as usize])
         }
-    };
-    match placed {
+    }
+}
+
+/// The gate with each line replaced by its position.
+pub(crate) fn gate_on(places: &[u8], gate: Gate) -> Gate
+    requires table { IsTable places.now }
+    requires few { length places.now ≤ MOST_LINES }
+    requires fits { FitsIn gate (length places.now) }
+    ensures { (row : List ℕ) → Stands row places.now → result ≡ gate_on row gate }
+{
+    match placed_on(places, gate) {
         Some(gate) => gate,
         None => unreachable!(),
     }

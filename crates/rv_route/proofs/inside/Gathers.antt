@@ -229,24 +229,27 @@ module _ (f : ℕ → Bool) where
       let v : Down c (c + 1) n (length behind) (travels (moves_down behind c)) = subst Q (sym rest) (down (c + 1) (n - (c + 1)) c n (omega (arith, z.within)) (omega arith)) in
       let first : ℕ → ℕ = travels (moves_up below c) in
       let then : ℕ → ℕ = travels (moves_down behind c) in
-      let is : (q p : ℕ) → first q ≡ p → travels (gathering ps) q ≡ then p = λ q p e. travels-append (moves_up below c) (moves_down behind c) q ∙ ap then e in
-      (c - length below, c + length behind, record {
-        on = λ q lt o.
-            (elim (cases_lt q c) [
-              | inl low ↦ (let w = u.on q (omega arith) low o in let e = is q (first q) refl ∙ v.below (first q) (omega arith) in (omega arith, omega arith))
-              | inr ge ↦
-                  (elim (cases_eq q c) [
-                    | inl at ↦ (let e = is q q (u.above q ge) ∙ v.below q (omega arith) in (omega arith, omega arith))
-                    | inr other ↦ (let e = is q q (u.above q ge) in let w = v.on q (omega arith) lt o in (omega arith, omega arith))
-                  ])
-            ]);
-        off = λ q lt o.
-            (elim (cases_lt q c) [
-              | inl low ↦ (let w = u.off q (omega arith) low o in let e = is q (first q) refl ∙ v.below (first q) (omega arith) in inl (omega arith))
-              | inr ge ↦
-                  (elim (cases_eq q c) [
-                    | inl at ↦ absurd (neither (f q) (ap f at ∙ z.passes) o)
-                    | inr other ↦ (let e = is q q (u.above q ge) in let w = v.off q (omega arith) lt o in inr (omega arith))
-                  ])
-            ]);
-      })
+      let is : (q p : ℕ) → first q ≡ p → travels (gathering ps) q ≡ then p = λ q p e. travels-append (moves_up below c) (moves_down behind c) q ∙ ap then e in (
+        c - length below,
+        c + length behind,
+        record {
+          on = λ q lt o.
+              (elim (cases_lt q c) [
+                | inl low ↦ (let w = u.on q (omega arith) low o in let e = is q (first q) refl ∙ v.below (first q) (omega arith) in (omega arith, omega arith))
+                | inr ge ↦
+                    (elim (cases_eq q c) [
+                      | inl at ↦ (let e = is q q (u.above q ge) ∙ v.below q (omega arith) in (omega arith, omega arith))
+                      | inr other ↦ (let e = is q q (u.above q ge) in let w = v.on q (omega arith) lt o in (omega arith, omega arith))
+                    ])
+              ]);
+          off = λ q lt o.
+              (elim (cases_lt q c) [
+                | inl low ↦ (let w = u.off q (omega arith) low o in let e = is q (first q) refl ∙ v.below (first q) (omega arith) in inl (omega arith))
+                | inr ge ↦
+                    (elim (cases_eq q c) [
+                      | inl at ↦ absurd (neither (f q) (ap f at ∙ z.passes) o)
+                      | inr other ↦ (let e = is q q (u.above q ge) in let w = v.off q (omega arith) lt o in inr (omega arith))
+                    ])
+              ]);
+        },
+      )

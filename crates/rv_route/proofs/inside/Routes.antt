@@ -132,9 +132,12 @@ gathers n s g i fits =
     -- the line at a position after the swaps, and where it was before
     let was : (k : ℕ) → k < n → (q : ℕ) × (q < length s) × (get_or s q 0 ≡ get_or t k 0) × (travels (gathering ps) q ≡ k) = λ k lk.
     (let x = placement.line k lk in
-    let w = stands n s i (get_or t k 0) x.0 in
-    (position_of s (get_or t k 0), omega (arith, w.0), w.1,
-      sym (position-swapped n (gathering ps) s (get_or t k 0) x.0 within i) ∙ position_is n t placement (get_or t k 0) x.0 ∙ x.1)) in
+    let w = stands n s i (get_or t k 0) x.0 in (
+      position_of s (get_or t k 0),
+      omega (arith, w.0),
+      w.1,
+      sym (position-swapped n (gathering ps) s (get_or t k 0) x.0 within i) ∙ position_is n t placement (get_or t k 0) x.0 ∙ x.1,
+    )) in
     let inside : (k : ℕ) → touches (gate_on t g) k ≡ true → (k < n) × (block.0 ≤ k) × (k ≤ block.1) = λ k on.
     (let lk : k < n = FitsIn-gate_on n t placement g fits k on in
     let q = was k lk in

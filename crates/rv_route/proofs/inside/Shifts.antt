@@ -1,13 +1,11 @@
 -- What swaps of neighbours do to a placement.
 use Rattle.std.proofs.lemmas.Grind.{common_steps}
-use Rattle.std.proofs.Common.{◌≡◌, ◌≢◌, ℕ, suc, ◌+◌, ◌-◌, ◌<◌, ◌≤◌, cond, eqb, List, [], ◌∷◌, ◌++◌, length, get_or, take, drop, reverse, set, All, refl, sym, ◌∙◌, ap, arith, ne_eqb, eq-eqb, subst, add-one, append_assoc, length-append, length-drop}
+use Rattle.std.proofs.Common.{◌≡◌, ◌≢◌, ℕ, ◌+◌, ◌<◌, cond, eqb, List, [], ◌∷◌, ◌++◌, length, get_or, All, refl, ◌∙◌, ap, arith, ne_eqb, eq-eqb}
 use Rattle.std.proofs.lemmas.Bool.{cases_eq}
-use Rattle.std.proofs.Math.Seq.{get_or-append_seam}
-use Rattle.std.proofs.lemmas.List.{drop_more, get_or_append_left, get_or-drop, get_or-take, length-take-le, reverse-append, take-append-drop}
-use Rattle.std.proofs.lemmas.List.Edits.{length-swap, swap_is, swapped_from_swap}
-use Rattle.std.proofs.lemmas.List.Elements.{All-nil, All-cons, All-append, All-head, All-tail}
-use Rattle.std.specs.List.{range_with_len, swap}
-use Rattle.rv_route.specs.Moves.{swaps_down, swapped}
+use Rattle.std.proofs.lemmas.List.Edits.{length-swap, swapped_from_swap}
+use Rattle.std.proofs.lemmas.List.Elements.{All-head, All-tail}
+use Rattle.std.specs.List.{swap}
+use Rattle.rv_route.specs.Moves.{swapped}
 use Rattle.rv_route.specs.inside.Standing.{IsPlacement, IsSwap}
 
 -- ---- one swap
