@@ -6,6 +6,7 @@ ghost use Rattle.rv_embed.specs.inside.Ranks.{ranks_of};
 
 use super::classes::{Classes, classes_of};
 use super::greedy::greedy;
+use super::row::rows_of;
 use super::zeros::zeros;
 use rv_pla::Pla;
 use std::alloc::{AllocError, Global};
@@ -24,9 +25,10 @@ pub(crate) fn filled(alloc: Global, pla: &Pla) -> Result<Filling, AllocError>
     ensures largest { IfOk result (λ f. f.classes.largest ≡ largest_class (filled pla.now)) }
 {
     let words = 1usize << pla.outputs();
-    let outputs = zeros(alloc, pla)?;
+    let rows = rows_of(alloc, pla)?;
+    let outputs = zeros(alloc, pla, &rows)?;
     let classes = classes_of(alloc, words, &outputs)?;
-    let others = greedy(alloc, pla)?;
+    let others = greedy(alloc, pla, &rows)?;
     let other_classes = classes_of(alloc, words, &others)?;
     if other_classes.largest < classes.largest {
         Ok(Filling {

@@ -1,10 +1,11 @@
 // The entries of an input word as sets of outputs.
-ghost use Rattle.std.specs.Prelude.{◌≡◌, ◌<◌, ◌^◌, bit_or, bit_and, ◌+◌};
+ghost use Rattle.std.specs.Prelude.{◌≡◌, ◌<◌, ◌^◌, bit_or, bit_and, ◌+◌, IfOk};
 ghost use Rattle.rv_pla.specs.declared.cube.TheConstants.{MOST_OUTPUTS};
 ghost use Rattle.rv_embed.specs.Filled.{row};
-ghost use Rattle.rv_embed.specs.inside.Rows.{entries_row};
+ghost use Rattle.rv_embed.specs.inside.Rows.{entries_row, rows_of};
 
 use rv_pla::Pla;
+use std::alloc::{AllocError, Global};
 
 // The outputs whose entries aren't free, those that are 1, and those that are free. Output 0 is the most
 // significant bit.
@@ -15,12 +16,9 @@ pub(crate) struct Row {
     pub(crate) free: u32,
 }
 
-pub(crate) fn row_of(pla: &Pla, input: u32) -> Row
+fn row_of(pla: &Pla, input: u32) -> Row
     requires { input < 2 ^ pla.now.inputs }
-    ensures value { result ≡ entries_row (row pla.now input) pla.now.outputs }
-    ensures care { result.care < 2 ^ pla.now.outputs }
-    ensures want { result.want < 2 ^ pla.now.outputs }
-    ensures free { result.free < 2 ^ pla.now.outputs }
+    ensures { result ≡ entries_row (row pla.now input) pla.now.outputs }
 {
     let mut care = 0;
     let mut want = 0;
@@ -32,6 +30,29 @@ pub(crate) fn row_of(pla: &Pla, input: u32) -> Row
         free = free * 2 + u32::from(entry.is_dont_care());
     }
     Row { care, want, free }
+}
+
+// The rows of all input words.
+pub(crate) fn rows_of(alloc: Global, pla: &Pla) -> Result<Vec<Row>, AllocError>
+    ensures { IfOk result (λ v. v.items ≡ rows_of pla.now) }
+{
+    let mut rows = Vec::new(alloc);
+    for input in 0..1u32 << pla.inputs() {
+        rows.push(row_of(pla, input))?;
+    }
+    Ok(rows)
+}
+
+// The row of an input word.
+pub(crate) fn row_at(pla: &Pla, rows: &[Row], input: u32) -> Row
+    requires rows { rows.now ≡ rows_of pla.now }
+    requires within { input < 2 ^ pla.now.inputs }
+    ensures value { result ≡ entries_row (row pla.now input) pla.now.outputs }
+    ensures care { result.care < 2 ^ pla.now.outputs }
+    ensures want { result.want < 2 ^ pla.now.outputs }
+    ensures free { result.free < 2 ^ pla.now.outputs }
+{
+    rows[input as usize]
 }
 
 impl Row {

@@ -7,7 +7,7 @@
 mod fault;
 mod gathering;
 mod moves;
-mod placement;
+mod places;
 mod routing;
 
 pub use fault::RouteFault;

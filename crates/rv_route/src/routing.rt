@@ -7,8 +7,8 @@ ghost use Rattle.rv_route.specs.Routed.{routed_from, routed};
 
 use crate::RouteFault;
 use crate::gathering::{gather, go_home};
-use crate::moves::{Swaps, push_swaps};
-use crate::placement::{gate_on, home};
+use crate::moves::{push_moves, swap_count};
+use crate::places::{gate_on, home};
 use rv_gate::{Circuit, Gate, MOST_GATES, MOST_LINES};
 use std::alloc::{AllocError, Global};
 
@@ -20,16 +20,15 @@ fn gate_count(gates: &[Gate], lines: u8) -> u32
     ensures value { result ≡ length (routed_from (home lines) gates.now) }
     ensures few { result < 2 ^ 31 }
 {
-    let mut row = home();
-    let placement = &mut row[..usize::from(lines)];
-    let mut swaps = Swaps::new();
+    let mut table = home();
+    let places = &mut table[..usize::from(lines)];
     let mut count = 0;
     for gate in gates {
-        gather(placement, *gate, &mut swaps);
-        count += swaps.len() as u32 + 1;
+        let moves = gather(places, *gate);
+        count += swap_count(&moves) + 1;
     }
-    go_home(placement, &mut swaps);
-    count + swaps.len() as u32
+    let moves = go_home(places);
+    count + swap_count(&moves)
 }
 
 // The gates of the routed circuit, of which there are so many.
@@ -43,17 +42,16 @@ fn routed_gates(
     requires fit { All (λ gate. FitsIn gate lines) gates.now }
     ensures { IfOk result (λ made. made.items ≡ routed_from (home lines) gates.now) }
 {
-    let mut row = home();
-    let placement = &mut row[..usize::from(lines)];
-    let mut swaps = Swaps::new();
+    let mut table = home();
+    let places = &mut table[..usize::from(lines)];
     let mut made = Vec::with_capacity(alloc, count as usize)?;
     for gate in gates {
-        gather(placement, *gate, &mut swaps);
-        push_swaps(&mut made, &swaps)?;
-        made.push(gate_on(placement, *gate))?;
+        let moves = gather(places, *gate);
+        push_moves(&mut made, &moves)?;
+        made.push(gate_on(places, *gate))?;
     }
-    go_home(placement, &mut swaps);
-    push_swaps(&mut made, &swaps)?;
+    let moves = go_home(places);
+    push_moves(&mut made, &moves)?;
     Ok(made)
 }
 

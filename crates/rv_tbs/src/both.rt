@@ -18,7 +18,7 @@ pub(crate) fn both_gates(alloc: Global, perm: &Perm) -> Result<Vec<Gate>, AllocE
     let mut ins = Vec::new(alloc);
     let mut outs = Vec::new(alloc);
     for k in 0..1u32 << perm.lines() {
-        both_step(alloc, &mut table, k, &mut ins, &mut outs)?;
+        both_step(&mut table, k, &mut ins, &mut outs)?;
     }
     outs.reverse();
     ins.extend_from_slice(&outs)?;
@@ -27,7 +27,6 @@ pub(crate) fn both_gates(alloc: Global, perm: &Perm) -> Result<Vec<Gate>, AllocE
 
 // Finds the gates of step `k`, and lets them act on the side where fewer places differ.
 fn both_step(
-    alloc: Global,
     table: &mut Perm,
     k: u32,
     ins: &mut Vec<Gate>,
@@ -41,10 +40,10 @@ fn both_step(
         ≡ step is_inward table.old.lines k (sides table.old.images ins.old.items outs.old.items)) }
 {
     if is_inward(table, k) {
-        inward_step(alloc, table, k, ins)?;
+        inward_step(table, k, ins)?;
         return Ok(());
     }
-    outward_step(alloc, table, k, outs)?;
+    outward_step(table, k, outs)?;
     Ok(())
 }
 
@@ -57,12 +56,7 @@ fn is_inward(table: &Perm, k: u32) -> bool
 }
 
 // Finds the gates of step `k` for the inputs, and lets them act there.
-fn inward_step(
-    alloc: Global,
-    table: &mut Perm,
-    k: u32,
-    gates: &mut Vec<Gate>,
-) -> Result<(), AllocError>
+fn inward_step(table: &mut Perm, k: u32, gates: &mut Vec<Gate>) -> Result<(), AllocError>
     requires small { k < 2 ^ table.old.lines }
     requires fixed { FixedBelow k table.old.images }
     ensures lines { table.new.lines ≡ table.old.lines }
@@ -72,13 +66,13 @@ fn inward_step(
         ≡ gates.old.items ++ in_step_gates table.old.lines k table.old.images) }
 {
     let lines = table.lines();
-    let found = turning_gates(
-        alloc,
+    let start = gates.len();
+    turning_gates(
         word_at(lines, k),
         word_at(lines, table.inverse_get(k)),
+        gates,
     )?;
-    apply_to_inputs(table, &found);
-    gates.extend_from_slice(&found)?;
+    apply_to_inputs(table, &gates[start..]);
     Ok(())
 }
 

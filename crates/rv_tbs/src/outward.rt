@@ -17,7 +17,7 @@ pub(crate) fn outward_gates(alloc: Global, perm: &Perm) -> Result<Vec<Gate>, All
     let mut table = perm.copy()?;
     let mut gates = Vec::new(alloc);
     for k in 0..1u32 << perm.lines() {
-        outward_step(alloc, &mut table, k, &mut gates)?;
+        outward_step(&mut table, k, &mut gates)?;
     }
     gates.reverse();
     Ok(gates)
@@ -25,7 +25,6 @@ pub(crate) fn outward_gates(alloc: Global, perm: &Perm) -> Result<Vec<Gate>, All
 
 // Finds the gates of step `k`, and lets them act on the outputs.
 pub(crate) fn outward_step(
-    alloc: Global,
     table: &mut Perm,
     k: u32,
     gates: &mut Vec<Gate>,
@@ -39,9 +38,9 @@ pub(crate) fn outward_step(
     ensures gates { OnOk result (gates.new.items ≡ gates.old.items ++ step_gates table.old.lines k table.old.images) }
 {
     let lines = table.lines();
-    let found = turning_gates(alloc, word_at(lines, k), word_at(lines, table.get(k)))?;
-    apply_to_outputs(table, &found);
-    gates.extend_from_slice(&found)?;
+    let start = gates.len();
+    turning_gates(word_at(lines, k), word_at(lines, table.get(k)), gates)?;
+    apply_to_outputs(table, &gates[start..]);
     Ok(())
 }
 

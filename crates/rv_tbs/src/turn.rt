@@ -5,17 +5,16 @@ ghost use Rattle.rv_gate.specs.Gate.{run};
 ghost use Rattle.rv_tbs.specs.Synthesis.{is_set_due, is_clear_due, set_flips, clear_flips, turning};
 
 use rv_gate::{Gate, LineSet, MOST_LINES, Shape, Word};
-use std::alloc::{AllocError, Global};
+use std::alloc::AllocError;
 
-// The gates that turn `word` into `goal`.
-pub(crate) fn turning_gates(alloc: Global, goal: Word, word: Word) -> Result<Vec<Gate>, AllocError>
+// Finds the gates that turn `word` into `goal`.
+pub(crate) fn turning_gates(goal: Word, word: Word, gates: &mut Vec<Gate>) -> Result<(), AllocError>
     requires { length word ≡ length goal }
-    ensures { IfOk result (λ v. v.items ≡ turning goal word) }
+    ensures { OnOk result (gates.new.items ≡ gates.old.items ++ turning goal word) }
 {
-    let mut gates = Vec::new(alloc);
-    let middle = set_lines(goal, word, &mut gates)?;
-    clear_lines(goal, middle, &mut gates)?;
-    Ok(gates)
+    let middle = set_lines(goal, word, gates)?;
+    clear_lines(goal, middle, gates)?;
+    Ok(())
 }
 
 // Finds the flips that set lines, and gives the word after them.

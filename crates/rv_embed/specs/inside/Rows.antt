@@ -1,13 +1,14 @@
 -- The entries of an input word as sets of outputs, and where a search among the words that agree stands.
-use Rattle.std.specs.Prelude.{ℕ, zero, suc, ◌+◌, ◌*◌, ◌^◌, ◌<◌, ◌≤◌, ◌≡◌, ◌==◌, ◌&&◌, Bool, true, not, if◌then◌else◌, bit_and, List, slice_index, Option, Some}
+use Rattle.std.specs.Prelude.{ℕ, zero, suc, ◌+◌, ◌*◌, ◌^◌, ◌<◌, ◌≤◌, ◌≡◌, ◌==◌, ◌&&◌, Bool, true, not, if◌then◌else◌, bit_and, List, map, slice_index, All}
 use Rattle.std.specs.List.{count_by, range_with_len}
 use Rattle.rv_pla.specs.Pla.{TwoLevel}
 use Rattle.rv_pla.specs.Zeros.{bit_for}
 use Rattle.rv_pla.specs.FreeEntries.{is_dont_care}
 use Rattle.rv_pla.specs.declared.entry.Entry.{Entry}
-use Rattle.rv_embed.specs.Filled.{is_open, own_word}
+use Rattle.rv_embed.specs.Filled.{is_open, own_word, row}
 use Rattle.rv_embed.specs.declared.row.Row.{Row}
 use Rattle.rv_embed.specs.declared.least_used.Cursor.{Cursor}
+use Rattle.rv_embed.specs.declared.cursors.Slot.{Slot}
 
 -- the number whose bits are told by the first n entries, the first one as its most significant bit
 unfoldable pub bits_by : (Entry → Bool) → (ℕ → Entry) → ℕ → ℕ
@@ -47,11 +48,12 @@ pub record IsCursor (care want n : ℕ) (counts : List ℕ) (c : Cursor) : Type 
 unfoldable pub known_before : TwoLevel → ℕ → ℕ → ℕ
 known_before pla n y = count_by (λ x. not (is_open pla x) && (own_word pla x == y)) (range_with_len 0 n)
 
--- ---- cursors that are kept
+-- ---- rows and cursors that are kept
 
-abbrev pub key_eq : ℕ × ℕ → ℕ × ℕ → Bool
-key_eq x y = (x.0 == y.0) && (x.1 == y.1)
+-- the rows of all input words
+abbrev pub rows_of : TwoLevel → List Row
+rows_of pla = map (λ x. entries_row (row pla x) pla.outputs) (range_with_len 0 (2 ^ pla.inputs))
 
--- each cursor that is found stands rightly among the words that fit its row
-abbrev pub AreCursors : ℕ → List ℕ → (ℕ × ℕ → Option Cursor) → Type 0
-AreCursors n counts find = (key : ℕ × ℕ) (c : Cursor) → find key ≡ Some c → IsCursor key.0 key.1 (2 ^ n) counts c
+-- each slot has a cursor that stands rightly among the words that fit its row
+abbrev pub AreCursors : ℕ → List ℕ → List Slot → Type 0
+AreCursors n counts slots = All (λ (s : Slot). IsCursor s.care s.want (2 ^ n) counts s.cursor) slots

@@ -1,321 +1,255 @@
--- The lines at some positions gather: after the moves they stand at consecutive positions.
-use Rattle.std.proofs.Common.{◌≡◌, ℕ, zero, suc, ◌+◌, ◌-◌, ◌<◌, ◌≤◌, Bool, true, false, cond, not, List, [], ◌∷◌, ◌++◌, length, get_or, take, drop, reverse, All, refl, sym, ◌∙◌, ap, inl, inr, arith, subst, add-one, append_assoc, length-append}
-use Rattle.std.proofs.lemmas.Bool.{cases_lt, false≢true}
-use Rattle.std.proofs.lemmas.List.{get_or_append_left, get_or-append_right}
-use Rattle.std.proofs.lemmas.List.Elements.{All-append, All-cons, filter_passes}
-use Rattle.std.proofs.lemmas.List.Filters.{length-filter_both}
+-- The positions that pass a test gather: the moves lead them to a block of positions, and no others there.
+use Rattle.std.proofs.Common.{◌≡◌, ℕ, zero, suc, ◌+◌, ◌-◌, ◌<◌, ◌≤◌, ◌⊎◌, Bool, true, false, cond, List, [], ◌∷◌, ◌++◌, length, get_or, take, drop, refl, sym, ◌∙◌, ap, inl, inr, arith, subst, add-one}
+use Rattle.std.proofs.lemmas.Bool.{cases_eq, cases_lt, false≢true}
 use Rattle.std.specs.List.{filter, range_with_len}
 use Rattle.rv_route.specs.Moves.{swaps_up, swaps_down, moves_up, moves_down, middle, gathering}
-use Rattle.rv_route.specs.inside.Standing.{AreAscending}
-use Rattle.rv_route.proofs.inside.Shifts.{Moves, stay, Moves-append, Moves-same, rise, fall}
-
--- ---- ascending positions
-
-pub AreAscending-room : (low n : ℕ) (ps : List ℕ) → low ≤ n → AreAscending low n ps → low + length ps ≤ n
-AreAscending-room low n [] le h = omega arith
-AreAscending-room low n (p ∷ rest) le h =
-    let r = AreAscending-room (p + 1) n rest (omega (arith, h.1)) h.2 in
-    omega (arith, h.0, h.1, r)
+use Rattle.rv_route.specs.inside.Standing.{AreAscending, shifted}
+use Rattle.rv_route.proofs.inside.Moving.{travels, travels-append, travels_rise, travels_fall, shifted-at, shifted-below, shifted-above, shifted-up, shifted-down}
 
 AreAscending-weaker : (low n : ℕ) (ps : List ℕ) → AreAscending (low + 1) n ps → AreAscending low n ps
 AreAscending-weaker low n [] h = tt
 AreAscending-weaker low n (p ∷ rest) h = (omega (arith, h.0), h.1, h.2)
 
--- of the position at an index: those before it are below, and those behind it above
-pub record At (low n i : ℕ) (ps : List ℕ) : Type 0 where
-  pub from : low + i ≤ get_or ps i 0
-  pub room : get_or ps i 0 + (length ps - i) ≤ n
-
-pub ascending_at : (low n i : ℕ) (ps : List ℕ) → i < length ps → AreAscending low n ps → At low n i ps
-ascending_at low n i [] lt h = absurd (omega (arith, lt))
-ascending_at low n zero (p ∷ rest) lt h =
-    let r = AreAscending-room (p + 1) n rest (omega (arith, h.1)) h.2 in
-    record { from = omega (arith, h.0); room = omega (arith, r, h.1) }
-ascending_at low n (suc i) (p ∷ rest) lt h =
-    let r = ascending_at (p + 1) n i rest (omega (arith, lt)) h.2 in
-    record { from = omega (arith, h.0, r.from); room = omega (arith, r.room) }
-
--- ---- the positions of the lines that are meant
-
 module _ (f : ℕ → Bool) where
-  abbrev others : ℕ → Bool
-  others line = not (f line)
+  -- the positions that pass, of d from low on
+  abbrev pub passing : ℕ → ℕ → List ℕ
+  passing low d = filter f (range_with_len low d)
 
-  -- from position k on
-  abbrev pub places : ℕ → List ℕ → List ℕ
-  places k [] = []
-  places k (line ∷ s) = cond (f line) (k ∷ places (k + 1) s) (places (k + 1) s)
-
-  -- the positions that pass a test are those of the lines that do
-  pub places_are : (g : ℕ → Bool) (k : ℕ) (s : List ℕ) → ((i : ℕ) → g (k + i) ≡ f (get_or s i 0))
-      → filter g (range_with_len k (length s)) ≡ places k s
-  places_are g k [] same = refl
-  places_are g k (line ∷ s) same =
-      let here : k ≡ k + 0 = omega arith in
-      let first : g k ≡ f line = ap g here ∙ same 0 in
-      let next : (i : ℕ) → k + 1 + i ≡ k + suc i = λ i. omega arith in
-      let rest : filter g (range_with_len (k + 1) (length s)) ≡ places (k + 1) s =
-      places_are g (k + 1) s (λ i. ap g (next i) ∙ same (suc i)) in
-      ap (λ b. cond b (k ∷ filter g (range_with_len (k + 1) (length s))) (filter g (range_with_len (k + 1) (length s)))) first
-      ∙ ap (λ l. cond (f line) (k ∷ l) l) rest
-
-  length-places : (k : ℕ) (s : List ℕ) → length (places k s) ≡ length (filter f s)
-  length-places k [] = refl
-  length-places k (line ∷ s) = by_test (f line) (length-places (k + 1) s)
+  pub passing_ascend : (low d n : ℕ) → low + d ≡ n → AreAscending low n (passing low d)
+  passing_ascend low zero n e = tt
+  passing_ascend low (suc d) n e = by_test (f low) (passing_ascend (low + 1) d n (omega arith))
     where
-      by_test : (b : Bool) → length (places (k + 1) s) ≡ length (filter f s)
-          → length (cond b (k ∷ places (k + 1) s) (places (k + 1) s)) ≡ length (cond b (line ∷ filter f s) (filter f s))
-      by_test true rest = ap suc rest
-      by_test false rest = rest
+      by_test : (b : Bool) → AreAscending (low + 1) n (passing (low + 1) d) → AreAscending low n (cond b (low ∷ passing (low + 1) d) (passing (low + 1) d))
+      by_test true rest = (omega arith, omega arith, rest)
+      by_test false rest = AreAscending-weaker low n (passing (low + 1) d) rest
 
-  places_ascend : (k n : ℕ) (s : List ℕ) → k + length s ≡ n → AreAscending k n (places k s)
-  places_ascend k n [] e = tt
-  places_ascend k n (line ∷ s) e = by_test (f line) (places_ascend (k + 1) n s (omega (arith, e)))
+  pub few : (low d : ℕ) → length (passing low d) ≤ d
+  few low zero = omega arith
+  few low (suc d) = by_test (f low) (few (low + 1) d)
     where
-      by_test : (b : Bool) → AreAscending (k + 1) n (places (k + 1) s)
-          → AreAscending k n (cond b (k ∷ places (k + 1) s) (places (k + 1) s))
-      by_test true rest = (omega arith, omega (arith, e), rest)
-      by_test false rest = AreAscending-weaker k n (places (k + 1) s) rest
+      by_test : (b : Bool) → length (passing (low + 1) d) ≤ d → length (cond b (low ∷ passing (low + 1) d) (passing (low + 1) d)) ≤ suc d
+      by_test true rest = omega arith
+      by_test false rest = omega arith
 
-  -- a line that is meant
-  pub some_place : (k : ℕ) (s : List ℕ) (i : ℕ) → i < length s → f (get_or s i 0) ≡ true → 1 ≤ length (places k s)
-  some_place k [] i lt on = absurd (omega (arith, lt))
-  some_place k (line ∷ s) zero lt on = rw on (omega arith)
-  some_place k (line ∷ s) (suc i) lt on = by_test (f line) (some_place (k + 1) s i (omega (arith, lt)) on)
+  pub some_pass : (low d q : ℕ) → low ≤ q → q < low + d → f q ≡ true → 0 < length (passing low d)
+  some_pass low zero q from to on = absurd (omega arith)
+  some_pass low (suc d) q from to on =
+      elim (cases_eq q low) [
+        | inl at ↦ rw (ap f (sym at) ∙ on) (omega arith)
+        | inr other ↦ by_test (f low) (some_pass (low + 1) d q (omega arith) (omega arith) on)
+      ]
     where
-      by_test : (b : Bool) → 1 ≤ length (places (k + 1) s) → 1 ≤ length (cond b (k ∷ places (k + 1) s) (places (k + 1) s))
+      by_test : (b : Bool) → 0 < length (passing (low + 1) d) → 0 < length (cond b (low ∷ passing (low + 1) d) (passing (low + 1) d))
       by_test true rest = omega arith
       by_test false rest = rest
 
+  neither : (b : Bool) → b ≡ true → b ≡ false → ⊥
+  neither b on off = false≢true (sym off ∙ on)
+
   -- ---- up and down
 
-  -- they gather at the end of a part of the row
-  gathered_up : (u a c : List ℕ)
-      → Moves (moves_up (places (length a) u) (length a + length u)) (a ++ (u ++ c)) (a ++ (filter others u ++ (filter f u ++ c)))
-  unfolding moves_up
-  gathered_up [] a c = stay (a ++ c)
-  gathered_up (line ∷ u) a c =
-      let longer : length (a ++ line ∷ []) ≡ length a + 1 = length-append a (line ∷ []) in
-      let ends : length (a ++ line ∷ []) + length u ≡ length a + suc (length u) = omega (arith, longer) in
-      by_test (f line)
-      (Moves-same _ _ _ _ _ _
-      (ap (λ k. moves_up (places k u) (length (a ++ line ∷ []) + length u)) longer ∙ ap (moves_up (places (length a + 1) u)) ends)
-      (append_assoc a (line ∷ []) (u ++ c)) (append_assoc a (line ∷ []) (filter others u ++ (filter f u ++ c)))
-      (gathered_up u (a ++ line ∷ []) c))
+  -- where positions from low on, below top, are led: m of them to right below top
+  record Up (low top m : ℕ) (to : ℕ → ℕ) : Type 0 where
+    below : (q : ℕ) → q < low → to q ≡ q
+    above : (q : ℕ) → top ≤ q → to q ≡ q
+    on : (q : ℕ) → low ≤ q → q < top → f q ≡ true → (top ≤ to q + m) × (to q < top)
+    off : (q : ℕ) → low ≤ q → q < top → f q ≡ false → (low ≤ to q) × (to q + m < top)
+
+  up : (low d top : ℕ) → low + d ≡ top → Up low top (length (passing low d)) (travels (moves_up (passing low d) top))
+  unfolding moves_up travels
+  up low zero top e = record {
+    below = λ q l. refl;
+    above = λ q l. refl;
+    on = λ q l m o. absurd (omega arith);
+    off = λ q l m o. absurd (omega arith);
+  }
+  up low (suc d) top e = by_test (f low) refl (few (low + 1) d) (up (low + 1) d top (omega arith))
     where
-      far : length a + suc (length u) - suc (length (places (length a + 1) u)) - length a ≡ length (filter others u)
-      far = omega (arith, length-places (length a + 1) u, length-filter_both f others (λ x. refl) u)
-
-      by_test : (b : Bool)
-          → Moves (moves_up (places (length a + 1) u) (length a + suc (length u))) (a ++ line ∷ (u ++ c))
-          (a ++ line ∷ (filter others u ++ (filter f u ++ c)))
-          → Moves (moves_up (cond b (length a ∷ places (length a + 1) u) (places (length a + 1) u)) (length a + suc (length u)))
-          (a ++ line ∷ (u ++ c))
-          (a ++ (cond (not b) (line ∷ filter others u) (filter others u) ++ (cond b (line ∷ filter f u) (filter f u) ++ c)))
-      by_test true rest =
-          Moves-append (moves_up (places (length a + 1) u) (length a + suc (length u)))
-          (swaps_up (length a) (length a + suc (length u) - suc (length (places (length a + 1) u)))) _ _ _ rest
-          (Moves-same _ _ _ _ _ _ (ap (range_with_len (length a)) (sym far)) refl refl
-          (rise a (filter others u) (filter f u ++ c) line))
-      by_test false rest = rest
-
-  -- they gather at the start of the rest of the row, where some that are not meant stand in front
-  gathered_down : (u a kept : List ℕ) (bottom : ℕ) → bottom + 1 ≡ length a
-      → Moves (moves_down (places (length a + length kept) u) bottom) (a ++ (kept ++ u))
-      (a ++ (filter f u ++ (kept ++ filter others u)))
-  unfolding moves_down
-  gathered_down [] a kept bottom e = stay (a ++ (kept ++ []))
-  gathered_down (line ∷ u) a kept bottom e =
-      let one : length (a ++ line ∷ []) ≡ length a + 1 = length-append a (line ∷ []) in
-      let on : length (a ++ line ∷ []) + length kept ≡ length a + length kept + 1 = omega (arith, one) in
-      let off : length a + length (kept ++ line ∷ []) ≡ length a + length kept + 1 = omega (arith, length-append kept (line ∷ [])) in
-      by_test (f line)
-      (Moves-same _ _ _ _ _ _ (ap (λ k. moves_down (places k u) (bottom + 1)) on) (append_assoc a (line ∷ []) (kept ++ u))
-      (append_assoc a (line ∷ []) (filter f u ++ (kept ++ filter others u)))
-      (gathered_down u (a ++ line ∷ []) kept (bottom + 1) (omega (arith, e, one))))
-      (Moves-same _ _ _ _ _ _ (ap (λ k. moves_down (places k u) bottom) off) (ap (λ l. a ++ l) (append_assoc kept (line ∷ []) u))
-      (ap (λ l. a ++ (filter f u ++ l)) (append_assoc kept (line ∷ []) (filter others u)))
-      (gathered_down u a (kept ++ line ∷ []) bottom e))
-    where
-      far : length a + length kept - (bottom + 1) ≡ length kept
-      far = omega (arith, e)
-
-      by_test : (b : Bool)
-          → Moves (moves_down (places (length a + length kept + 1) u) (bottom + 1)) (a ++ line ∷ (kept ++ u))
-          (a ++ line ∷ (filter f u ++ (kept ++ filter others u)))
-          → Moves (moves_down (places (length a + length kept + 1) u) bottom) (a ++ (kept ++ line ∷ u))
-          (a ++ (filter f u ++ (kept ++ line ∷ filter others u)))
-          → Moves (moves_down (cond b ((length a + length kept) ∷ places (length a + length kept + 1) u)
-          (places (length a + length kept + 1) u)) bottom)
-          (a ++ (kept ++ line ∷ u))
-          (a ++ (cond b (line ∷ filter f u) (filter f u) ++ (kept ++ cond (not b) (line ∷ filter others u) (filter others u))))
-      by_test true on off =
-          Moves-append (swaps_down (length a + length kept) (bottom + 1))
-          (moves_down (places (length a + length kept + 1) u) (bottom + 1)) _ _ _
-          (Moves-same _ _ _ _ _ _
-          (ap (λ k. reverse (range_with_len k (length kept))) (sym e)
-          ∙ ap (λ d. reverse (range_with_len (bottom + 1) d)) (sym far)) refl refl
-          (fall a kept u line))
-          on
-      by_test false on off = off
-
-  -- ---- together
-
-  -- a row, cut at one of the lines that are meant; `ps` are the positions of those, from i on
-  record Cut (i : ℕ) (s : List ℕ) (k : ℕ) (ps : List ℕ) : Type 0 where
-    before : List ℕ
-    line : ℕ
-    behind : List ℕ
-    whole : s ≡ before ++ line ∷ behind
-    meant : f line ≡ true
-    first : take k ps ≡ places i before
-    at : get_or ps k 0 ≡ i + length before
-    last : drop (suc k) ps ≡ places (i + length before + 1) behind
-
-  cut : (i : ℕ) (s : List ℕ) (k : ℕ) → k < length (places i s) → Cut i s k (places i s)
-  cut i [] k lt = absurd (omega (arith, lt))
-  cut i (x ∷ s) k lt = by_test (cut (i + 1) s) (f x) refl k lt
-    where
-      longer : (b : Bool) → f x ≡ b → (l : List ℕ) → cond b (i ∷ places (i + 1) l) (places (i + 1) l) ≡ places i (x ∷ l)
-      longer b e l = ap (λ t. cond t (i ∷ places (i + 1) l) (places (i + 1) l)) (sym e)
-
-      here : i ≡ i + 0
-      here = omega arith
-
-      next : (n : ℕ) → i + 1 + n ≡ i + suc n
-      next n = omega arith
-
-      by_test : ((m : ℕ) → m < length (places (i + 1) s) → Cut (i + 1) s m (places (i + 1) s))
-          → (b : Bool) → f x ≡ b → (m : ℕ) → m < length (cond b (i ∷ places (i + 1) s) (places (i + 1) s))
-          → Cut i (x ∷ s) m (cond b (i ∷ places (i + 1) s) (places (i + 1) s))
-      by_test rest true e zero lt =
-          let last : places (i + 1) s ≡ places (i + 0 + 1) s = ap (λ n. places (n + 1) s) here in
-          record { before = []; line = x; behind = s; whole = refl; meant = e; first = refl; at = here; last = last }
-      by_test rest true e (suc m) lt =
-          let c : Cut (i + 1) s m (places (i + 1) s) = rest m (omega (arith, lt)) in
+      by_test : (b : Bool) → f low ≡ b → length (passing (low + 1) d) ≤ d
+          → Up (low + 1) top (length (passing (low + 1) d)) (travels (moves_up (passing (low + 1) d) top))
+          → Up low top (length (cond b (low ∷ passing (low + 1) d) (passing (low + 1) d)))
+          (travels (moves_up (cond b (low ∷ passing (low + 1) d) (passing (low + 1) d)) top))
+      by_test true here small w =
+          let rest : List ℕ = passing (low + 1) d in
+          let m : ℕ = length rest in
+          let first : ℕ → ℕ = travels (moves_up rest top) in
+          let goal : ℕ = top - suc m in
+          let is : (q : ℕ) → travels (moves_up rest top ++ swaps_up low goal) q ≡ shifted low goal (first q) =
+          λ q. travels-append (moves_up rest top) (swaps_up low goal) q ∙ travels_rise low goal (first q) (omega arith) in
           record {
-            before = x ∷ c.before;
-            line = c.line;
-            behind = c.behind;
-            whole = ap (λ l. x ∷ l) c.whole;
-            meant = c.meant;
-            first = ap (λ l. i ∷ l) c.first ∙ longer true e c.before;
-            at = c.at ∙ next (length c.before);
-            last = c.last ∙ ap (λ n. places (n + 1) c.behind) (next (length c.before));
+            below = λ q l. is q ∙ ap (shifted low goal) (w.below q (omega arith)) ∙ shifted-below low goal q l (omega arith);
+            above = λ q l. is q ∙ ap (shifted low goal) (w.above q l) ∙ shifted-above low goal q (omega arith) (omega arith);
+            on = λ q l t o.
+                (elim (cases_eq q low) [
+                  | inl at ↦
+                      (let z : travels (moves_up rest top ++ swaps_up low goal) q ≡ goal = is q ∙ ap (shifted low goal) (w.below q (omega arith) ∙ at) ∙ shifted-at low goal in
+                      (omega arith, omega arith))
+                  | inr other ↦
+                      (let v = w.on q (omega arith) t o in
+                      let z = is q ∙ shifted-above low goal (first q) (omega arith) (omega arith) in
+                      (omega arith, omega arith))
+                ]);
+            off = λ q l t o.
+                (elim (cases_eq q low) [
+                  | inl at ↦ absurd (neither (f q) (ap f at ∙ here) o)
+                  | inr other ↦
+                      (let v = w.off q (omega arith) t o in
+                      let z = is q ∙ shifted-up low goal (first q) (omega arith) (omega arith) in
+                      (omega arith, omega arith))
+                ]);
           }
-      by_test rest false e m lt =
-          let c : Cut (i + 1) s m (places (i + 1) s) = rest m lt in
-          record {
-            before = x ∷ c.before;
-            line = c.line;
-            behind = c.behind;
-            whole = ap (λ l. x ∷ l) c.whole;
-            meant = c.meant;
-            first = c.first ∙ longer false e c.before;
-            at = c.at ∙ next (length c.before);
-            last = c.last ∙ ap (λ n. places (n + 1) c.behind) (next (length c.before));
-          }
-
-  -- the middle position, those below it and above it, and the row that is made: those that are meant stand together
-  pub record Gathered (s ps : List ℕ) : Type 0 where
-    pub lt : middle (length ps) < length ps
-    pub centre : get_or ps (middle (length ps)) 0 < length s
-    pub below : AreAscending 0 (get_or ps (middle (length ps)) 0) (take (middle (length ps)) ps)
-    pub above : AreAscending (get_or ps (middle (length ps)) 0 + 1) (length s) (drop (middle (length ps) + 1) ps)
-    pub few : length ps ≤ length s
-    pub low : List ℕ
-    pub meant : List ℕ
-    pub high : List ℕ
-    pub moves : Moves (gathering ps) s (low ++ (meant ++ high))
-    pub lows : All (λ x. not (f x) ≡ true) low
-    pub on : All (λ x. f x ≡ true) meant
-    pub highs : All (λ x. not (f x) ≡ true) high
-
-  middle_lt : (n : ℕ) → 1 ≤ n → middle n < n
-  middle_lt n h = omega (arith, h)
-
-  pub gathered : (s : List ℕ) → 1 ≤ length (places 0 s) → Gathered s (places 0 s)
-  gathered s some =
-      let ps : List ℕ = places 0 s in
-      let k : ℕ = middle (length ps) in
-      let lt : k < length ps = middle_lt (length ps) some in
-      let c : Cut 0 s k ps = cut 0 s k lt in
-      let below : List ℕ = filter others c.before in
-      let first : List ℕ = filter f c.before in
-      let last : List ℕ = filter f c.behind in
-      let above : List ℕ = filter others c.behind in
-      let a : List ℕ = below ++ (first ++ c.line ∷ []) in
-      let all : length s ≡ length c.before + 1 + length c.behind = ap length c.whole
-      ∙ (let e = length-append c.before (c.line ∷ c.behind) in omega (arith, e)) in
-      let at : get_or ps k 0 ≡ length c.before = (let e = c.at in omega (arith, e)) in
-      let len : length c.before + 1 ≡ length a =
-      (let e = length-append below (first ++ c.line ∷ []) in
-      let g = length-append first (c.line ∷ []) in
-      let h = length-filter_both f others (λ x. refl) c.before in
-      omega (arith, e, g, h)) in
-      let from : length a + 0 ≡ 0 + length c.before + 1 = omega (arith, len) in
-      let rest : drop (k + 1) ps ≡ places (0 + length c.before + 1) c.behind = ap (λ n. drop n ps) (add-one k) ∙ c.last in
-      let same : 0 + length c.before + 1 ≡ length c.before + 1 = omega arith in
-      let up = Moves-same _ _ _ _ _ _
-      (ap (λ l. moves_up l (0 + length c.before)) (sym c.first) ∙ ap (moves_up (take k ps)) (sym c.at)) (sym c.whole) refl
-      (gathered_up c.before [] (c.line ∷ c.behind)) in
-      let down = Moves-same _ _ _ _ _ _
-      (ap (λ n. moves_down (places n c.behind) (length c.before)) from ∙ ap (λ l. moves_down l (length c.before)) (sym rest)
-      ∙ ap (moves_down (drop (k + 1) ps)) (sym at))
-      (append_assoc below (first ++ c.line ∷ []) c.behind ∙ ap (λ l. below ++ l) (append_assoc first (c.line ∷ []) c.behind))
-      (append_assoc below (first ++ c.line ∷ []) (last ++ above)
-      ∙ ap (λ l. below ++ l)
-      (append_assoc first (c.line ∷ []) (last ++ above) ∙ sym (append_assoc first (c.line ∷ last) above)))
-      (gathered_down c.behind a [] (length c.before) len) in
-      let Below : ℕ → Type 0 = λ n. AreAscending 0 n (take k ps) in
-      let Above : ℕ → Type 0 = λ n. AreAscending (n + 1) (length s) (drop (k + 1) ps) in
-      let P : List ℕ → Type 0 = AreAscending 0 (length c.before) in
-      let Q : List ℕ → Type 0 = AreAscending (length c.before + 1) (length s) in
-      record {
-        lt = lt;
-        centre = omega (arith, at, all);
-        below = subst Below (sym at) (subst P (sym c.first) (places_ascend 0 (length c.before) c.before (omega arith)));
-        above = subst Above (sym at)
-            (subst Q (sym (rest ∙ ap (λ n. places n c.behind) same))
-            (places_ascend (length c.before + 1) (length s) c.behind (sym all)));
-        few = omega (arith, AreAscending-room 0 (length s) ps (omega arith) (places_ascend 0 (length s) s (omega arith)));
-        low = below;
-        meant = first ++ c.line ∷ last;
-        high = above;
-        moves = Moves-append (moves_up (take k ps) (get_or ps k 0)) _ s _ _ up down;
-        lows = filter_passes others c.before;
-        on = All-append (λ x. f x ≡ true) first (c.line ∷ last) (filter_passes f c.before)
-            (All-cons (λ x. f x ≡ true) c.line last c.meant (filter_passes f c.behind));
-        highs = filter_passes others c.behind;
+      by_test false here small w = record {
+        below = λ q l. w.below q (omega arith);
+        above = w.above;
+        on = λ q l t o.
+            (elim (cases_eq q low) [
+              | inl at ↦ absurd (neither (f q) o (ap f at ∙ here))
+              | inr other ↦ w.on q (omega arith) t o
+            ]);
+        off = λ q l t o.
+            (elim (cases_eq q low) [
+              | inl at ↦ (let z = w.below q (omega arith) in (omega arith, omega arith))
+              | inr other ↦ (let v = w.off q (omega arith) t o in (omega arith, v.1))
+            ]);
       }
 
-  neither : (b : Bool) → not b ≡ true → b ≡ true → ⊥
-  neither true off on = false≢true off
-  neither false off on = false≢true on
+  -- where positions above bottom, below high, are led: m of those from low on to right above bottom
+  record Down (bottom low high m : ℕ) (to : ℕ → ℕ) : Type 0 where
+    below : (q : ℕ) → q ≤ bottom → to q ≡ q
+    kept : (q : ℕ) → bottom < q → q < low → bottom + m < to q
+    on : (q : ℕ) → low ≤ q → q < high → f q ≡ true → (bottom < to q) × (to q ≤ bottom + m)
+    off : (q : ℕ) → low ≤ q → q < high → f q ≡ false → bottom + m < to q
 
-  -- between two that are meant there are such alone
-  pub together : (low meant high : List ℕ) (i j k : ℕ) → All (λ x. not (f x) ≡ true) low → All (λ x. f x ≡ true) meant
-      → All (λ x. not (f x) ≡ true) high
-      → f (get_or (low ++ (meant ++ high)) i 0) ≡ true → f (get_or (low ++ (meant ++ high)) k 0) ≡ true
-      → k < length (low ++ (meant ++ high)) → i ≤ j → j ≤ k
-      → f (get_or (low ++ (meant ++ high)) j 0) ≡ true
-  together low meant high i j k lows on highs a b in_row ij jk =
-      let len : length (low ++ (meant ++ high)) ≡ length low + (length meant + length high) =
-      length-append low (meant ++ high) ∙ ap (λ n. length low + n) (length-append meant high) in
-      let from : length low ≤ i =
-      elim (cases_lt i (length low)) [
-        | inl lt ↦ absurd (neither (f (get_or low i 0)) (lows i 0 lt) (ap f (sym (get_or_append_left low (meant ++ high) 0 i lt)) ∙ a))
-        | inr ge ↦ ge
-      ] in
-      let past : (n : ℕ) → length low ≤ n → get_or (low ++ (meant ++ high)) n 0 ≡ get_or (meant ++ high) (n - length low) 0 =
-      λ n le. get_or-append_right low (meant ++ high) (length low) n 0 refl le in
-      let to : k < length low + length meant =
-      elim (cases_lt k (length low + length meant)) [
-        | inl lt ↦ lt
-        | inr ge ↦ absurd (neither (f (get_or high (k - length low - length meant) 0))
-            (highs (k - length low - length meant) 0 (omega (arith, in_row, len, ge)))
-            (ap f (sym (past k (omega (arith, ge))
-            ∙ get_or-append_right meant high (length meant) (k - length low) 0 refl (omega (arith, ge)))) ∙ b))
-      ] in
-      ap f (past j (omega (arith, from, ij)) ∙ get_or_append_left meant high 0 (j - length low) (omega (arith, to, jk, from, ij)))
-      ∙ on (j - length low) 0 (omega (arith, to, jk, from, ij))
+  down : (low d bottom high : ℕ) → low + d ≡ high → bottom < low → Down bottom low high (length (passing low d)) (travels (moves_down (passing low d) bottom))
+  unfolding moves_down travels
+  down low zero bottom high e b = record {
+    below = λ q l. refl;
+    kept = λ q l t. omega arith;
+    on = λ q l t o. absurd (omega arith);
+    off = λ q l t o. absurd (omega arith);
+  }
+  down low (suc d) bottom high e b =
+      by_test (f low) refl (down (low + 1) d (bottom + 1) high (omega arith) (omega arith)) (down (low + 1) d bottom high (omega arith) (omega arith))
+    where
+      by_test : (t : Bool) → f low ≡ t → Down (bottom + 1) (low + 1) high (length (passing (low + 1) d)) (travels (moves_down (passing (low + 1) d) (bottom + 1)))
+          → Down bottom (low + 1) high (length (passing (low + 1) d)) (travels (moves_down (passing (low + 1) d) bottom))
+          → Down bottom low high (length (cond t (low ∷ passing (low + 1) d) (passing (low + 1) d)))
+          (travels (moves_down (cond t (low ∷ passing (low + 1) d) (passing (low + 1) d)) bottom))
+      by_test true here w v =
+          let rest : List ℕ = passing (low + 1) d in
+          let then : ℕ → ℕ = travels (moves_down rest (bottom + 1)) in
+          let all : ℕ → ℕ = travels (swaps_down low (bottom + 1) ++ moves_down rest (bottom + 1)) in
+          let is : (q p : ℕ) → shifted low (bottom + 1) q ≡ p → all q ≡ then p =
+          λ q p z. travels-append (swaps_down low (bottom + 1)) (moves_down rest (bottom + 1)) q ∙ ap then (travels_fall low (bottom + 1) q (omega arith) ∙ z) in
+          record {
+            below = λ q l. is q q (shifted-below low (bottom + 1) q (omega arith) (omega arith)) ∙ w.below q (omega arith);
+            kept = λ q l t. (let z = is q (q + 1) (shifted-down low (bottom + 1) q (omega arith) t) in let k = w.kept (q + 1) (omega arith) (omega arith) in omega arith);
+            on = λ q l t o.
+                (elim (cases_eq q low) [
+                  | inl at ↦
+                      (let z : all q ≡ bottom + 1 = is q (bottom + 1) (ap (shifted low (bottom + 1)) at ∙ shifted-at low (bottom + 1)) ∙ w.below (bottom + 1) (omega arith) in
+                      (omega arith, omega arith))
+                  | inr other ↦
+                      (let z = is q q (shifted-above low (bottom + 1) q (omega arith) (omega arith)) in let k = w.on q (omega arith) t o in (omega arith, omega arith))
+                ]);
+            off = λ q l t o.
+                (elim (cases_eq q low) [
+                  | inl at ↦ absurd (neither (f q) (ap f at ∙ here) o)
+                  | inr other ↦ (let z = is q q (shifted-above low (bottom + 1) q (omega arith) (omega arith)) in let k = w.off q (omega arith) t o in omega arith)
+                ]);
+          }
+      by_test false here w v = record {
+        below = v.below;
+        kept = λ q l t. v.kept q l (omega arith);
+        on = λ q l t o. (elim (cases_eq q low) [ inl at ↦ absurd (neither (f q) o (ap f at ∙ here)) | inr other ↦ v.on q (omega arith) t o ]);
+        off = λ q l t o. (elim (cases_eq q low) [ inl at ↦ v.kept q (omega arith) (omega arith) | inr other ↦ v.off q (omega arith) t o ]);
+      }
+
+  -- ---- around one of them
+
+  record Cut (low n k : ℕ) (ps : List ℕ) : Type 0 where
+    from : low ≤ get_or ps k 0
+    within : get_or ps k 0 < n
+    passes : f (get_or ps k 0) ≡ true
+    first : take k ps ≡ passing low (get_or ps k 0 - low)
+    last : drop (suc k) ps ≡ passing (get_or ps k 0 + 1) (n - (get_or ps k 0 + 1))
+
+  cut : (low d n k : ℕ) → low + d ≡ n → k < length (passing low d) → Cut low n k (passing low d)
+  cut low zero n k e lt = absurd (omega arith)
+  cut low (suc d) n k e lt = by_test (cut (low + 1) d n) (f low) refl k lt
+    where
+      longer : (b : Bool) → f low ≡ b → (c : ℕ) → low + 1 ≤ c → cond b (low ∷ passing (low + 1) (c - (low + 1))) (passing (low + 1) (c - (low + 1))) ≡ passing low (c - low)
+      longer b e c le =
+          let z : suc (c - (low + 1)) ≡ c - low = omega arith in
+          ap (λ t. cond t (low ∷ passing (low + 1) (c - (low + 1))) (passing (low + 1) (c - (low + 1)))) (sym e) ∙ ap (passing low) z
+
+      by_test : ((k : ℕ) → low + 1 + d ≡ n → k < length (passing (low + 1) d) → Cut (low + 1) n k (passing (low + 1) d))
+          → (b : Bool) → f low ≡ b → (k : ℕ) → k < length (cond b (low ∷ passing (low + 1) d) (passing (low + 1) d))
+          → Cut low n k (cond b (low ∷ passing (low + 1) d) (passing (low + 1) d))
+      by_test rest true here zero lt =
+          let none : 0 ≡ low - low = omega arith in
+          let all : d ≡ n - (low + 1) = omega arith in
+          record { from = omega arith; within = omega arith; passes = here; first = ap (passing low) none; last = ap (passing (low + 1)) all }
+      by_test rest true here (suc k) lt =
+          let c = rest k (omega arith) (omega arith) in
+          record {
+            from = omega (arith, c.from);
+            within = c.within;
+            passes = c.passes;
+            first = ap (λ l. low ∷ l) c.first ∙ longer true here (get_or (passing (low + 1) d) k 0) c.from;
+            last = c.last;
+          }
+      by_test rest false here k lt =
+          let c = rest k (omega arith) lt in
+          record {
+            from = omega (arith, c.from);
+            within = c.within;
+            passes = c.passes;
+            first = c.first ∙ longer false here (get_or (passing (low + 1) d) k 0) c.from;
+            last = c.last;
+          }
+
+  -- the positions that pass are led to a block, from lo to hi, and no others there
+  pub record Block (n lo hi : ℕ) (to : ℕ → ℕ) : Type 0 where
+    pub on : (q : ℕ) → q < n → f q ≡ true → (lo ≤ to q) × (to q ≤ hi)
+    pub off : (q : ℕ) → q < n → f q ≡ false → (to q < lo) ⊎ (hi < to q)
+
+  pub gathered : (n : ℕ) → 0 < length (passing 0 n) → (lo : ℕ) × (hi : ℕ) × Block n lo hi (travels (gathering (passing 0 n)))
+  gathered n some =
+      let ps : List ℕ = passing 0 n in
+      let k : ℕ = middle (length ps) in
+      let c : ℕ = get_or ps k 0 in
+      let z = cut 0 n n k (omega arith) (omega arith) in
+      let P : List ℕ → Type 0 = λ l. Up 0 c (length l) (travels (moves_up l c)) in
+      let Q : List ℕ → Type 0 = λ l. Down c (c + 1) n (length l) (travels (moves_down l c)) in
+      let below : List ℕ = take k ps in
+      let behind : List ℕ = drop (k + 1) ps in
+      let u : Up 0 c (length below) (travels (moves_up below c)) = subst P (sym z.first) (up 0 (c - 0) c (omega arith)) in
+      let rest : behind ≡ passing (c + 1) (n - (c + 1)) = ap (λ i. drop i ps) (add-one k) ∙ z.last in
+      let v : Down c (c + 1) n (length behind) (travels (moves_down behind c)) = subst Q (sym rest) (down (c + 1) (n - (c + 1)) c n (omega (arith, z.within)) (omega arith)) in
+      let first : ℕ → ℕ = travels (moves_up below c) in
+      let then : ℕ → ℕ = travels (moves_down behind c) in
+      let is : (q p : ℕ) → first q ≡ p → travels (gathering ps) q ≡ then p = λ q p e. travels-append (moves_up below c) (moves_down behind c) q ∙ ap then e in (
+        c - length below,
+        c + length behind,
+        record {
+          on = λ q lt o.
+              (elim (cases_lt q c) [
+                | inl low ↦ (let w = u.on q (omega arith) low o in let e = is q (first q) refl ∙ v.below (first q) (omega arith) in (omega arith, omega arith))
+                | inr ge ↦
+                    (elim (cases_eq q c) [
+                      | inl at ↦ (let e = is q q (u.above q ge) ∙ v.below q (omega arith) in (omega arith, omega arith))
+                      | inr other ↦ (let e = is q q (u.above q ge) in let w = v.on q (omega arith) lt o in (omega arith, omega arith))
+                    ])
+              ]);
+          off = λ q lt o.
+              (elim (cases_lt q c) [
+                | inl low ↦ (let w = u.off q (omega arith) low o in let e = is q (first q) refl ∙ v.below (first q) (omega arith) in inl (omega arith))
+                | inr ge ↦
+                    (elim (cases_eq q c) [
+                      | inl at ↦ absurd (neither (f q) (ap f at ∙ z.passes) o)
+                      | inr other ↦ (let e = is q q (u.above q ge) in let w = v.off q (omega arith) lt o in inr (omega arith))
+                    ])
+              ]);
+        },
+      )

@@ -1,6 +1,6 @@
 -- A routed circuit does what the circuit does, and each of its gates is near.
 use Rattle.std.proofs.Common.{◌≡◌, ℕ, zero, suc, ◌+◌, ◌<◌, ◌≤◌, Bool, true, false, ◌||◌, eqb, List, [], ◌∷◌, ◌++◌, length, get_or, map, All, refl, sym, ◌∙◌, ap, inl, inr, arith, eq-eqb, subst, ext_get_or}
-use Rattle.std.proofs.lemmas.Bool.{cases_eq, cases_lt, false≢true, or_left, or_right}
+use Rattle.std.proofs.lemmas.Bool.{cases_Bool, cases_eq, cases_lt, false≢true, or_left, or_right}
 use Rattle.std.proofs.lemmas.List.FromFn.{length-range_with_len, get_or-range_with_len}
 use Rattle.std.proofs.lemmas.List.{length-map}
 use Rattle.std.proofs.lemmas.List.Elements.{All-nil, All-cons, All-append, All-head, All-map, All-tail, All-weaker}
@@ -15,14 +15,15 @@ use Rattle.rv_gate.proofs.inside.GateLemmas.{length-act, run-append}
 use Rattle.rv_route.specs.Placement.{home, position_of, word_on, gate_on, IsNear}
 use Rattle.rv_route.specs.Moves.{swaps_down, swapped, neighbours, gathering, touched_positions, way_home}
 use Rattle.rv_route.specs.Routed.{routed_from, routed}
-use Rattle.rv_route.specs.inside.Standing.{IsPlacement, IsSwap}
-use Rattle.rv_route.proofs.inside.Shifts.{IsPlacement-swapped, lowered, swapped_none, swapped-append}
-use Rattle.rv_route.proofs.inside.Gathers.{Gathered, gathered, places, places_are, some_place, together}
-use Rattle.rv_route.proofs.inside.Running.{stands, bit_of-word_on, run_swaps, act-on, touches-gate_on, FitsIn-gate_on, IsGate-gate_on}
+use Rattle.rv_route.specs.inside.Standing.{IsPlacement, IsSwap, AreAscending, shifted}
+use Rattle.rv_route.proofs.inside.Shifts.{IsPlacement-swapped, swapped_none, swapped-append}
+use Rattle.rv_route.proofs.inside.Moving.{travels, travels_fall, moved_on, position-swapped, swaps_down-within, gathering-within, shifted-at, shifted-below}
+use Rattle.rv_route.proofs.inside.Gathers.{gathered, passing_ascend, some_pass}
+use Rattle.rv_route.proofs.inside.Running.{stands, position_is, bit_of-word_on, run_swaps, act-on, touches-gate_on, FitsIn-gate_on, IsGate-gate_on}
 
 -- ---- home
 
-home_at : (n p : ℕ) → p < n → get_or (home n) p 0 ≡ p
+pub home_at : (n p : ℕ) → p < n → get_or (home n) p 0 ≡ p
 home_at n p lt = let e = get_or-range_with_len 0 n p 0 lt in omega (arith, e)
 
 pub IsPlacement-home : (n : ℕ) → IsPlacement n (home n)
@@ -63,17 +64,17 @@ one_home n s l ll i before =
     let p : ℕ = position_of s l in
     let w = stands n s i l ll in
     let le : l ≤ p = (elim (cases_lt p l) [ inl lt ↦ absurd (omega (arith, before p lt, w.1, lt)) | inr ge ↦ ge ]) in
-    let m = lowered p l s le (omega (arith, w.0, i.len)) in
-    let P : ℕ → Type 0 = λ k. All (IsSwap k) (swaps_down p l) in
-    let within : All (IsSwap n) (swaps_down p l) = subst P i.len m.within in
+    let within : All (IsSwap n) (swaps_down p l) = swaps_down-within n p l w.0 in
+    let at : (q to : ℕ) → shifted p l q ≡ to → get_or (swapped (swaps_down p l) s) to 0 ≡ get_or s q 0 =
+    λ q to e. ap (λ k. get_or (swapped (swaps_down p l) s) k 0) (sym (travels_fall p l q le ∙ e)) ∙ moved_on n (swaps_down p l) s q i.len within in
     record {
       down = le;
       within = within;
       placement = IsPlacement-swapped n (swaps_down p l) s within i;
       home = λ k h.
           (elim (cases_eq k l) [
-            | inl at ↦ ap (λ j. get_or (swapped (swaps_down p l) s) j 0) at ∙ m.at ∙ w.1 ∙ sym at
-            | inr ne ↦ m.before k (omega (arith, h, ne)) ∙ before k (omega (arith, h, ne))
+            | inl same ↦ at p k (shifted-at p l ∙ sym same) ∙ w.1 ∙ sym same
+            | inr ne ↦ at k k (shifted-below p l k (omega arith) (omega arith)) ∙ before k (omega arith)
           ]);
     }
 
@@ -109,43 +110,55 @@ touched_line (Peres a b d) n fits = let on = or_right (eqb d a || eqb d b) _ (eq
 
 -- what gathering for a gate keeps
 pub record Gathers (n : ℕ) (s : List ℕ) (g : Shape) : Type 0 where
-  pub parts : Gathered (touches g) s (touched_positions s g)
+  pub some : 0 < length (touched_positions s g)
+  pub ascending : AreAscending 0 n (touched_positions s g)
   pub within : All (IsSwap n) (gathering (touched_positions s g))
   pub placement : IsPlacement n (swapped (gathering (touched_positions s g)) s)
   pub near : IsNear (gate_on (swapped (gathering (touched_positions s g)) s) g)
 
 pub gathers : (n : ℕ) (s : List ℕ) (g : Shape) → IsPlacement n s → FitsIn g n → Gathers n s g
 gathers n s g i fits =
-    let f : ℕ → Bool = touches g in
+    let f : ℕ → Bool = λ p. touches g (get_or s p 0) in
     let ps : List ℕ = touched_positions s g in
+    let len = i.len in
     let o = touched_line g n fits in
-    let w = i.stands o.0 o.2 in
-    let are : ps ≡ places f 0 s =
-    places_are f (λ position. f (get_or s position 0)) 0 s
-    (λ k. (let e : 0 + k ≡ k = omega arith in ap (λ q. f (get_or s q 0)) e)) in
-    let P : List ℕ → Type 0 = Gathered f s in
-    let parts : Gathered f s ps =
-    subst P (sym are) (gathered f s (some_place f 0 s (i.place o.0) (omega (arith, w.0, i.len)) (ap f w.1 ∙ o.1))) in
-    let m = parts.moves in
-    let Q : ℕ → Type 0 = λ k. All (IsSwap k) (gathering ps) in
-    let within : All (IsSwap n) (gathering ps) = subst Q i.len m.within in
+    let v = i.stands o.0 o.2 in
+    let some : 0 < length ps = some_pass f 0 (length s) (i.place o.0) (omega arith) (omega (arith, v.0)) (ap (touches g) v.1 ∙ o.1) in
+    let ascending : AreAscending 0 n ps = passing_ascend f 0 (length s) n (omega arith) in
+    let within : All (IsSwap n) (gathering ps) = gathering-within n ps some ascending in
     let t : List ℕ = swapped (gathering ps) s in
     let placement : IsPlacement n t = IsPlacement-swapped n (gathering ps) s within i in
-    let at : (k : ℕ) → touches (gate_on t g) k ≡ true → (k < n) × (f (get_or t k 0) ≡ true) = λ k on.
-    (let lk : k < n = FitsIn-gate_on n t placement g fits k on in (lk, sym (touches-gate_on n t placement g k fits lk) ∙ on)) in
-    let Between : List ℕ → Type 0 = λ l. (first line last : ℕ) → f (get_or l first 0) ≡ true → f (get_or l last 0) ≡ true
-    → last < length l → first ≤ line → line ≤ last → f (get_or l line 0) ≡ true in
-    let between : Between t =
-    subst Between (sym m.made)
-    (λ first line last. together f parts.low parts.meant parts.high first line last parts.lows parts.on parts.highs) in
+    let block = gathered f (length s) some in
+    -- the line at a position after the swaps, and where it was before
+    let was : (k : ℕ) → k < n → (q : ℕ) × (q < length s) × (get_or s q 0 ≡ get_or t k 0) × (travels (gathering ps) q ≡ k) = λ k lk.
+    (let x = placement.line k lk in
+    let w = stands n s i (get_or t k 0) x.0 in (
+      position_of s (get_or t k 0),
+      omega (arith, w.0),
+      w.1,
+      sym (position-swapped n (gathering ps) s (get_or t k 0) x.0 within i) ∙ position_is n t placement (get_or t k 0) x.0 ∙ x.1,
+    )) in
+    let inside : (k : ℕ) → touches (gate_on t g) k ≡ true → (k < n) × (block.0 ≤ k) × (k ≤ block.1) = λ k on.
+    (let lk : k < n = FitsIn-gate_on n t placement g fits k on in
+    let q = was k lk in
+    let b = block.2.on q.0 q.1 (ap (touches g) q.2 ∙ sym (touches-gate_on n t placement g k fits lk) ∙ on) in
+    let at = q.3 in
+    (lk, omega (arith, b.0), omega (arith, b.1))) in
     record {
-      parts = parts;
+      some = some;
+      ascending = ascending;
       within = within;
       placement = placement;
       near = λ first line last a b lo hi.
-          (let y = at last b in
-          touches-gate_on n t placement g line fits (omega (arith, y.0, hi))
-          ∙ between first line last (at first a).1 y.1 (omega (arith, y.0, placement.len)) lo hi);
+          (let x = inside first a in
+          let y = inside last b in
+          let lk : line < n = omega (arith, y.0) in
+          let q = was line lk in
+          let at = q.3 in
+          elim (cases_Bool (touches g (get_or s q.0 0))) [
+            | inl on ↦ touches-gate_on n t placement g line fits lk ∙ ap (touches g) (sym q.2) ∙ on
+            | inr off ↦ absurd (elim (block.2.off q.0 q.1 off) [ inl under ↦ omega (arith, x.1) | inr over ↦ omega (arith, y.2) ])
+          ]);
     }
 
 -- ---- all gates

@@ -1,80 +1,128 @@
--- One more swap, one more move, one more position, one more gate.
-use Rattle.std.proofs.lemmas.Grind.{common_steps}
-use Rattle.std.proofs.Common.{◌≡◌, ℕ, suc, ◌+◌, ◌-◌, ◌*◌, ◌<◌, ◌≤◌, Bool, true, false, cond, List, [], ◌∷◌, ◌++◌, length, get_or, map, take, drop, reverse, refl, sym, ◌∙◌, ap, subst, arith, append_assoc, add-one, length-append, length-drop, ext_get_or}
-use Rattle.std.proofs.Math.Nat.{mul-le-mul_right}
-use Rattle.std.proofs.lemmas.List.{append-nil, take_more, drop_more, at_drop_all, map-append, length-map, reverse-append, length-take-le, get_or-take}
+-- One more line of a set, one more line home, one more gate.
+use Rattle.std.proofs.Common.{◌≡◌, ◌≢◌, ℕ, zero, suc, ◌+◌, ◌-◌, ◌<◌, ◌≤◌, Bool, true, false, cond, List, [], ◌∷◌, ◌++◌, ◌*◌, ◌^◌, ◌%◌, ◌||◌, eqb, eq-eqb, bit_or, length, get_or, map, take, drop, refl, sym, ◌∙◌, ap, inl, inr, subst, arith, append_assoc, length-append, ext_get_or}
+use Rattle.std.proofs.lemmas.Bool.{cases_eq, eqb-true, or_cases, or_left, or_right}
+use Rattle.std.proofs.lemmas.List.{append-nil, drop_more, at_drop_all, length-map, length-take-le, get_or-take, get_or-map, get_or_past}
 use Rattle.std.proofs.lemmas.List.FromFn.{length-range_with_len, get_or-range_with_len}
-use Rattle.std.specs.List.{filter, range_with_len, swap}
-use Rattle.rv_gate.proofs.Lists.{take_rest}
-use Rattle.rv_gate.proofs.Ranges.{range-suc, filter-suc}
-use Rattle.rv_gate.specs.Gate.{touches, FitsIn}
+use Rattle.std.specs.List.{filter, range_with_len}
+use Rattle.rv_gate.proofs.Bits.{same_bool}
+use Rattle.rv_gate.proofs.inside.Ones.{ones_of-is, has-ones_of}
+use Rattle.rv_gate.proofs.LowestLine.{IsLowest, none_left, still_there}
+use Rattle.rv_gate.proofs.LineSets.{has-or_one_shl}
+use Rattle.rv_gate.proofs.Ranges.{filter-suc}
+use Rattle.rv_gate.specs.Word.{has}
+use Rattle.rv_gate.specs.Gate.{touches, FitsIn, Within}
 use Rattle.rv_gate.specs.declared.gate.Shape.{Shape}
-use Rattle.rv_route.specs.Placement.{home, position_of, gate_on}
-use Rattle.rv_route.specs.Moves.{swaps_up, swaps_down, swapped, neighbours, moves_up, moves_down, middle, gathering, touched_positions, way_home}
+use Rattle.rv_route.specs.Placement.{home, position_of, positions_of, gate_on}
+use Rattle.rv_route.specs.Moves.{swaps_down, swapped, neighbours, gathering, touched_positions, way_home}
 use Rattle.rv_route.specs.Routed.{routed_from}
-use Rattle.rv_route.specs.inside.Standing.{IsPlacement, AreAscending}
-use Rattle.rv_route.proofs.inside.Shifts.{swapped_none, swapped_first, swapped-append}
-use Rattle.rv_route.proofs.inside.Gathers.{Gathered}
-use Rattle.rv_route.proofs.inside.Routes.{routed_none, routed_first, AreHome, gathers}
+use Rattle.rv_route.specs.declared.moves.Move.{Move}
+use Rattle.rv_route.specs.inside.Standing.{IsPlacement, Stands, AreAscending, shifted, swaps_by, swaps_of}
+use Rattle.rv_route.proofs.inside.Running.{stands, position_is, has-positions_of}
+use Rattle.rv_route.proofs.inside.Gathers.{few}
+use Rattle.rv_route.proofs.inside.Routes.{IsPlacement-home, home_at, routed_none, routed_first, AreHome, one_home, gathers}
+use Rattle.rv_route.proofs.inside.Shifts.{swapped_none, swapped-append}
+use Rattle.rv_route.proofs.inside.Moving.{swaps_of-down, swaps_by_none, Stands-first, Stands-moved, place_of}
 
--- ---- one line moves
+-- ---- the lines of a set, the lowest first
 
-rising-more : (a p : ℕ) → a ≤ p → swaps_up a (p + 1) ≡ swaps_up a p ++ p ∷ []
-rising-more a p le = grind (arith, range_with_len, range-suc)
+none_pass : (p : ℕ → Bool) (n : ℕ) → ((k : ℕ) → k < n → p k ≡ false) → filter p (range_with_len 0 n) ≡ []
+none_pass p zero off = refl
+none_pass p (suc n) off =
+    filter-suc p n ∙ ap (λ (b : Bool). filter p (range_with_len 0 n) ++ cond b (n ∷ []) []) (off n (omega arith))
+    ∙ append-nil (filter p (range_with_len 0 n)) ∙ none_pass p n (λ k lt. off k (omega arith))
 
-falling-more : (a p : ℕ) → 0 < p → p ≤ a → swaps_down a (p - 1) ≡ swaps_down a p ++ (p - 1) ∷ []
-falling-more a p some le = grind (arith, common_steps, range_with_len, reverse-append)
+lowest_of : (left line rest n : ℕ) → n ≤ 64 → line < n → IsLowest left line rest → filter (has left) (range_with_len 0 n) ≡ line ∷ filter (has rest) (range_with_len 0 n)
+lowest_of left line rest zero few lt l = absurd (omega arith)
+lowest_of left line rest (suc n) few lt l =
+    let add : (set : ℕ) (b : Bool) → has set n ≡ b → filter (has set) (range_with_len 0 (suc n)) ≡ filter (has set) (range_with_len 0 n) ++ cond b (n ∷ []) [] =
+    λ set b e. filter-suc (has set) n ∙ ap (λ (b : Bool). filter (has set) (range_with_len 0 n) ++ cond b (n ∷ []) []) e in
+    elim (cases_eq line n) [
+      | inl at ↦
+          add left true (ap (has left) (sym at) ∙ l.there)
+          ∙ ap (λ x. x ++ n ∷ []) (none_pass (has left) n (λ k lt. l.least k (omega arith)))
+          ∙ ap (λ k. k ∷ []) (sym at)
+          ∙ ap (λ x. line ∷ x) (sym (none_pass (has rest) (suc n) (λ k lt. elim (cases_eq k line) [
+            | inl here ↦ ap (has rest) here ∙ l.gone
+            | inr other ↦ l.same k (omega arith) other ∙ l.least k (omega arith)
+          ])))
+      | inr other ↦
+          let ne : n ≢ line = omega arith in
+          add left (has rest n) (sym (l.same n (omega arith) ne))
+          ∙ ap (λ x. x ++ cond (has rest n) (n ∷ []) []) (lowest_of left line rest n (omega arith) (omega arith) l)
+          ∙ ap (λ x. line ∷ x) (sym (add rest (has rest n) refl))
+    ]
 
-none : (a b : ℕ) → b ≤ a → range_with_len a (b - a) ≡ []
-none a b le = let z : b - a ≡ 0 = omega arith in ap (range_with_len a) z
+pub lines_more : (left line rest : ℕ) (now next all : List ℕ) → IsLowest left line rest → now ++ filter (has left) (range_with_len 0 64) ≡ all → next ≡ now ++ line ∷ []
+    → next ++ filter (has rest) (range_with_len 0 64) ≡ all
+lines_more left line rest now next all l so_far added =
+    ap (λ x. x ++ filter (has rest) (range_with_len 0 64)) added ∙ append_assoc now (line ∷ []) (filter (has rest) (range_with_len 0 64))
+    ∙ ap (λ x. now ++ x) (sym (lowest_of left line rest 64 (omega arith) l.within l)) ∙ so_far
 
--- swaps that were added, and made
-pub record Swaps (ps old now s t : List ℕ) : Type 0 where
-  pub swaps : now ≡ old ++ ps
-  pub lines : t ≡ swapped ps s
+pub lines_end : (left : ℕ) (now all : List ℕ) → left ≡ 0 → now ++ filter (has left) (range_with_len 0 64) ≡ all → now ≡ all
+lines_end left now all z so_far =
+    sym (append-nil now) ∙ ap (λ x. now ++ x) (sym (none_pass (has left) 64 (λ k lt. ap (λ s. has s k) z ∙ none_left k))) ∙ so_far
 
-no_swaps : (ps old s : List ℕ) → ps ≡ [] → Swaps ps old old s s
-no_swaps ps old s e =
-    record {
-      swaps = sym (ap (λ l. old ++ l) e ∙ append-nil old);
-      lines = sym (ap (λ l. swapped l s) e ∙ swapped_none s);
-    }
-
-more_swaps : (ps qs more old now next s t u : List ℕ) → Swaps ps old now s t → more ≡ ps ++ qs → next ≡ now ++ qs → u ≡ swapped qs t → Swaps more old next s u
-more_swaps ps qs more old now next s t u w e added made =
-    record {
-      swaps = added ∙ ap (λ l. l ++ qs) w.swaps ∙ append_assoc old ps qs ∙ ap (λ l. old ++ l) (sym e);
-      lines = made ∙ ap (swapped qs) w.lines ∙ sym (ap (λ l. swapped l s) e ∙ swapped-append ps qs s);
-    }
-
-one_swapped : (p : ℕ) (s : List ℕ) → swap s p (p + 1) ≡ swapped (p ∷ []) s
-one_swapped p s = sym (swapped_first p [] s ∙ swapped_none (swap s p (p + 1)))
-
-pub up_none : (a b : ℕ) (old s : List ℕ) → b ≤ a → Swaps (swaps_up a b) old old s s
-up_none a b old s le = no_swaps (swaps_up a b) old s (none a b le)
-
-pub up_more : (a p : ℕ) (old now next s t u : List ℕ) → a ≤ p → Swaps (swaps_up a p) old now s t → next ≡ now ++ p ∷ [] → u ≡ swap t p (p + 1) → Swaps (swaps_up a (p + 1)) old next s u
-up_more a p old now next s t u le w added made = more_swaps (swaps_up a p) (p ∷ []) (swaps_up a (p + 1)) old now next s t u w (rising-more a p le) added (made ∙ one_swapped p t)
-
-pub down_none : (a b : ℕ) (old s : List ℕ) → a ≤ b → Swaps (swaps_down a b) old old s s
-down_none a b old s le = no_swaps (swaps_down a b) old s (ap reverse (none b a le))
-
-pub down_more : (a p : ℕ) (old now next s t u : List ℕ) → 0 < p → p ≤ a → Swaps (swaps_down a p) old now s t → next ≡ now ++ (p - 1) ∷ [] → u ≡ swap t (p - 1) (p - 1 + 1) → Swaps (swaps_down a (p - 1)) old next s u
-down_more a p old now next s t u some le w added made = more_swaps (swaps_down a p) ((p - 1) ∷ []) (swaps_down a (p - 1)) old now next s t u w (falling-more a p some le) added (made ∙ one_swapped (p - 1) t)
-
--- ---- gates of swaps
-
-pub gates_next : (ps : List ℕ) (k d : ℕ) (old now next : List Shape) (g : Shape) → k < length ps → now ≡ old ++ map neighbours (take k ps) → g ≡ neighbours (get_or ps k d) → next ≡ now ++ g ∷ []
-    → next ≡ old ++ map neighbours (take (k + 1) ps)
-gates_next ps k d old now next g lt so_far is made = grind (arith, common_steps, append_assoc, take_more, map-append)
+pub lines_room : (set left line rest : ℕ) (now : List ℕ) → IsLowest left line rest → now ++ filter (has left) (range_with_len 0 64) ≡ filter (has set) (range_with_len 0 64) → length now < 64
+lines_room set left line rest now l so_far =
+    let e = ap length (sym (ap (λ x. now ++ x) (lowest_of left line rest 64 (omega arith) l.within l)) ∙ so_far) in
+    omega (arith, e, length-append now (line ∷ filter (has rest) (range_with_len 0 64)), few (has set) 0 64)
 
 -- ---- positions
 
-pub filter_on : (f : ℕ → Bool) (n : ℕ) → f n ≡ true → filter f (range_with_len 0 (n + 1)) ≡ filter f (range_with_len 0 n) ++ n ∷ []
-filter_on f n e = rw (add-one n) (filter-suc f n ∙ ap (λ (b : Bool). filter f (range_with_len 0 n) ++ cond b (n ∷ []) []) e)
+-- a set of positions: those of the lines of a set that were passed, and no others
+pub record Placing (places : List ℕ) (set left positions : ℕ) : Type 0 where
+  pub among : (line : ℕ) → line < 64 → has left line ≡ true → has set line ≡ true
+  pub done : (line : ℕ) → line < length places → has set line ≡ true → has left line ≡ false → has positions (get_or places line 0) ≡ true
+  pub only : (p : ℕ) → has positions p ≡ true → (line : ℕ) × (line < length places) × (has set line ≡ true) × (get_or places line 0 ≡ p)
 
-pub filter_off : (f : ℕ → Bool) (n : ℕ) → f n ≡ false → filter f (range_with_len 0 (n + 1)) ≡ filter f (range_with_len 0 n)
-filter_off f n e = rw (add-one n) (filter-suc f n ∙ ap (λ (b : Bool). filter f (range_with_len 0 n) ++ cond b (n ∷ []) []) e ∙ append-nil (filter f (range_with_len 0 n)))
+pub placing_more : (places : List ℕ) (set left line rest positions : ℕ) → length places ≤ 64 → Within set (length places) → get_or places line 0 < 64 → IsLowest left line rest
+    → Placing places set left positions → Placing places set rest (bit_or positions (1 * 2 ^ get_or places line 0 % 2 ^ 64))
+placing_more places set left line rest positions few within lt l w =
+    let place : ℕ = get_or places line 0 in
+    let is : (p : ℕ) → has (bit_or positions (1 * 2 ^ place % 2 ^ 64)) p ≡ (has positions p || eqb p place) = λ p. has-or_one_shl positions place p lt in
+    let on = w.among line l.within l.there in
+    record {
+      among = λ k b o. w.among k b (still_there left line rest l k b o);
+      done = λ k b o off.
+          is (get_or places k 0)
+          ∙ (elim (cases_eq k line) [
+            | inl here ↦ or_right (has positions (get_or places k 0)) _ (eq-eqb _ _ (ap (λ x. get_or places x 0) here))
+            | inr other ↦ or_left _ (eqb (get_or places k 0) place) (w.done k b o (sym (l.same k (omega arith) other) ∙ off))
+          ]);
+      only = λ p o.
+          (elim (or_cases (has positions p) (eqb p place) (sym (is p) ∙ o)) [
+            | inl old ↦ w.only p old
+            | inr new ↦ (line, within line on, on, sym (eqb-true p place new))
+          ]);
+    }
+
+pub placed_all : (row places : List ℕ) (set left positions : ℕ) → Stands row places → left ≡ 0 → Placing places set left positions → positions ≡ positions_of row set
+placed_all row places set left positions s z w =
+    let n : ℕ = length places in
+    let i = s.placement in
+    let from_line : (p : ℕ) → has positions p ≡ true → (p < n) × (has set (get_or row p 0) ≡ true) = λ p on.
+    (let o = w.only p on in
+    let at : position_of row o.0 ≡ p = sym (s.at o.0 o.1) ∙ o.3 in
+    let v = stands n row i o.0 o.1 in
+    (omega (arith, at, v.0), ap (has set) (ap (λ k. get_or row k 0) (sym at) ∙ v.1) ∙ o.2)) in
+    ones_of-is positions (map (has set) row)
+    (λ p lt.
+    let lp : p < n = omega (arith, i.len, length-map row (has set), lt) in
+    let line : ℕ = get_or row p 0 in
+    let v = i.line p lp in
+    let back : get_or places line 0 ≡ p = s.at line v.0 ∙ sym (i_at row n i p lp) in
+    same_bool _ _ (λ on. get_or-map (has set) row p 0 false (omega (arith, i.len)) ∙ (from_line p on).1)
+    (λ on.
+    ap (has positions) (sym back)
+    ∙ w.done line v.0 (sym (get_or-map (has set) row p 0 false (omega (arith, i.len))) ∙ on) (ap (λ k. has k line) z ∙ none_left line)))
+    (λ p past. by_test (has positions p) p refl (λ on. let lt = (from_line p on).0 in omega (arith, i.len, length-map row (has set))))
+  where
+    by_test : (b : Bool) (p : ℕ) → has positions p ≡ b → (has positions p ≡ true → ⊥) → has positions p ≡ false
+    by_test true p e never = absurd (never e)
+    by_test false p e never = e
+
+    i_at : (r : List ℕ) (n : ℕ) (i : IsPlacement n r) (p : ℕ) → p < n → p ≡ position_of r (get_or r p 0)
+    i_at r n i p lt = let w = i.line p lt in sym (position_is n r i (get_or r p 0) w.0 ∙ w.1)
 
 pub take_home : (n m : ℕ) → n ≤ m → take n (home m) ≡ home n
 take_home n m le =
@@ -83,143 +131,66 @@ take_home n m le =
     (λ i lt.
     get_or-take n (home m) i 0 (omega arith) ∙ get_or-range_with_len 0 m i 0 (omega arith) ∙ sym (get_or-range_with_len 0 n i 0 (omega arith)))
 
--- ---- a line after another
+-- ---- the lines that a gate touches
 
--- a step of at most `most`, of which there are no more than len
-pub one_more : (used start done len most step : ℕ) → used ≤ start + done * most → step ≤ most → done < len → used + step ≤ start + len * most
-one_more used start done len most step few le lt = let more = mul-le-mul_right most lt in omega arith
+same_pass : (p q : ℕ → Bool) (n : ℕ) → ((k : ℕ) → k < n → q k ≡ p k) → filter q (range_with_len 0 n) ≡ filter p (range_with_len 0 n)
+same_pass p q zero same = refl
+same_pass p q (suc n) same =
+    filter-suc q n ∙ ap (λ l. l ++ cond (q n) (n ∷ []) []) (same_pass p q n (λ k lt. same k (omega arith)))
+    ∙ ap (λ (b : Bool). filter p (range_with_len 0 n) ++ cond b (n ∷ []) []) (same n (omega arith)) ∙ sym (filter-suc p n)
 
--- the lines from place j on went up to below top
-pub record Raised (top j : ℕ) (ps old now s t : List ℕ) : Type 0 where
-  pub made : Swaps (moves_up (drop j ps) top) old now s t
-  pub few : length now ≤ length old + (length ps - j) * top
+pass_below : (p q : ℕ → Bool) (m d : ℕ) → ((k : ℕ) → k < m → q k ≡ p k) → ((k : ℕ) → m ≤ k → q k ≡ false) → filter q (range_with_len 0 (m + d)) ≡ filter p (range_with_len 0 m)
+pass_below p q m zero same off = let e : m + 0 ≡ m = omega arith in ap (λ n. filter q (range_with_len 0 n)) e ∙ same_pass p q m same
+pass_below p q m (suc d) same off =
+    let e : m + suc d ≡ suc (m + d) = omega arith in
+    ap (λ n. filter q (range_with_len 0 n)) e ∙ filter-suc q (m + d)
+    ∙ ap (λ (b : Bool). filter q (range_with_len 0 (m + d)) ++ cond b ((m + d) ∷ []) []) (off (m + d) (omega arith))
+    ∙ append-nil (filter q (range_with_len 0 (m + d))) ∙ pass_below p q m d same off
 
-pub raised_none : (top j : ℕ) (ps old s : List ℕ) → length ps ≤ j → Raised top j ps old old s s
-unfolding moves_up
-raised_none top j ps old s le =
-    record { made = no_swaps (moves_up (drop j ps) top) old s (at_drop_all (λ l. moves_up l top) ps j le); few = omega arith }
+pub touched_all : (row places : List ℕ) (g : Shape) (set positions : ℕ) → Stands row places → length places ≤ 64 → ((line : ℕ) → has set line ≡ touches g line) → positions ≡ positions_of row set
+    → filter (has positions) (range_with_len 0 64) ≡ touched_positions row g
+touched_all row places g set positions s few lines is =
+    let n : ℕ = length row in
+    let i = s.placement in
+    let len = i.len in
+    let e : n + (64 - n) ≡ 64 = omega arith in
+    let off : (k : ℕ) → n ≤ k → has positions k ≡ false =
+    λ k past. ap (λ x. has x k) is ∙ has-ones_of (map (has set) row) k ∙ get_or_past (map (has set) row) k false (omega (arith, length-map row (has set))) in
+    ap (λ k. filter (has positions) (range_with_len 0 k)) (sym e)
+    ∙ pass_below (λ p. touches g (get_or row p 0)) (has positions) n (64 - n)
+    (λ k lt. ap (λ x. has x k) is ∙ has-positions_of (length places) row i set k (omega arith) ∙ lines (get_or row k 0)) off
 
-moves_up_first : (p top : ℕ) (rest : List ℕ) → moves_up (p ∷ rest) top ≡ moves_up rest top ++ swaps_up p (top - length (p ∷ rest))
-unfolding moves_up
-moves_up_first p top rest = refl
+-- they are some, and ascend
+pub record Touched (n : ℕ) (ps : List ℕ) : Type 0 where
+  pub some : 0 < length ps
+  pub ascending : AreAscending 0 n ps
 
-pub raised_more : (top j to : ℕ) (ps old now next s t u : List ℕ) → 0 < j → j ≤ length ps → to ≡ top - (length ps - (j - 1)) → Raised top j ps old now s t
-    → next ≡ now ++ swaps_up (get_or ps (j - 1) 0) to → u ≡ swapped (swaps_up (get_or ps (j - 1) 0) to) t → length next ≤ length now + top → Raised top (j - 1) ps old next s u
-raised_more top j to ps old now next s t u some le is w added made step =
-    let p : ℕ = get_or ps (j - 1) 0 in
-    let back : j - 1 + 1 ≡ j = omega arith in
-    let len = length-drop j ps in
-    let there : top - suc (length (drop j ps)) ≡ to = omega arith in
-    let cut : drop (j - 1) ps ≡ p ∷ drop j ps = drop_more ps (j - 1) 0 (omega arith) ∙ ap (λ k. p ∷ drop k ps) back in
-    let e : moves_up (drop (j - 1) ps) top ≡ moves_up (drop j ps) top ++ swaps_up p to =
-    ap (λ l. moves_up l top) cut ∙ moves_up_first p top (drop j ps) ∙ ap (λ k. moves_up (drop j ps) top ++ swaps_up p k) there in
-    let d : ℕ = length ps - j in
-    let few : length now ≤ length old + d * top = w.few in
-    let one : length ps - (j - 1) ≡ d + 1 = omega arith in
-    let P : ℕ → Type 0 = λ k. length next ≤ length old + k * top in
-    let last : length next ≤ length old + (d + 1) * top = omega arith in
-    record {
-      made = more_swaps (moves_up (drop j ps) top) (swaps_up p to) (moves_up (drop (j - 1) ps) top) old now next s t u w.made e added made;
-      few = subst P (sym one) last;
-    }
-
--- the lines from place j on are to go down to above bottom
-pub record Lowered (bottom j : ℕ) (ps old now s t : List ℕ) : Type 0 where
-  pub swaps : now ++ moves_down (drop j ps) (bottom + j) ≡ old ++ moves_down ps bottom
-  pub lines : swapped (moves_down (drop j ps) (bottom + j)) t ≡ swapped (moves_down ps bottom) s
-  pub few : length now ≤ length old + j * (63 - bottom)
-
-pub lowered_none : (bottom : ℕ) (ps old s : List ℕ) → Lowered bottom 0 ps old old s s
-lowered_none bottom ps old s =
-    let e : bottom + 0 ≡ bottom = omega arith in
-    record {
-      swaps = ap (λ k. old ++ moves_down ps k) e;
-      lines = ap (λ k. swapped (moves_down ps k) s) e;
-      few = omega arith;
-    }
-
-moves_down_first : (p bottom : ℕ) (rest : List ℕ) → moves_down (p ∷ rest) bottom ≡ swaps_down p (bottom + 1) ++ moves_down rest (bottom + 1)
-unfolding moves_down
-moves_down_first p bottom rest = refl
-
-pub lowered_more : (bottom j : ℕ) (ps old now next s t u : List ℕ) → j < length ps → Lowered bottom j ps old now s t
-    → next ≡ now ++ swaps_down (get_or ps j 0) (bottom + j + 1) → u ≡ swapped (swaps_down (get_or ps j 0) (bottom + j + 1)) t → length next ≤ length now + (63 - bottom) → Lowered bottom (j + 1) ps old next s u
-lowered_more bottom j ps old now next s t u lt w added made step =
-    let b : ℕ = bottom + j in
-    let p : ℕ = get_or ps j 0 in
-    let rest : List ℕ = moves_down (drop (j + 1) ps) (b + 1) in
-    let cut : moves_down (drop j ps) b ≡ swaps_down p (b + 1) ++ rest = ap (λ l. moves_down l b) (drop_more ps j 0 lt) ∙ moves_down_first p b (drop (j + 1) ps) in
-    let e : bottom + (j + 1) ≡ b + 1 = omega arith in
-    let m : ℕ = 63 - bottom in
-    let few : length now ≤ length old + j * m = w.few in
-    record {
-      swaps = ap (λ k. next ++ moves_down (drop (j + 1) ps) k) e ∙ ap (λ l. l ++ rest) added ∙ append_assoc now (swaps_down p (b + 1)) rest ∙ ap (λ l. now ++ l) (sym cut) ∙ w.swaps;
-      lines = ap (λ k. swapped (moves_down (drop (j + 1) ps) k) u) e ∙ ap (swapped rest) made ∙ sym (swapped-append (swaps_down p (b + 1)) rest t) ∙ ap (λ l. swapped l t) (sym cut) ∙ w.lines;
-      few = omega arith;
-    }
-
-pub lowered_all : (bottom j : ℕ) (ps old now s t : List ℕ) → length ps ≤ j → Lowered bottom j ps old now s t → Swaps (moves_down ps bottom) old now s t
-unfolding moves_down
-lowered_all bottom j ps old now s t le w =
-    let e = at_drop_all (λ l. moves_down l (bottom + j)) ps j le in
-    record {
-      swaps = sym (ap (λ l. now ++ l) e ∙ append-nil now) ∙ w.swaps;
-      lines = sym (ap (λ l. swapped l t) e ∙ swapped_none t) ∙ w.lines;
-    }
-
--- ---- gathering
-
--- what gathering does around the middle one
-pub record Middle (f : ℕ → Bool) (s ps : List ℕ) : Type 0 where
-  pub parts : Gathered f s ps
-  pub above : (k : ℕ) → k ≡ length s → AreAscending (get_or ps (middle (length ps)) 0 + 1) k (take (length ps - (middle (length ps) + 1)) (drop (middle (length ps) + 1) ps))
-  pub room_below : length (take (middle (length ps)) ps) * get_or ps (middle (length ps)) 0 ≤ 2016
-  pub room : (one : ℕ) → one ≤ length (take (middle (length ps)) ps) * get_or ps (middle (length ps)) 0
-      → one + length (take (length ps - (middle (length ps) + 1)) (drop (middle (length ps) + 1) ps)) * (63 - get_or ps (middle (length ps)) 0) ≤ 2016
-
--- no more than 31 positions from below, no more than 32 from above
-few_in_all : (below above centre one : ℕ) → below ≤ 31 → above ≤ 32 → centre ≤ 63 → one ≤ below * centre → one + above * (63 - centre) ≤ 2016
-few_in_all below above centre one lb la lc h = grind arith
-
-pub middle_of : (s ps : List ℕ) (g : Shape) → IsPlacement (length s) s → length s ≤ 64 → FitsIn g (length s) → ps ≡ touched_positions s g → Middle (touches g) s ps
-middle_of s ps g i few fits e =
-    let P : List ℕ → Type 0 = Gathered (touches g) s in
-    let p : Gathered (touches g) s ps = subst P (sym e) (gathers (length s) s g i fits).parts in
-    let m : ℕ = middle (length ps) in
-    let c : ℕ = get_or ps m 0 in
-    let below : length (take m ps) ≡ m = length-take-le m ps (omega (arith, p.lt)) in
-    let above : length (take (length ps - (m + 1)) (drop (m + 1) ps)) ≡ length ps - (m + 1) = ap length (take_rest ps (m + 1)) ∙ length-drop (m + 1) ps in
-    let Q : List ℕ → Type 0 = AreAscending (c + 1) (length s) in
-    let R : ℕ → Type 0 = λ k. AreAscending (c + 1) k (take (length ps - (m + 1)) (drop (m + 1) ps)) in
-    let lb : length (take m ps) ≤ 31 = omega (arith, below, p.few, few) in
-    let x = mul-le-mul_right c lb in
-    record {
-      parts = p;
-      above = λ k same. subst R (sym same) (subst Q (sym (take_rest ps (m + 1))) p.above);
-      room_below = omega (arith, x, p.centre, few);
-      room = λ one h. few_in_all (length (take m ps)) (length (take (length ps - (m + 1)) (drop (m + 1) ps))) c one lb (omega (arith, above, p.few, few)) (omega (arith, p.centre, few)) h;
-    }
-
-pub gathered_all : (ps none one two s t u : List ℕ) → none ≡ []
-    → one ≡ none ++ moves_up (take (middle (length ps)) ps) (get_or ps (middle (length ps)) 0)
-    → t ≡ swapped (moves_up (take (middle (length ps)) ps) (get_or ps (middle (length ps)) 0)) s
-    → two ≡ one ++ moves_down (take (length ps - (middle (length ps) + 1)) (drop (middle (length ps) + 1) ps)) (get_or ps (middle (length ps)) 0)
-    → u ≡ swapped (moves_down (take (length ps - (middle (length ps) + 1)) (drop (middle (length ps) + 1) ps)) (get_or ps (middle (length ps)) 0)) t
-    → Swaps (gathering ps) [] two s u
-gathered_all ps none one two s t u z a b d e =
-    let m : ℕ = middle (length ps) in
-    let c : ℕ = get_or ps m 0 in
-    let first : Swaps (moves_up (take m ps) c) [] one s t = record { swaps = a ∙ ap (λ l. l ++ moves_up (take m ps) c) z; lines = b } in
-    more_swaps (moves_up (take m ps) c) _ (gathering ps) [] one two s t u first (ap (λ l. moves_up (take m ps) c ++ moves_down l c) (sym (take_rest ps (m + 1)))) d e
+pub touched_by : (row places ps : List ℕ) (g : Shape) → Stands row places → FitsIn g (length places) → ps ≡ touched_positions row g → Touched (length places) ps
+touched_by row places ps g s fits e =
+    let p = gathers (length places) row g s.placement fits in
+    let Q : List ℕ → Type 0 = Touched (length places) in
+    let both : Touched (length places) (touched_positions row g) = record { some = p.some; ascending = p.ascending } in
+    subst Q (sym e) both
 
 -- ---- home
 
+pub Stands-home : (n : ℕ) → Stands (home n) (home n)
+Stands-home n =
+    let i = IsPlacement-home n in
+    let P : ℕ → Type 0 = λ k. IsPlacement k (home n) in
+    record {
+      placement = subst P (sym i.len) i;
+      at = λ line lt.
+          (let l : line < n = omega (arith, i.len) in
+          let w = stands n (home n) i line l in
+          home_at n line l ∙ sym w.1 ∙ home_at n (position_of (home n) line) w.0);
+    }
+
 -- the lines before l are home, and the others are to go
-pub record Going (n l : ℕ) (now s t : List ℕ) : Type 0 where
-  pub swaps : now ++ way_home (range_with_len l (n - l)) t ≡ way_home (home n) s
-  pub placement : IsPlacement n t
-  pub home : AreHome l t
-  pub few : length now ≤ 63 * l
+pub record Going (n l : ℕ) (s places : List ℕ) (moves : List Move) : Type 0 where
+  pub swaps : swaps_by moves ++ way_home (range_with_len l (n - l)) (swapped (swaps_by moves) s) ≡ way_home (home n) s
+  pub stands : Stands (swapped (swaps_by moves) s) places
+  pub home : AreHome l (swapped (swaps_by moves) s)
 
 pub home_next : (n l : ℕ) (now next all s t : List ℕ) → l < n → now ++ way_home (range_with_len l (n - l)) s ≡ all → next ≡ now ++ swaps_down (position_of s l) l → t ≡ swapped (swaps_down (position_of s l) l) s
     → next ++ way_home (range_with_len (l + 1) (n - (l + 1))) t ≡ all
@@ -236,14 +207,52 @@ pub home_end : (n l : ℕ) (s now all : List ℕ) → n ≤ l → now ++ way_hom
 unfolding way_home
 home_end n l s now all le so_far = grind (arith, append-nil, way_home, range_with_len)
 
+pub going_none : (s places : List ℕ) (moves : List Move) → moves ≡ [] → Stands s places → Going (length places) 0 s places moves
+going_none s places moves e w =
+    let none : swaps_by moves ≡ [] = ap swaps_by e ∙ swaps_by_none in
+    let n : ℕ = length places in
+    let all : n - 0 ≡ n = omega arith in
+    record {
+      swaps = ap (λ l. l ++ way_home (range_with_len 0 (n - 0)) (swapped l s)) none ∙ ap (λ k. way_home (range_with_len 0 k) (swapped [] s)) all ∙ ap (way_home (home n)) (swapped_none s);
+      stands = Stands-first moves s places e w;
+      home = λ k lt. absurd (omega arith);
+    }
+
+pub going_more : (n l : ℕ) (s old new : List ℕ) (moves next : List Move) (m : Move) → l < n → n ≡ length old → length new ≡ length old → m.to ≡ l → m.from ≡ get_or old l 0
+    → swaps_by next ≡ swaps_by moves ++ swaps_of m.from m.to → ((line : ℕ) → line < length old → get_or new line 0 ≡ shifted m.from m.to (get_or old line 0)) → Going n l s old moves → Going n (l + 1) s new next
+going_more n l s old new moves next m lt len same to from added are w =
+    let t : List ℕ = swapped (swaps_by moves) s in
+    let u : List ℕ = swapped (swaps_by next) s in
+    let i = w.stands in
+    let P : ℕ → Type 0 = λ k. IsPlacement k t in
+    let o = one_home n t l lt (subst P (sym len) i.placement) w.home in
+    let at : m.from ≡ position_of t l = from ∙ i.at l (omega arith) in
+    let down = o.down in
+    let is : swaps_of m.from m.to ≡ swaps_down (position_of t l) l = ap (λ k. swaps_of k m.to) at ∙ ap (swaps_of (position_of t l)) to ∙ swaps_of-down (position_of t l) l down in
+    let made : u ≡ swapped (swaps_of m.from m.to) t = ap (λ k. swapped k s) added ∙ swapped-append (swaps_by moves) (swaps_of m.from m.to) s in
+    let Q : List ℕ → Type 0 = λ k. Stands k new in
+    let H : List ℕ → Type 0 = AreHome (l + 1) in
+    let place = place_of t old l i (omega arith) in
+    record {
+      swaps = home_next n l (swaps_by moves) (swaps_by next) (way_home (home n) s) t u lt w.swaps (added ∙ ap (λ k. swaps_by moves ++ k) is) (made ∙ ap (λ k. swapped k t) is);
+      stands = subst Q (sym made) (Stands-moved m.from m.to t old new (omega arith) (omega arith) same are i);
+      home = subst H (sym (made ∙ ap (λ k. swapped k t) is)) o.home;
+    }
+
 -- ---- gates
+
+pub routed_end : (gates : List Shape) (k : ℕ) (s : List ℕ) → length gates ≤ k → routed_from s (drop k gates) ≡ map neighbours (way_home (home (length s)) s)
+routed_end gates k s le = at_drop_all (routed_from s) gates k le ∙ routed_none s
+
+-- the gates for the way home, which are the last
+pub homeward : (row places : List ℕ) (swaps : List ℕ) (gates : List Shape) (k : ℕ) → Stands row places → length gates ≤ k → swaps ≡ way_home (home (length places)) row
+    → routed_from row (drop k gates) ≡ map neighbours swaps
+homeward row places swaps gates k s le e =
+    routed_end gates k row le ∙ ap (λ n. map neighbours (way_home (home n) row)) s.placement.len ∙ ap (map neighbours) (sym e)
 
 pub routed_next : (gates : List Shape) (k : ℕ) (g : Shape) (s t ps : List ℕ) → k < length gates → g ≡ get_or gates k g → ps ≡ gathering (touched_positions s g) → t ≡ swapped ps s
     → routed_from s (drop k gates) ≡ map neighbours ps ++ (gate_on t g ∷ routed_from t (drop (k + 1) gates))
 routed_next gates k g s t ps lt at is there = grind (arith, routed_from, drop_more, routed_first, gate_on)
-
-pub routed_end : (gates : List Shape) (k : ℕ) (s : List ℕ) → length gates ≤ k → routed_from s (drop k gates) ≡ map neighbours (way_home (home (length s)) s)
-routed_end gates k s le = at_drop_all (routed_from s) gates k le ∙ routed_none s
 
 pub length_routed : (ps : List ℕ) (g : Shape) (whole rest : List Shape) → whole ≡ map neighbours ps ++ (g ∷ rest) → length whole ≡ length ps + 1 + length rest
 length_routed ps g whole rest e = grind (arith, length-append, length-map)

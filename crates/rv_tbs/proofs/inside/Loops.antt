@@ -1,9 +1,11 @@
 -- The loops of the synthesis against its definitions.
-use Rattle.std.proofs.Common.{◌≡◌, ℕ, zero, suc, ◌+◌, ◌-◌, ◌*◌, ◌^◌, ◌<◌, ◌≤◌, Bool, true, false, not, cond, eqb, List, [], ◌∷◌, ◌++◌, length, map, get_or, set, drop, sym, ◌∙◌, ap, subst, arith, append_assoc}
+use Rattle.std.proofs.Common.{◌≡◌, ℕ, zero, suc, ◌+◌, ◌-◌, ◌*◌, ◌^◌, ◌<◌, ◌≤◌, Bool, true, false, not, cond, eqb, List, [], ◌∷◌, ◌++◌, length, map, get_or, set, take, drop, sym, ◌∙◌, ap, subst, arith, append_assoc}
 use Rattle.std.proofs.lemmas.Bool.{cases_lt, cond-true, and_parts, not-true}
 use Rattle.std.proofs.lemmas.List.{append-nil, length-set, drop_more}
 use Rattle.std.proofs.lemmas.Nat.{pow_below}
 use Rattle.std.proofs.Math.Nat.{mul-le-mul}
+use Rattle.std.proofs.Math.Seq.{drop-append_seam}
+use Rattle.rv_gate.proofs.Lists.{take_rest}
 use Rattle.rv_gate.specs.Word.{has, bit_of, number_of, word_of, ones_of}
 use Rattle.rv_gate.specs.Gate.{holds, flip, run, act_on_number, run_on_number, FitsIn, IsFlip, IsGate}
 use Rattle.rv_gate.specs.declared.gate.Shape.{Shape}
@@ -135,3 +137,8 @@ turned_all n k x gates lines j goal w same ge we je are flips =
     ∙ ap (turning (word_of n k)) (we ∙ ap (λ m. word_of m j) same ∙ ap (word_of n) je) in
     let P : List Shape → Type 0 = λ l. Flips n l in
     flips_at n gates (subst P (sym e) flips)
+
+-- the gates that were added
+pub added : (old new found shown : List Shape) (start : ℕ) → start ≡ length old → new ≡ old ++ found → shown ≡ new → take (length shown - start) (drop start shown) ≡ found
+added old new found shown start at is same =
+    take_rest shown start ∙ ap (drop start) (same ∙ is) ∙ ap (λ n. drop n (old ++ found)) at ∙ drop-append_seam old found

@@ -68,24 +68,3 @@ loop-output-preserved c = record {
   want = more bit_for (row c.args.pla.now c.args.input) c.loop-output.output c.loop-output.want c.from-in-loop-output.result c.bit.result c.loop-output.invariant.want c.from-in-loop-output.ensures (c.bit.ensures ∙ ap bit_for c.value-entry.ensures);
   free = more is_dont_care (row c.args.pla.now c.args.input) c.loop-output.output c.loop-output.free c.from-in-loop-output-2.result c.is_dont_care-in-loop-output.result c.loop-output.invariant.free c.from-in-loop-output-2.ensures (c.is_dont_care-in-loop-output.ensures ∙ ap is_dont_care c.value-entry.ensures);
 }
-
-pub returns-clause-care : goal.returns-clause-care
-returns-clause-care c =
-    let l = bits-lt is_set (row c.args.pla.now c.args.input) c.loop-output.output in
-    let e : c.loop-output.output ≡ c.args.pla.now.outputs = omega (arith, c.outputs-output-end.ensures.value) in
-    let p : 2 ^ c.loop-output.output ≡ 2 ^ c.args.pla.now.outputs = ap (λ k. 2 ^ k) e in
-    omega (arith, c.loop-output.invariant.care)
-
-pub returns-clause-want : goal.returns-clause-want
-returns-clause-want c =
-    let l = bits-lt bit_for (row c.args.pla.now c.args.input) c.loop-output.output in
-    let e : c.loop-output.output ≡ c.args.pla.now.outputs = omega (arith, c.outputs-output-end.ensures.value) in
-    let p : 2 ^ c.loop-output.output ≡ 2 ^ c.args.pla.now.outputs = ap (λ k. 2 ^ k) e in
-    omega (arith, c.loop-output.invariant.want)
-
-pub returns-clause-free : goal.returns-clause-free
-returns-clause-free c =
-    let l = bits-lt is_dont_care (row c.args.pla.now c.args.input) c.loop-output.output in
-    let e : c.loop-output.output ≡ c.args.pla.now.outputs = omega (arith, c.outputs-output-end.ensures.value) in
-    let p : 2 ^ c.loop-output.output ≡ 2 ^ c.args.pla.now.outputs = ap (λ k. 2 ^ k) e in
-    omega (arith, c.loop-output.invariant.free)

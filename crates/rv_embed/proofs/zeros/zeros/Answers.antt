@@ -21,9 +21,9 @@ wanted pla x r e = ap (λ (t : Row). t.want) e ∙ want_own pla x
 
 pub loop-input-preserved : goal.loop-input-preserved
 loop-input-preserved c = record {
-  table = pushed_more (output_at c.args.pla.now) c.loop-input.input c.row_of-row.result.want c.loop-input.outputs.items c.push.new.self.items c.in_ok-push.ensures.items c.loop-input.invariant.table
-      (wanted c.args.pla.now c.loop-input.input c.row_of-row.result c.row_of-row.ensures.value);
-  below = rw c.in_ok-push.ensures.items (All-push (λ y. y < 2 ^ c.args.pla.now.outputs) c.loop-input.outputs.items c.row_of-row.result.want c.loop-input.invariant.below c.row_of-row.ensures.want);
+  table = pushed_more (output_at c.args.pla.now) c.loop-input.input c.row_at-row.result.want c.loop-input.outputs.items c.push.new.self.items c.in_ok-push.ensures.items c.loop-input.invariant.table
+      (wanted c.args.pla.now c.loop-input.input c.row_at-row.result c.row_at-row.ensures.value);
+  below = rw c.in_ok-push.ensures.items (All-push (λ y. y < 2 ^ c.args.pla.now.outputs) c.loop-input.outputs.items c.row_at-row.result.want c.loop-input.invariant.below c.row_at-row.ensures.want);
 }
 
 pub returns-clause-table : goal.returns-clause-table

@@ -1,51 +1,32 @@
-use Rattle.std.proofs.Common.{ℕ, ◌+◌, ◌<◌, List, All, length, ap, ◌∙◌, sym, subst, arith, ◌++◌}
-use Rattle.rv_route.specs.Moves.{swaps_down, swapped}
-use Rattle.rv_route.specs.inside.Standing.{IsPlacement, IsSwap}
-use Rattle.rv_route.proofs.inside.Shifts.{wider}
-use Rattle.rv_route.proofs.inside.Routes.{AreHome, one_home, goes_home}
-use Rattle.rv_route.proofs.inside.Steps.{home_next, home_end}
+use Rattle.std.proofs.Common.{get_or, length, sym, ap, arith, refl}
+use Rattle.rv_route.proofs.inside.Moving.{AreMoves-more, place_of, swaps_by-more}
+use Rattle.rv_route.proofs.inside.Steps.{going_more, going_none, home_end}
 use Rattle.rv_route.proofs.gathering.go_home.Goals as goal
 
-pub move_down-requires-clause-down : goal.move_down-requires-clause-down
-move_down-requires-clause-down c =
-    let i = c.loop-line.invariant in
-    let lt = c.loop-line-test.true in
-    let same = c.loop-line.auto.lines in
-    let few = c.requires.few in
-    let at = c.position_of-position.ensures.value in
-    let down = (one_home (length c.args.lines.now) c.loop-line.lines c.loop-line.line (omega arith) i.placement i.home).down in
-    omega arith
+pub loop-line-init : goal.loop-line-init
+loop-line-init c = record {
+  going = λ row s. going_none _ _ _ c.new-moves.ensures s;
+  within = λ k d lt. (let none = ap length c.new-moves.ensures in absurd (omega arith));
+  len = ap length c.new-moves.ensures;
+}
+
+pub shift-requires : goal.shift-requires
+shift-requires c = λ line lt. (let place = place_of _ _ line (c.loop-line.invariant.going c.requires.table.0 c.requires.table.1).stands lt in let few = c.requires.few in let same = c.loop-line.auto.places in omega arith)
 
 pub loop-line-preserved : goal.loop-line-preserved
 loop-line-preserved c =
     let i = c.loop-line.invariant in
-    let used = i.few in
-    let lt = c.loop-line-test.true in
-    let same = c.loop-line.auto.lines in
+    let same = c.loop-line.auto.places in
+    let test = c.loop-line-test.true in
     let few = c.requires.few in
-    let at = c.position_of-position.ensures.value in
-    let within = c.position_of-position.ensures.within in
-    let len = c.move_down.ensures.len in
-    let w = one_home (length c.args.lines.now) c.loop-line.lines c.loop-line.line (omega arith) i.placement i.home in
-    let down = w.down in
-    let added = c.move_down.ensures.swaps ∙ ap (λ p. c.loop-line.swaps.items ++ swaps_down p c.loop-line.line) at in
-    let made = c.move_down.ensures.lines ∙ ap (λ p. swapped (swaps_down p c.loop-line.line) c.loop-line.lines) at in
-    let P : List ℕ → Type 0 = IsPlacement (length c.args.lines.now) in
-    let Q : List ℕ → Type 0 = AreHome (c.loop-line.line + 1) in
-    let next : c.loop-line.line < length c.args.lines.now = omega arith in
+    let place = place_of _ _ c.loop-line.line (i.going c.requires.table.0 c.requires.table.1).stands (omega arith) in
+    let pushed = c.push.ensures.len in
+    let len = i.len in
     record {
-      swaps = home_next _ _ _ _ _ _ _ next i.swaps added made;
-      placement = subst P (sym made) w.placement;
-      home = subst Q (sym made) w.home;
-      few = omega arith;
+      going = λ row s. going_more _ c.loop-line.line row _ _ _ _ (record { from = get_or c.loop-line.places c.loop-line.line 0; to = c.loop-line.line }) (omega arith) (sym same) c.shift.auto.places refl refl (swaps_by-more _ _ _ c.push.ensures.items) c.shift.ensures (i.going row s);
+      within = AreMoves-more 64 _ _ _ c.push.ensures.items (omega arith) (omega arith) i.within;
+      len = omega arith;
     }
 
-pub returns-clause-swaps : goal.returns-clause-swaps
-returns-clause-swaps c = home_end _ _ _ _ _ c.loop-line-test.false c.loop-line.invariant.swaps
-
-pub returns-clause-within : goal.returns-clause-within
-returns-clause-within c =
-    let w = goes_home _ c.args.lines.now c.requires.placement in
-    let e = home_end _ _ _ _ _ c.loop-line-test.false c.loop-line.invariant.swaps in
-    let P : List ℕ → Type 0 = All (IsSwap 64) in
-    subst P (sym e) (wider _ _ c.requires.few w.within)
+pub returns-clause-moves : goal.returns-clause-moves
+returns-clause-moves c = λ row s. home_end _ _ _ _ _ c.loop-line-test.false (c.loop-line.invariant.going row s).swaps

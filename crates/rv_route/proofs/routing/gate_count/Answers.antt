@@ -1,24 +1,21 @@
-use Rattle.std.proofs.Common.{◌≡◌, ℕ, ◌+◌, List, length, take, drop, ap, ◌∙◌, sym, subst, arith}
+use Rattle.std.proofs.Common.{◌≡◌, ℕ, ◌+◌, ◌*◌, ◌^◌, ◌<◌, ◌≤◌, List, length, take, drop, ap, ◌∙◌, sym, subst, arith, refl}
 use Rattle.std.proofs.lemmas.List.{length-map}
 use Rattle.std.proofs.lemmas.List.FromFn.{length-range_with_len}
 use Rattle.rv_route.specs.Placement.{home, gate_on}
-use Rattle.rv_route.specs.Moves.{neighbours, way_home}
+use Rattle.rv_route.specs.Moves.{neighbours, swapped}
 use Rattle.rv_route.specs.Routed.{routed_from}
-use Rattle.rv_route.specs.inside.Standing.{IsPlacement}
-use Rattle.rv_route.proofs.inside.Routes.{IsPlacement-home}
-use Rattle.rv_route.proofs.inside.Shifts.{measured}
-use Rattle.rv_route.proofs.inside.Steps.{take_home, routed_next, routed_end, length_routed}
+use Rattle.rv_route.specs.inside.Standing.{Stands, swaps_by}
+use Rattle.rv_route.proofs.inside.Steps.{take_home, Stands-home, homeward, routed_next, length_routed}
 use Rattle.rv_route.proofs.routing.gate_count.Goals as goal
 
 pub loop-gate-init : goal.loop-gate-init
 loop-gate-init c =
-    let few = c.requires.few_lines in
-    let start : take c.from.result c.home-row.result ≡ home c.args.lines = rw (c.home-row.ensures, c.from.ensures) (take_home c.args.lines 64 few) in
-    let same = ap (λ s. length (routed_from s c.args.gates.now)) start in
-    let P : List ℕ → Type 0 = λ l. IsPlacement (length l) l in
+    let start : take c.from.result c.home-table.result ≡ home c.args.lines = rw (c.home-table.ensures, c.from.ensures) (take_home c.args.lines 64 c.requires.few_lines) in
+    let P : List ℕ → Type 0 = Stands (home c.args.lines) in
     record {
+      row = home c.args.lines;
       so_far = omega arith;
-      placement = subst P (sym start) (measured _ _ (IsPlacement-home c.args.lines));
+      stands = subst P (sym start) (Stands-home c.args.lines);
       len = ap length start ∙ length-range_with_len 0 c.args.lines;
       few = omega arith;
     }
@@ -28,25 +25,34 @@ loop-gate-preserved c =
     let i = c.loop-gate.invariant in
     let so_far = i.so_far in
     let few = i.few in
-    let g = c.gather.ensures in
-    let next = routed_next _ _ _ _ _ _ c.loop-gate-test.true c.gate-item.is g.swaps g.lines in
-    let all = length_routed c.gather.new.swaps.items (gate_on c.gather.new.lines c.gate-item.result)
-    (routed_from c.loop-gate.placement (drop c.loop-gate.gate-index c.args.gates.now))
-    (routed_from c.gather.new.lines (drop (c.loop-gate.gate-index + 1) c.args.gates.now)) next in
-    let count = c.len.ensures.value in
+    let g = c.gather-moves.ensures in
+    let row : List ℕ = swapped (swaps_by c.gather-moves.result.items) i.row in
+    let next = routed_next _ _ _ _ row _ c.loop-gate-test.true c.gate-item.is (g.moves i.row i.stands) refl in
+    let all = length_routed (swaps_by c.gather-moves.result.items) (gate_on row c.gate-item.result)
+    (routed_from i.row (drop c.loop-gate.gate-index c.args.gates.now))
+    (routed_from row (drop (c.loop-gate.gate-index + 1) c.args.gates.now)) next in
     let most = g.few_swaps in
-    record { so_far = omega arith; placement = g.placement; len = c.gather.auto.lines ∙ i.len; few = omega arith }
+    let count = c.swap_count.ensures.value ∙ ap (λ l. length (swaps_by l)) c.deref.ensures.0 in
+    record { row = row; so_far = omega arith; stands = g.stands i.row i.stands; len = c.gather-moves.auto.places ∙ i.len; few = omega arith }
 
-pub returns : goal.returns
-returns c =
+few_gates : (count k all more moves : ℕ) → count ≤ 2017 * k → k ≤ all → all ≤ 1048576 → more ≤ 64 * moves → moves ≤ 64 → count + more < 2 ^ 31
+few_gates count k all more moves few le most h small = omega arith
+
+pub overflow_add-result : goal.overflow_add-result
+overflow_add-result c =
+    let few = few_gates _ _ _ _ _ c.loop-gate.invariant.few c.loop-gate.auto.gate-index-end c.requires.few_gates c.swap_count-2.ensures.few c.deref-2.ensures.1 in
+    omega arith
+
+pub returns-clause-value : goal.returns-clause-value
+returns-clause-value c =
     let i = c.loop-gate.invariant in
     let so_far = i.so_far in
-    let few = i.few in
-    let end = ap length (routed_end c.args.gates.now c.loop-gate.gate-index c.loop-gate.placement c.loop-gate-test.false) in
-    let gates = length-map (way_home (home (length c.loop-gate.placement)) c.loop-gate.placement) neighbours in
-    let count = c.len-2.ensures.value in
-    let same = ap length c.go_home.ensures.swaps in
-    let most = c.len-2.ensures.fits in
-    let index = c.loop-gate.auto.gate-index-end in
-    let all = c.requires.few_gates in
-    record { value = omega arith; few = omega arith }
+    let swaps : List ℕ = swaps_by c.go_home-moves.result.items in
+    let end = ap length (homeward i.row c.loop-gate.places swaps c.args.gates.now c.loop-gate.gate-index i.stands c.loop-gate-test.false (c.go_home-moves.ensures.moves i.row i.stands)) in
+    let gates = length-map swaps neighbours in
+    let count = c.swap_count-2.ensures.value ∙ ap (λ l. length (swaps_by l)) c.deref-2.ensures.0 in
+    omega arith
+
+pub returns-clause-few : goal.returns-clause-few
+returns-clause-few c =
+    few_gates _ _ _ _ _ c.loop-gate.invariant.few c.loop-gate.auto.gate-index-end c.requires.few_gates c.swap_count-2.ensures.few c.deref-2.ensures.1

@@ -1,40 +1,43 @@
-use Rattle.std.proofs.Common.{◌≡◌, ℕ, List, length, map, take, ◌++◌, ◌∷◌, [], ap, ◌∙◌, sym, subst}
+use Rattle.std.proofs.Common.{◌≡◌, ℕ, List, length, map, take, ◌++◌, ◌∷◌, [], ap, ◌∙◌, sym, subst, refl}
 use Rattle.std.proofs.lemmas.List.FromFn.{length-range_with_len}
 use Rattle.rv_route.specs.Placement.{home}
-use Rattle.rv_route.specs.Moves.{neighbours}
+use Rattle.rv_route.specs.Moves.{neighbours, swapped}
 use Rattle.rv_route.specs.Routed.{routed_from}
-use Rattle.rv_route.specs.inside.Standing.{IsPlacement}
-use Rattle.rv_route.proofs.inside.Routes.{IsPlacement-home}
-use Rattle.rv_route.proofs.inside.Shifts.{measured}
-use Rattle.rv_route.proofs.inside.Steps.{take_home, routed_next, routed_end, pushed_gates}
+use Rattle.rv_route.specs.inside.Standing.{Stands, swaps_by}
+use Rattle.rv_route.proofs.inside.Steps.{take_home, Stands-home, homeward, routed_next, pushed_gates}
 use Rattle.rv_route.proofs.routing.routed_gates.Goals as goal
 
 pub loop-gate-init : goal.loop-gate-init
 loop-gate-init c =
-    let start : take c.from.result c.home-row.result ≡ home c.args.lines = rw (c.home-row.ensures, c.from.ensures) (take_home c.args.lines 64 c.requires.few_lines) in
-    let P : List ℕ → Type 0 = λ l. IsPlacement (length l) l in
+    let start : take c.from.result c.home-table.result ≡ home c.args.lines = rw (c.home-table.ensures, c.from.ensures) (take_home c.args.lines 64 c.requires.few_lines) in
+    let P : List ℕ → Type 0 = Stands (home c.args.lines) in
     record {
-      so_far = ap (λ l. l ++ routed_from (take c.from.result c.home-row.result) c.args.gates.now) c.in_ok-made.ensures.items ∙ ap (λ s. routed_from s c.args.gates.now) start;
-      placement = subst P (sym start) (measured _ _ (IsPlacement-home c.args.lines));
+      row = home c.args.lines;
+      so_far = ap (λ l. l ++ routed_from (home c.args.lines) c.args.gates.now) c.in_ok-made.ensures.items;
+      stands = subst P (sym start) (Stands-home c.args.lines);
       len = ap length start ∙ length-range_with_len 0 c.args.lines;
     }
+
+pub gate_on-requires-clause-table : goal.gate_on-requires-clause-table
+gate_on-requires-clause-table c = let i = c.loop-gate.invariant in (swapped (swaps_by c.gather-moves.result.items) i.row, c.gather-moves.ensures.stands i.row i.stands)
 
 pub loop-gate-preserved : goal.loop-gate-preserved
 loop-gate-preserved c =
     let i = c.loop-gate.invariant in
-    let g = c.gather.ensures in
-    let next = routed_next _ _ _ _ _ _ c.loop-gate-test.true c.gate-item.is g.swaps g.lines in
-    let first = c.in_ok-push_swaps.ensures ∙ ap (λ l. c.loop-gate.made.items ++ map neighbours l) c.deref.ensures.0 in
+    let g = c.gather-moves.ensures in
+    let row : List ℕ = swapped (swaps_by c.gather-moves.result.items) i.row in
+    let next = routed_next _ _ _ _ row _ c.loop-gate-test.true c.gate-item.is (g.moves i.row i.stands) refl in
+    let first = c.in_ok-push_moves.ensures ∙ ap (λ l. c.loop-gate.made.items ++ map neighbours (swaps_by l)) c.deref.ensures.0 in
     record {
-      so_far = pushed_gates _ _ _ _ _ _ _ _ first (c.in_ok-push.ensures.items ∙ ap (λ h. c.push_swaps.new.gates.items ++ h ∷ []) c.gate_on.ensures) next i.so_far;
-      placement = g.placement;
-      len = c.gather.auto.lines ∙ i.len;
+      row = row;
+      so_far = pushed_gates _ _ _ _ _ _ _ _ first (c.in_ok-push.ensures.items ∙ ap (λ h. c.push_moves.new.gates.items ++ h ∷ []) (c.gate_on.ensures row (g.stands i.row i.stands))) next i.so_far;
+      stands = g.stands i.row i.stands;
+      len = c.gather-moves.auto.places ∙ i.len;
     }
 
 pub returns : goal.returns
 returns c =
     let i = c.loop-gate.invariant in
-    c.in_ok-push_swaps-2.ensures
-    ∙ ap (λ l. c.loop-gate.made.items ++ map neighbours l) (c.deref-2.ensures.0 ∙ c.go_home.ensures.swaps)
-    ∙ ap (λ l. c.loop-gate.made.items ++ l) (sym (routed_end c.args.gates.now c.loop-gate.gate-index c.loop-gate.placement c.loop-gate-test.false))
+    c.in_ok-push_moves-2.ensures ∙ ap (λ l. c.loop-gate.made.items ++ map neighbours (swaps_by l)) c.deref-2.ensures.0
+    ∙ ap (λ l. c.loop-gate.made.items ++ l) (sym (homeward i.row c.loop-gate.places _ c.args.gates.now c.loop-gate.gate-index i.stands c.loop-gate-test.false (c.go_home-moves.ensures.moves i.row i.stands)))
     ∙ i.so_far

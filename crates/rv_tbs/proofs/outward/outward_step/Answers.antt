@@ -1,6 +1,6 @@
-use Rattle.std.proofs.Common.{length, ap, sym, ◌∙◌}
+use Rattle.std.proofs.Common.{◌≡◌, length, vec_len, ap, sym, ◌∙◌, rules}
 use Rattle.rv_gate.specs.inside.WordLaws.{length-word_of}
-use Rattle.rv_tbs.proofs.inside.Loops.{turned_all}
+use Rattle.rv_tbs.proofs.inside.Loops.{added, turned_all}
 use Rattle.rv_tbs.proofs.inside.OutGates.{step_does}
 use Rattle.rv_tbs.proofs.outward.outward_step.Goals as goal
 
@@ -11,10 +11,12 @@ turning_gates-requires c =
 
 pub apply_to_outputs-requires-clause-flips : goal.apply_to_outputs-requires-clause-flips
 apply_to_outputs-requires-clause-flips c k d h =
-    (turned_all _ _ _ _ c.lines-lines.result _ _ _ c.lines-lines.ensures.value c.word_at.ensures c.word_at-2.ensures c.get.ensures (c.deref.ensures.value ∙ c.in_ok-found.ensures)
+    let len : vec_len c.args.gates.now ≡ length c.args.gates.now.items = search rules in
+    (turned_all _ _ _ _ c.lines-lines.result _ _ _ c.lines-lines.ensures.value c.word_at.ensures c.word_at-2.ensures c.get.ensures (added _ _ _ _ _ (c.len-start.ensures ∙ len) c.in_ok-turning_gates.ensures c.deref.ensures.value)
     (step_does _ _ _ c.lines-lines.ensures.valid c.requires.fixed c.requires.small).flips k d h).0
 
 pub apply_to_outputs-requires-clause-fits : goal.apply_to_outputs-requires-clause-fits
 apply_to_outputs-requires-clause-fits c k d h =
-    (turned_all _ _ _ _ c.lines-lines.result _ _ _ c.lines-lines.ensures.value c.word_at.ensures c.word_at-2.ensures c.get.ensures (c.deref.ensures.value ∙ c.in_ok-found.ensures)
+    let len : vec_len c.args.gates.now ≡ length c.args.gates.now.items = search rules in
+    (turned_all _ _ _ _ c.lines-lines.result _ _ _ c.lines-lines.ensures.value c.word_at.ensures c.word_at-2.ensures c.get.ensures (added _ _ _ _ _ (c.len-start.ensures ∙ len) c.in_ok-turning_gates.ensures c.deref.ensures.value)
     (step_does _ _ _ c.lines-lines.ensures.valid c.requires.fixed c.requires.small).flips k d h).1

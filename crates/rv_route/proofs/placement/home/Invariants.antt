@@ -1,8 +1,0 @@
-use Rattle.std.proofs.Common.{◌≡◌, ℕ, ◌<◌, length, get_or}
-use Rattle.rv_route.proofs.placement.home.Given as goal
-
-abbrev pub invariant-loop-line : goal.invariant-loop-line
-invariant-loop-line l = record {
-  len : length l.lines ≡ 64;
-  so_far : (k : ℕ) → k < l.line → get_or l.lines k 0 ≡ k;
-}
