@@ -1,8 +1,14 @@
 -- Words that are set side by side, and back.
-use Rattle.std.proofs.Common.{◌≡◌, ◌∙◌, ℕ, ◌+◌, ◌*◌, ◌%◌, ◌<◌, ◌≤◌, Bool, false, List, [], ◌∷◌, length, map, get_or, set, sym, ap, inl, inr, arith}
-use Rattle.std.proofs.lemmas.Bool.{cases_eq}
-use Rattle.std.proofs.lemmas.List.{ext_get_or, get_or-set_same, get_or-set_other, get_or-map, length-map}
-use Rattle.rv_gate.specs.Word.{has, bit_of}
+use Rattle.std.proofs.Common.{◌≡◌, ◌∙◌, ℕ, ◌+◌, ◌-◌, ◌*◌, ◌/◌, ◌%◌, ◌^◌, ◌<◌, ◌≤◌, Bool, false, min, List, [], ◌∷◌, length, map, reverse, get_or, set, sym, ap, inl, inr, arith}
+use Rattle.std.proofs.Math.ListN.{get_or-append}
+use borrow.Rule.Slice.PartMut.{post_of, put_mid}
+use Rattle.std.specs.List.{between}
+use Rattle.std.proofs.lemmas.Bool.{cases_eq, cases_lt, false≢true}
+use Rattle.std.proofs.lemmas.List.{ext_get_or, get_or-append_right, get_or-map, get_or-reverse, get_or-set_other, get_or-set_same, get_or-take, get_or_past, length-append, length-drop, length-map, length-reverse, length-take, length-take-le}
+use Rattle.std.proofs.lemmas.List.Edits.{get_or-between, length-between}
+use Rattle.rv_gate.specs.Word.{has, bit_of, word_of}
+use Rattle.rv_gate.specs.inside.WordLaws.{bit_of-word_of, length-word_of}
+use Rattle.rv_gate.proofs.LineSets.{below-Within, has-above, has-none}
 use Rattle.rv_many.specs.Column.{column, row_bit}
 use Rattle.rv_many.specs.declared.row.Row.{Row}
 use Rattle.rv_many.proofs.Rows.{of_part}
@@ -33,14 +39,82 @@ set_below P xs i x d lt before here k below =
       | inr other ↦ rw (get_or-set_other xs i k x d other) (before k (omega arith))
     ]
 
--- the words of a place, whose bits the rows have
-pub column_is : (words : List (List Bool)) (rows : List Row) (j : ℕ) → j < length words → length (get_or words j []) ≡ length rows → ((line : ℕ) → line < length rows → IsRowOf words line (get_or rows line blank))
+-- the word of a place, whose bits the rows have
+pub column_is : (words : List (List Bool)) (rows : List Row) (j : ℕ) → length (get_or words j []) ≡ length rows → ((line : ℕ) → line < length rows → bit_of (column rows j) line ≡ bit_of (get_or words j []) line)
     → column rows j ≡ get_or words j []
-column_is words rows j lt long rows_of =
-    ext_get_or false (column rows j) (get_or words j []) (length-column rows j ∙ sym long)
-    (λ line h. let within : line < length rows = omega (arith, length-column rows j) in bit_of-column rows line j blank within ∙ rows_of line within j lt)
+column_is words rows j long bits = ext_get_or false (column rows j) (get_or words j []) (length-column rows j ∙ sym long) (λ line h. bits line (omega (arith, length-column rows j)))
 
 -- words that are each what a function makes of the word before
 pub words_run : (f : List Bool → List Bool) (old new : List (List Bool)) → length new ≡ length old → ((j : ℕ) → j < length old → get_or new j [] ≡ f (get_or old j [])) → new ≡ map f old
 words_run f old new count each =
     ext_get_or [] new (map f old) (count ∙ sym (length-map old f)) (λ j h. let lt : j < length old = omega (arith, count) in each j lt ∙ sym (get_or-map f old j [] [] lt))
+
+-- ---- a part of a list in its place
+
+pub part_before : {A : Type 0} (a k i : ℕ) (xs ys : List A) (d : A) → a ≤ length xs → i < a → get_or (put_mid a k xs ys) i d ≡ get_or xs i d
+part_before a k i xs ys d within lt = grind (arith, length-take-le, get_or-append, post_of, get_or-take)
+
+pub part_in : {A : Type 0} (a k j : ℕ) (xs ys : List A) (d : A) → a ≤ length xs → j < length ys → get_or (put_mid a k xs ys) (a + j) d ≡ get_or ys j d
+part_in a k j xs ys d within lt = grind (arith, get_or-append_right, post_of, length-take-le, get_or-append)
+
+pub part_long : {A : Type 0} (a k : ℕ) (xs ys : List A) → a + k ≤ length xs → length ys ≡ k → length (put_mid a k xs ys) ≡ length xs
+part_long a k xs ys within long = grind (arith, put_mid, post_of, length-append, length-drop, length-take)
+
+-- an entry of a part of at most eight entries, or of none
+pub part_at : {A : Type 0} (xs : List A) (a j : ℕ) (d : A) → j < 8 → get_or (between a (min (length xs) (a + 8)) xs) j d ≡ get_or xs (a + j) d
+part_at xs a j d lt =
+    elim (cases_lt (a + j) (length xs)) [
+      | inl inside ↦ get_or-between xs a _ j d (omega arith)
+      | inr past ↦ get_or_past _ j d (omega (arith, length-between xs a (min (length xs) (a + 8)) (omega arith))) ∙ sym (get_or_past xs (a + j) d past)
+    ]
+
+-- and of the last entries, from the end
+pub part_back : {A : Type 0} (xs : List A) (end at i : ℕ) (d : A) → end ≡ length xs - 8 * at → 0 < end → i < 8 → get_or (reverse (between (end - 8) end xs)) i d ≡ get_or (reverse xs) (8 * at + i) d
+part_back xs end at i d is some lt =
+    let part = between (end - 8) end xs in
+    let long : length part ≡ end - (end - 8) = length-between xs (end - 8) end (omega arith) in
+    elim (cases_lt i end) [
+      | inl inside ↦
+          let index : end - 8 + (length part - 1 - i) ≡ length xs - 1 - (8 * at + i) = omega (arith, long) in
+          get_or-reverse part i d (omega (arith, long))
+          ∙ get_or-between xs (end - 8) end (length part - 1 - i) d (omega (arith, long))
+          ∙ ap (λ k. get_or xs k d) index
+          ∙ sym (get_or-reverse xs (8 * at + i) d (omega arith))
+      | inr past ↦
+          get_or_past (reverse part) i d (omega (arith, length-reverse part, long))
+          ∙ sym (get_or_past (reverse xs) (8 * at + i) d (omega (arith, length-reverse xs)))
+    ]
+
+-- ---- the bits of a column
+
+-- the bit of any line, of one that is not there too
+pub bit_of-column_any : (rows : List Row) (line j : ℕ) → bit_of (column rows j) line ≡ row_bit (get_or rows line blank) j
+bit_of-column_any rows line j =
+    elim (cases_lt line (length rows)) [
+      | inl lt ↦ bit_of-column rows line j blank lt
+      | inr past ↦ get_or_past (column rows j) line false (omega (arith, length-column rows j)) ∙ sym (ap (λ row. row_bit row j) (get_or_past rows line blank past) ∙ ap (λ part. has part (j % 64)) (get_or_past [] (j / 64) 0 (omega arith)) ∙ has-none (j % 64))
+    ]
+
+-- the number whose bits are those of a column, the last line first
+pub column_by_number : (rows : List Row) (j number : ℕ) → length rows ≤ 64 → number < 2 ^ 64 → ((i : ℕ) → i < 64 → has number i ≡ bit_of (column (reverse rows) j) i)
+    → (number < 2 ^ length rows) × (word_of (length rows) number ≡ column rows j)
+column_by_number rows j number few small bits =
+    let n = length rows in (
+      below-Within number n (λ line on.
+          elim (cases_lt line n) [
+            | inl lt ↦ lt
+            | inr past ↦
+                (elim (cases_lt line 64) [
+                  | inl lt ↦ absurd (false≢true (sym (get_or_past (column (reverse rows) j) line false (omega (arith, length-column (reverse rows) j, length-reverse rows))) ∙ sym (bits line lt) ∙ on))
+                  | inr above ↦ absurd (false≢true (sym (has-above number 64 line small above) ∙ on))
+                ])
+          ]),
+      ext_get_or false (word_of n number) (column rows j) (length-word_of n number ∙ sym (length-column rows j)) (λ i h.
+          let lt : i < n = omega (arith, length-word_of n number) in
+          let back : n - 1 - (n - 1 - i) ≡ i = omega arith in
+          bit_of-word_of n number i lt
+          ∙ bits (n - 1 - i) (omega arith)
+          ∙ bit_of-column_any (reverse rows) (n - 1 - i) j
+          ∙ ap (λ row. row_bit row j) (get_or-reverse rows (n - 1 - i) blank (omega arith) ∙ ap (λ k. get_or rows k blank) back)
+          ∙ sym (bit_of-column_any rows i j)),
+    )

@@ -1,3 +1,4 @@
 -- What is proved of the states that the code alone keeps.
 pub mod Numbers
 pub mod Places
+pub mod Squares

@@ -14,6 +14,7 @@ use rv_gate::{Gate, LineSet, Shape, has};
 
 mod block;
 mod row;
+mod square;
 mod words;
 
 pub use block::{constant_row, number_row};

@@ -1,10 +1,12 @@
-ghost use Rattle.std.specs.Prelude.{◌≡◌, ℕ, ◌+◌, ◌<◌, ◌≤◌, [], length, map, slice_index_or, All};
+ghost use Rattle.std.specs.Prelude.{◌≡◌, ℕ, ◌+◌, ◌%◌, ◌<◌, ◌≤◌, [], length, map, reverse, slice_index_or, All};
 ghost use Rattle.rv_gate.specs.Word.{bit_of, has};
 ghost use Rattle.rv_gate.specs.Gate.{run};
 ghost use Rattle.rv_gate.specs.declared.word.TheConstants.{MOST_LINES};
 ghost use Rattle.rv_many.specs.declared.row.TheConstants.{PART_WORDS};
-ghost use Rattle.rv_many.specs.Column.{column, row_bit};
+ghost use Rattle.rv_many.specs.Column.{column};
+ghost use Rattle.rv_many.specs.Square.{AreEight, HaveBits, IsSquare};
 
+use crate::square::{number_by, put_columns};
 use crate::{PART_WORDS, Row, run_many};
 use rv_gate::{Circuit, MOST_LINES, Word};
 
@@ -22,8 +24,9 @@ pub fn run_words(circuit: &Circuit, words: &mut [Word])
     let count = words.len();
     let lines = usize::from(circuit.line_count());
     let gates = circuit.gates().len();
-    // A bit that goes into a row and back takes about as long as a gate on a word, and a gate on rows as two.
-    if count * gates < count * lines + 2 * gates {
+    // Measured: a gate on a word takes twice as long as a bit that goes into a row and back, and a gate on rows
+    // twelve times as long. To go by rows takes as long as 12 words and 5 lines more.
+    if 2 * count * gates < (count + 12) * (lines + 5) + 12 * gates {
         run_each(circuit, words);
     } else {
         run_together(circuit, words);
@@ -61,41 +64,76 @@ pub fn set_rows(words: &[Word], rows: &mut [Row])
     ensures lines { length rows.new ≡ length rows.old }
     ensures words { (j : ℕ) → j < length words.now → column rows.new j ≡ slice_index_or words.now j [] }
 {
-    for line in 0..rows.len() {
-        rows[line] = row_of(words, line as u8);
+    let mut line = 0;
+    while line < rows.len() {
+        let end = rows.len().min(line + 8);
+        set_eight_rows(words, line as u8, &mut rows[line..end]);
+        line += 8;
     }
 }
 
-// The row of a line.
-fn row_of(words: &[Word], line: u8) -> Row
+// Sets at most eight rows to those of the lines from one on.
+fn set_eight_rows(words: &[Word], line: u8, rows: &mut [Row])
     requires few { length words.now ≤ MOST_WORDS }
-    requires within { All (λ word. line < length word) words.now }
-    ensures { (j : ℕ) → j < length words.now → row_bit result j ≡ bit_of (slice_index_or words.now j []) line }
+    requires line { line < MOST_LINES }
+    requires eight { length rows.old ≤ 8 }
+    ensures lines { length rows.new ≡ length rows.old }
+    ensures bits { (i j : ℕ) → i < length rows.old → j < length words.now
+        → bit_of (column rows.new j) i ≡ bit_of (slice_index_or words.now j []) (line + i) }
 {
-    Row {
-        parts: [
-            part_of(words, 0, line),
-            part_of(words, PART_WORDS, line),
-            part_of(words, 2 * PART_WORDS, line),
-            part_of(words, 3 * PART_WORDS, line),
-        ],
+    let a = parts_of(words, 0, line);
+    let b = parts_of(words, PART_WORDS, line);
+    let c = parts_of(words, 2 * PART_WORDS, line);
+    let d = parts_of(words, 3 * PART_WORDS, line);
+    for i in 0..rows.len() {
+        rows[i] = Row {
+            parts: [
+                number_by(&a[i]),
+                number_by(&b[i]),
+                number_by(&c[i]),
+                number_by(&d[i]),
+            ],
+        };
     }
 }
 
-// The part of the row of a line that the words from a place on have.
-fn part_of(words: &[Word], from: usize, line: u8) -> u64
-    requires within { All (λ word. line < length word) words.now }
-    requires few { from < MOST_WORDS }
-    ensures { (j : ℕ) → j < PART_WORDS → from + j < length words.now → has result j ≡ bit_of (slice_index_or words.now (from + j) []) line }
+// The parts of the rows of eight lines from one on that the words from a place on have.
+fn parts_of(words: &[Word], from: usize, line: u8) -> [[u8; 8]; 8]
+    requires from { from < MOST_WORDS }
+    requires few { length words.now ≤ MOST_WORDS }
+    requires line { line < MOST_LINES }
+    ensures numbers { AreEight result }
+    ensures bits { HaveBits result (λ i j. bit_of (slice_index_or words.now (from + j) []) (line + i)) }
 {
-    let start = from.min(words.len());
-    let mut place = words.len().min(start + PART_WORDS);
-    let mut part = 0u64;
-    while place > start {
-        place -= 1;
-        part = part * 2 + u64::from(words[place].bit(line));
+    let end = words.len().min(from + PART_WORDS);
+    let mut parts = [[0; 8]; 8];
+    let mut block = 0;
+    while from + 8 * block < end {
+        let place = from + 8 * block;
+        let next = end.min(place + 8);
+        put_columns(
+            square_of_words(&words[place..next], line),
+            &mut parts,
+            block,
+        );
+        block += 1;
     }
-    part
+    parts
+}
+
+// The bits that at most eight words have on eight lines from one on, a row for each word.
+fn square_of_words(words: &[Word], line: u8) -> u64
+    requires eight { length words.now ≤ 8 }
+    requires line { line < MOST_LINES }
+    ensures { IsSquare result (λ i j. bit_of (slice_index_or words.now i []) (line + j)) }
+{
+    let mut square = 0;
+    let mut place = words.len();
+    while place > 0 {
+        place -= 1;
+        square = square << 8 | words[place].ones() >> line & 0xFF;
+    }
+    square
 }
 
 // Sets the words to those of the rows.
@@ -105,9 +143,65 @@ fn set_words(rows: &[Row], words: &mut [Word])
     ensures count { length words.new ≡ length words.old }
     ensures words { (j : ℕ) → j < length words.old → slice_index_or words.new j [] ≡ column rows.now j }
 {
-    for place in 0..words.len() {
-        words[place] = word_of(rows, place);
+    let mut place = 0;
+    while place < words.len() {
+        let end = words.len().min(place + 8);
+        set_eight_words(rows, place, &mut words[place..end]);
+        place += 8;
     }
+}
+
+// Sets at most eight words to those of the places from one on.
+fn set_eight_words(rows: &[Row], place: usize, words: &mut [Word])
+    requires eight { length words.old ≤ 8 }
+    requires within { length rows.now ≤ MOST_LINES }
+    requires place { place < MOST_WORDS }
+    requires whole { place % 8 ≡ 0 }
+    ensures count { length words.new ≡ length words.old }
+    ensures words { (j : ℕ) → j < length words.old → slice_index_or words.new j [] ≡ column rows.now (place + j) }
+{
+    let numbers = numbers_of(rows, place);
+    for i in 0..words.len() {
+        let Some(word) = Word::new(rows.len() as u8, number_by(&numbers[i])) else {
+            unreachable!()
+        };
+        words[i] = word;
+    }
+}
+
+// The numbers of the words of eight places from one on.
+fn numbers_of(rows: &[Row], place: usize) -> [[u8; 8]; 8]
+    requires within { length rows.now ≤ MOST_LINES }
+    requires place { place < MOST_WORDS }
+    requires whole { place % 8 ≡ 0 }
+    ensures numbers { AreEight result }
+    ensures bits { HaveBits result (λ i j. bit_of (column (reverse rows.now) (place + i)) j) }
+{
+    let mut numbers = [[0; 8]; 8];
+    let mut block = 0;
+    let mut end = rows.len();
+    while end > 0 {
+        let line = end.saturating_sub(8);
+        put_columns(square_of_rows(&rows[line..end], place), &mut numbers, block);
+        block += 1;
+        end = line;
+    }
+    numbers
+}
+
+// The bits that at most eight rows have at eight places from one on, a row for each of them, the last one
+// first.
+fn square_of_rows(rows: &[Row], place: usize) -> u64
+    requires eight { length rows.now ≤ 8 }
+    requires place { place < MOST_WORDS }
+    requires whole { place % 8 ≡ 0 }
+    ensures { IsSquare result (λ i j. bit_of (column (reverse rows.now) (place + j)) i) }
+{
+    let mut square = 0;
+    for row in rows {
+        square = square << 8 | row.parts[place / PART_WORDS] >> (place % PART_WORDS) & 0xFF;
+    }
+    square
 }
 
 /// The word of a place.

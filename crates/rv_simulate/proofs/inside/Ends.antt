@@ -15,12 +15,12 @@ use Rattle.rv_simulate.specs.declared.simulation.Stop.{Stop}
 use Rattle.rv_simulate.specs.declared.simulation.Stop.TheVariants.{Wrong, Write}
 use Rattle.rv_simulate.specs.declared.simulation.WordsEnd.{WordsEnd}
 use Rattle.rv_simulate.specs.Simulation.{answer_and_rest, answer_to, answers_to, lines_within, wrong_line}
-use Rattle.rv_simulate.specs.SimulationEnds.{EndsTooLong, EndsUncounted, EndsUnread, Simulates}
+use Rattle.rv_simulate.specs.SimulationEnds.{HasContent, EndsTooLong, EndsUncounted, EndsUnread, Simulates}
 use Rattle.rv_simulate.proofs.FirstWrong.{wrong_line-first}
 use Rattle.rv_simulate.specs.inside.Answering.{Answering, AnswersLast, AnswersPiece, IsStop, end_after, sent_by, wrong_in}
 use Rattle.rv_simulate.specs.inside.WordLine.{WordLine}
 use Rattle.rv_simulate.proofs.inside.Lines.{answers_to-append, answers_to-prefix, prefix_on, wrong_line-append, wrong_line-prefix}
-use Rattle.rv_simulate.proofs.inside.Reading.{HasCome, HasRead, Holding, IsReading, IsUnderWay, has_come, holding, length-read, text_on}
+use Rattle.rv_simulate.proofs.inside.Reading.{HasCome, HasRead, Holding, IsReading, has_come, holding, length-read, text_on}
 
 lines_within-short : (text : List ℕ) → length text ≤ MOST_BYTES → lines_within text ≡ lines_of text
 lines_within-short text h = cond-false (nat_lt MOST_BYTES (length text)) (ended_after [] (take MOST_BYTES text)) (lines_of text) (le-ltb MOST_BYTES (length text) h)
@@ -85,146 +85,78 @@ is_ended answer text empty right short =
       answers = ap (answers_to answer) ended ∙ same.answers ∙ ap (answers_to answer) within;
     }
 
+-- what is told of the bytes of a name holds of those that it holds
+content_all : (old : FilesView) (name content text : List ℕ) (P : List ℕ → Type 0) → (old.tells ≡ true → (old.held name ≡ Some content) × (content ≡ text)) → P text → HasContent old name P
+content_all old name content text P told fact = record { bytes = text; held = λ tells. (told tells).0 ∙ ap Some (told tells).1; fact = fact }
+
+content_of : (old : FilesView) (name text : List ℕ) (P : List ℕ → Type 0) (h : Holding old name text) → P h.bytes → HasContent old name P
+content_of old name text P h fact = record { bytes = h.bytes; held = h.held; fact = fact }
+
 -- the name was read to its end, and its last line was answered
-pub ends_last : (c : Cascade) (all : Bool) (name content text : List ℕ) (old new : FilesView) (from to : SinkView) (stopped : Result (Unit {0}) Stop) (found : Result (Unit {0}) ℕ)
-    → new.is_started ≡ true → new.place ≡ length text → length text ≤ MOST_BYTES → (old.tells ≡ true → (old.held name ≡ Some content) × (content ≡ text)) → wrong_line (answer_to c all) 1 (ended_after [] text) ≡ None
+ends_last : (c : Cascade) (all : Bool) (name content text : List ℕ) (old new : FilesView) (from to : SinkView) (stopped : Result (Unit {0}) Stop) (found : Result (Unit {0}) ℕ)
+    → new.is_started ≡ true → new.place ≡ length text → length text ≤ MOST_BYTES → (old.tells ≡ true → (old.held name ≡ Some content) × (content ≡ text)) → IsEnded (answer_to c all) text
     → HasCome (answer_to c all) from (text ++ line_feed ∷ []) stopped found to → IsStop stopped found → Simulates c all name old new from to (end_after stopped)
-ends_last c all name content text old new from to (Ok u) found started place short told right come stop =
-    let answer = answer_to c all in
-    let e = is_ended answer text refl right short in
+ends_last c all name content text old new from to (Ok u) found started place short told e come stop = record {
+  started = started;
+  place = omega (arith, place, short);
+  content = content_all old name content text _ told
+      (record { whole = place; limited = short; right = sym e.wrong ∙ come.wrong ∙ ap wrong_in stop; sent = come.sends.sent ∙ ap (grown from.sent) e.answers });
+}
+ends_last c all name content text old new from to (Err (Wrong line)) found started place short told e come stop =
+    let first = sym e.wrong ∙ come.wrong ∙ ap wrong_in stop in
     record {
       started = started;
       place = omega (arith, place, short);
-      content = record {
-        bytes = text;
-        held = λ tells. (told tells).0 ∙ ap Some (told tells).1;
-        fact = record { whole = place; limited = short; right = sym e.wrong ∙ come.wrong ∙ ap wrong_in stop; sent = come.sends.sent ∙ ap (grown from.sent) e.answers };
-      };
+      content = content_all old name content text _ told
+          (record { first = first; is = wrong_line-first c all (lines_within text) line first; within = omega (arith, place); reached = inr place; sent = come.sends.sent ∙ ap (grown from.sent) e.answers });
     }
-ends_last c all name content text old new from to (Err (Wrong line)) found started place short told right come stop =
-    let answer = answer_to c all in
-    let e = is_ended answer text refl right short in
-    record {
-      started = started;
-      place = omega (arith, place, short);
-      content = record {
-        bytes = text;
-        held = λ tells. (told tells).0 ∙ ap Some (told tells).1;
-        fact =
-            let first = sym e.wrong ∙ come.wrong ∙ ap wrong_in stop in record {
-              first = first;
-              is = wrong_line-first c all (lines_within text) line first;
-              within = omega (arith, place);
-              reached = inr place;
-              sent = come.sends.sent ∙ ap (grown from.sent) e.answers;
-            };
-      };
-    }
-ends_last c all name content text old new from to (Err Write) found started place short told right come stop =
-    let answer = answer_to c all in
-    let e = is_ended answer text refl right short in
-    record {
-      rose = come.sends.fault;
-      started = started;
-      place = omega (arith, place, short);
-      content = record {
-        bytes = text;
-        held = λ tells. (told tells).0 ∙ ap Some (told tells).1;
-        fact = subst (λ answers. GrewByPrefix from.sent answers to.sent) e.answers come.sends.prefix;
-      };
-    }
+ends_last c all name content text old new from to (Err Write) found started place short told e come stop = record {
+  rose = come.sends.fault;
+  started = started;
+  place = omega (arith, place, short);
+  content = content_all old name content text _ told (subst (λ answers. GrewByPrefix from.sent answers to.sent) e.answers come.sends.prefix);
+}
 
 -- a line that ended in the text is wrong, or an answer was not sent whole
-pub ends_stopped : (c : Cascade) (all : Bool) (name text : List ℕ) (old new : FilesView) (from to : SinkView) (stop : Stop) (found : Result (Unit {0}) ℕ)
-    → new.is_started ≡ true → new.place ≡ length text → length text ≤ MOST_BYTES → Holding old name text
+ends_stopped : (c : Cascade) (all : Bool) (name text : List ℕ) (old new : FilesView) (from to : SinkView) (stop : Stop) (found : Result (Unit {0}) ℕ)
+    → new.is_started ≡ true → new.place ≡ length text → length text ≤ MOST_BYTES → (h : Holding old name text) (on : LooksOn h.bytes (length text))
     → HasCome (answer_to c all) from text (Err stop) found to → IsStop (Err stop) found → Simulates c all name old new from to (end_after (Err stop))
-ends_stopped c all name text old new from to (Wrong line) found started place short h come stop =
+ends_stopped c all name text old new from to (Wrong line) found started place short h on come stop =
     let answer = answer_to c all in
-    let on = looks_on h.bytes (length text) short in
     let lines : lines_within h.bytes ≡ ended_after [] text ++ on.more = on.lines ∙ ap (λ t. ended_after [] t ++ on.more) h.prefix in
     let first = come.wrong ∙ ap wrong_in stop in
     let all_first = ap (wrong_line answer 1) lines ∙ wrong_line-prefix answer 1 line (ended_after [] text) on.more first in
     record {
       started = started;
       place = omega (arith, place, short);
-      content = record {
-        bytes = h.bytes;
-        held = h.held;
-        fact = record {
-          first = all_first;
-          is = wrong_line-first c all (lines_within h.bytes) line all_first;
-          within = omega (arith, place, length-take (length text) h.bytes, ap length h.prefix);
-          reached = inl (ap (λ n. wrong_line answer 1 (ended_after [] (take n h.bytes))) place ∙ ap (λ t. wrong_line answer 1 (ended_after [] t)) h.prefix ∙ first);
-          sent = come.sends.sent ∙ ap (grown from.sent) (sym (ap (answers_to answer) lines ∙ answers_to-prefix answer 1 line (ended_after [] text) on.more first));
-        };
-      };
+      content = content_of old name text _ h (record {
+        first = all_first;
+        is = wrong_line-first c all (lines_within h.bytes) line all_first;
+        within = omega (arith, place, length-take (length text) h.bytes, ap length h.prefix);
+        reached = inl (ap (λ n. wrong_line answer 1 (ended_after [] (take n h.bytes))) place ∙ ap (λ t. wrong_line answer 1 (ended_after [] t)) h.prefix ∙ first);
+        sent = come.sends.sent ∙ ap (grown from.sent) (sym (ap (answers_to answer) lines ∙ answers_to-prefix answer 1 line (ended_after [] text) on.more first));
+      });
     }
-ends_stopped c all name text old new from to Write found started place short h come stop =
+ends_stopped c all name text old new from to Write found started place short h on come stop =
     let answer = answer_to c all in
-    let on = looks_on h.bytes (length text) short in
     let lines : lines_within h.bytes ≡ ended_after [] text ++ on.more = on.lines ∙ ap (λ t. ended_after [] t ++ on.more) h.prefix in
     record {
       rose = come.sends.fault;
       started = started;
       place = omega (arith, place, short);
-      content = record {
-        bytes = h.bytes;
-        held = h.held;
-        fact = subst (λ all_lines. GrewByPrefix from.sent (answers_to answer all_lines) to.sent) (sym lines) (prefix_on answer from.sent to.sent (ended_after [] text) on.more come.sends.prefix);
-      };
-    }
-
--- a read failed
-pub ends_unread : (c : Cascade) (all : Bool) (name text : List ℕ) (old new : FilesView) (from to : SinkView) (s : WordLine) → IsFaulty old name new → new.is_started ≡ true → new.place ≡ length text → length text ≤ MOST_BYTES
-    → Holding old name text → IsUnderWay (answer_to c all) from text s to → EndsUnread c all name old new from to
-ends_unread c all name text old new from to s cause started place short h way =
-    let at : take new.place h.bytes ≡ text = ap (λ n. take n h.bytes) place ∙ h.prefix in
-    record {
-      cause = cause;
-      unstarted = λ not. absurd (let z = sym not ∙ started in cc);
-      place = λ _. omega (arith, place, short);
-      content = λ _. record {
-        bytes = h.bytes;
-        held = h.held;
-        fact = record {
-          within = omega (arith, place, ap length h.prefix, length-take (length text) h.bytes);
-          right = ap (λ t. wrong_line (answer_to c all) 1 (ended_after [] t)) at ∙ way.right;
-          sent = way.sends.sent ∙ ap (λ t. grown from.sent (answers_to (answer_to c all) (ended_after [] t))) (sym at);
-        };
-      };
-    }
-
--- one byte more than the limit was read
-pub ends_too_long : (c : Cascade) (all : Bool) (name text more : List ℕ) (old new : FilesView) (from to : SinkView) (s : WordLine) → new.is_started ≡ true → new.place ≡ MOST_BYTES + 1 → length text ≡ MOST_BYTES → length more ≡ 1
-    → Holding old name (text ++ more) → IsUnderWay (answer_to c all) from text s to → EndsTooLong c all name old new from to
-ends_too_long c all name text more old new from to s started place count one h way =
-    let longer : MOST_BYTES < length h.bytes = omega (arith, count, one, length-append text more, ap length h.prefix, length-take (length (text ++ more)) h.bytes) in
-    let first : take MOST_BYTES h.bytes ≡ text =
-    sym (take-take MOST_BYTES (length (text ++ more)) h.bytes (omega (arith, count, length-append text more))) ∙ ap (take MOST_BYTES) h.prefix
-    ∙ take-append-le MOST_BYTES text more (omega (arith, count)) ∙ take_all MOST_BYTES text (omega (arith, count)) in
-    let lines : lines_within h.bytes ≡ ended_after [] text = lines_within-long h.bytes longer ∙ ap (ended_after []) first in
-    record {
-      started = started;
-      place = place;
-      content = record {
-        bytes = h.bytes;
-        held = h.held;
-        fact = record {
-          longer = longer;
-          right = ap (wrong_line (answer_to c all) 1) lines ∙ way.right;
-          sent = way.sends.sent ∙ ap (λ ls. grown from.sent (answers_to (answer_to c all) ls)) (sym lines);
-        };
-      };
+      content = content_of old name text _ h
+          (subst (λ all_lines. GrewByPrefix from.sent (answers_to answer all_lines) to.sent) (sym lines) (prefix_on answer from.sent to.sent (ended_after [] text) on.more come.sends.prefix));
     }
 
 -- the name was read to its end
 pub reading_ends : (c : Cascade) (all : Bool) (name content : List ℕ) (old new : FilesView) (from mid to : SinkView) (taken : ℕ) (s : WordLine) (result : WordsEnd) → new.is_started ≡ true → new.place ≡ taken → taken ≤ MOST_BYTES
     → (old.tells ≡ true → length content ≤ taken) → IsReading (answer_to c all) old name content from taken s mid → AnswersLast (answer_to c all) s mid result to → Simulates c all name old new from to result
 reading_ends c all name content old new from mid to taken s result started place few over r a =
+    let short : length r.text ≤ MOST_BYTES = omega (arith, r.count, few) in
     subst (Simulates c all name old new from to) (sym a.is)
-    (ends_last c all name content r.text old new from to a.stopped a.piece.found started (place ∙ sym r.count) (omega (arith, r.count, few))
+    (ends_last c all name content r.text old new from to a.stopped a.piece.found started (place ∙ sym r.count) short
     (λ tells. ((r.told tells).0, sym (take_all taken content (over tells)) ∙ (r.told tells).1))
-    r.way.right (has_come (answer_to c all) from mid to r.text (line_feed ∷ []) s a.last a.stopped r.way a.piece) a.piece.stop)
+    (is_ended (answer_to c all) r.text refl r.way.right short) (has_come (answer_to c all) from mid to r.text (line_feed ∷ []) s a.last a.stopped r.way a.piece) a.piece.stop)
 
 -- a piece that was read stopped the answering
 pub reading_stops : (c : Cascade) (all : Bool) (old view after : FilesView) (name room rest : List ℕ) (from mid to : SinkView) (taken count : ℕ) (s last : WordLine) (result : Result (Unit {0}) Stop) → is_err result ≡ true
@@ -234,25 +166,50 @@ reading_stops c all old view after name room rest from mid to taken count s last
 reading_stops c all old view after name room rest from mid to taken count s last (Err stop) stopped tells read started place few r a =
     let piece = take count (room ++ rest) in
     let long : length (r.text ++ piece) ≡ taken + count = omega (arith, length-append r.text piece, r.count, length-read room rest count read.gives.fit) in
-    ends_stopped c all name (r.text ++ piece) old after from to stop a.found started (place ∙ sym long) (omega (arith, long, few))
-    (holding old name view.content (r.text ++ piece) (taken + count) long (λ t. ((r.told t).0, text_on view after room rest r.text taken count read (tells t) (r.told t).1)))
+    let short : length (r.text ++ piece) ≤ MOST_BYTES = omega (arith, long, few) in
+    let h = holding old name view.content (r.text ++ piece) (taken + count) long (λ t. ((r.told t).0, text_on view after room rest r.text taken count read (tells t) (r.told t).1)) in
+    ends_stopped c all name (r.text ++ piece) old after from to stop a.found started (place ∙ sym long) short h (looks_on h.bytes (length (r.text ++ piece)) short)
     (has_come (answer_to c all) from mid to r.text piece s last (Err stop) r.way a) a.stop
 
 -- a read failed
 pub reading_fails : (c : Cascade) (all : Bool) (name content : List ℕ) (old new : FilesView) (from to : SinkView) (taken : ℕ) (s : WordLine) → IsFaulty old name new → new.is_started ≡ true → new.place ≡ taken → taken ≤ MOST_BYTES
     → IsReading (answer_to c all) old name content from taken s to → EndsUnread c all name old new from to
 reading_fails c all name content old new from to taken s cause started place few r =
-    ends_unread c all name r.text old new from to s cause started (place ∙ sym r.count) (omega (arith, r.count, few)) (holding old name content r.text taken r.count r.told) r.way
+    let h = holding old name content r.text taken r.count r.told in
+    let at : take new.place h.bytes ≡ r.text = ap (λ n. take n h.bytes) (place ∙ sym r.count) ∙ h.prefix in
+    record {
+      cause = cause;
+      unstarted = λ not. absurd (let z = sym not ∙ started in cc);
+      place = λ _. omega (arith, place, few);
+      content = λ _. content_of old name r.text _ h (record {
+        within = omega (arith, place, r.count, ap length h.prefix, length-take (length r.text) h.bytes);
+        right = ap (λ t. wrong_line (answer_to c all) 1 (ended_after [] t)) at ∙ r.way.right;
+        sent = r.way.sends.sent ∙ ap (λ t. grown from.sent (answers_to (answer_to c all) (ended_after [] t))) (sym at);
+      });
+    }
 
 -- one byte more than the limit was read
 pub reading_overflows : (c : Cascade) (all : Bool) (old view after : FilesView) (name room rest : List ℕ) (from to : SinkView) (taken : ℕ) (s : WordLine) → (old.tells ≡ true → view.tells ≡ true) → HasRead view room taken 1 after
     → taken ≡ MOST_BYTES → after.is_started ≡ true → after.place ≡ taken + 1 → IsReading (answer_to c all) old name view.content from taken s to → EndsTooLong c all name old after from to
 reading_overflows c all old view after name room rest from to taken s tells read full started place r =
+    let text = r.text in
     let more = take 1 (room ++ rest) in
-    let one = length-read room rest 1 read.gives.fit in
-    let long : length (r.text ++ more) ≡ taken + 1 = omega (arith, length-append r.text more, r.count, one) in
-    ends_too_long c all name r.text more old after from to s started (omega (arith, place, full)) (omega (arith, r.count, full)) one
-    (holding old name view.content (r.text ++ more) (taken + 1) long (λ t. ((r.told t).0, text_on view after room rest r.text taken 1 read (tells t) (r.told t).1))) r.way
+    let long : length (r.text ++ take 1 (room ++ rest)) ≡ taken + 1 = omega (arith, length-append text more, r.count, length-read room rest 1 read.gives.fit) in
+    let h = holding old name view.content (text ++ more) (taken + 1) long (λ t. ((r.told t).0, text_on view after room rest text taken 1 read (tells t) (r.told t).1)) in
+    let longer : MOST_BYTES < length h.bytes = omega (arith, full, long, ap length h.prefix, length-take (length (text ++ more)) h.bytes) in
+    let first : take MOST_BYTES h.bytes ≡ r.text =
+    sym (take-take MOST_BYTES (length (text ++ more)) h.bytes (omega (arith, long, full))) ∙ ap (take MOST_BYTES) h.prefix
+    ∙ take-append-le MOST_BYTES text more (omega (arith, r.count, full)) ∙ take_all MOST_BYTES text (omega (arith, r.count, full)) in
+    let lines : lines_within h.bytes ≡ ended_after [] r.text = lines_within-long h.bytes longer ∙ ap (ended_after []) first in
+    record {
+      started = started;
+      place = omega (arith, place, full);
+      content = content_of old name (text ++ more) _ h (record {
+        longer = longer;
+        right = ap (wrong_line (answer_to c all) 1) lines ∙ r.way.right;
+        sent = r.way.sends.sent ∙ ap (λ ls. grown from.sent (answers_to (answer_to c all) ls)) (sym lines);
+      });
+    }
 
 -- ---- the counts of faults
 

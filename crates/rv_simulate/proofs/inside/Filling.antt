@@ -13,7 +13,7 @@ use Rattle.rv_gate.specs.Marks.{input_count, with_constants, without_garbage}
 use Rattle.rv_gate.proofs.Marks.{input_count-append, input_count-inputs, input_count-more, input_count-one, input_count-zero, length-with_constants, with_constants-inputs, without_garbage-append, without_garbage-outputs}
 use Rattle.rv_gate.specs.Word.{has, number_of, word_of}
 use Rattle.rv_gate.specs.inside.WordLaws.{bit_of-word_of, length-word_of, number_of-lt, word_of-number_of}
-use Rattle.rv_many.proofs.inside.Numbers.{number_of-next}
+use Rattle.rv_many.proofs.inside.Numbers.{NumberTo, number_more, number_of-next}
 use Rattle.rv_simulate.specs.Simulation.{answer_text, marks_asked}
 use Rattle.rv_text.specs.Bytes.{bit_byte, line_feed}
 
@@ -115,34 +115,12 @@ answer_whole c all word asked size on is =
 pub answer_kept : (c : Cascade) (all : Bool) (word asked : List Bool) → all ≡ false → asked ≡ without_garbage c.garbage word → map bit_byte asked ++ line_feed ∷ [] ≡ answer_text c all word
 answer_kept c all word asked off is = ap (λ w. map bit_byte w ++ line_feed ∷ []) is ∙ ap (λ t. answer_text c t word) (sym off)
 
--- the bits and constants of the lines before one make this number
-abbrev pub HasNumber : List Mark → List Bool → ℕ → ℕ → Type 0
-HasNumber marks bits line number = number_of (take line (with_constants marks bits)) ≡ number
-
-pub number_none : (marks : List Mark) (bits : List Bool) → HasNumber marks bits 0 0
-unfolding number_of
-number_none marks bits = refl
-
 -- one more line has its bit or constant
 pub fills_more : (marks : List Mark) (bits : List Bool) (line used number byte : ℕ) (mark : Mark) (bit : Bool) → slice_get marks line ≡ Some mark → used ≡ input_count (take line marks)
-    → bit ≡ entry mark (get_or bits used false) → byte ≡ bool_byte bit → HasNumber marks bits line number → HasNumber marks bits (line + 1) (number * 2 + byte)
-fills_more marks bits line used number byte mark bit h count is byte_is so_far =
-    let within : line < length (with_constants marks bits) = omega (arith, slice_get_within marks line mark h, length-with_constants marks bits) in
-    let entered : get_or (with_constants marks bits) line false ≡ bit =
-    entry_of marks bits line mark h ∙ ap (λ n. entry mark (get_or bits n false)) (sym count) ∙ sym is in
-    ap number_of (take_more (with_constants marks bits) line false within) ∙ number_of-next (take line (with_constants marks bits)) (get_or (with_constants marks bits) line false)
-    ∙ ap (λ b. number_of (take line (with_constants marks bits)) * 2 + bool_byte b) entered ∙ ap (λ n. n * 2 + bool_byte bit) so_far ∙ ap (λ b. number * 2 + b) (sym byte_is)
-
--- fewer lines make a smaller number
-pub number_small : (marks : List Mark) (bits : List Bool) (line number : ℕ) → HasNumber marks bits line number → line < 64 → number < 9223372036854775808
-number_small marks bits line number h few =
-    grind (arith, common_steps, with_constants, length-take, pow-le-pow_right, number_of-lt)
-
--- all lines make the word
-pub number_all : (marks : List Mark) (bits : List Bool) (line lines number : ℕ) → length marks ≡ lines → lines ≤ line → HasNumber marks bits line number
-    → (number < 2 ^ lines) × (word_of lines number ≡ with_constants marks bits)
-number_all marks bits line lines number count end h =
-    grind (arith, with_constants, take_all, length-with_constants, number_of, number_of-lt, word_of, word_of-number_of)
+    → bit ≡ entry mark (get_or bits used false) → byte ≡ bool_byte bit → NumberTo (with_constants marks bits) line number → NumberTo (with_constants marks bits) (line + 1) (number * 2 + byte)
+fills_more marks bits line used number byte mark bit h count is byte_is =
+    number_more (with_constants marks bits) line number byte (omega (arith, slice_get_within marks line mark h, length-with_constants marks bits))
+    (byte_is ∙ ap bool_byte (is ∙ ap (λ n. entry mark (get_or bits n false)) count ∙ sym (entry_of marks bits line mark h)))
 
 -- an answer for one reason, and for another one
 pub answered_for : {A : Type 0} (answer : Option A) (P Q : Type 0) (made asked : A) → SomeIff answer P made → P → Q → made ≡ asked → SomeIff answer Q asked

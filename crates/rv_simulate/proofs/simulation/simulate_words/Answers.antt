@@ -21,16 +21,18 @@ loop-taken-init g c =
       size = refl;
       limited = omega arith;
       place = search rules;
+      later = omega arith;
+      unflushed = λ is. is;
       counted = search rules;
       named = search rules;
       reading = rw c.first-line.ensures (reading_none (answer_to c.args.circuit.now c.args.all) old c.args.name.now new.content out (search rules));
     }
 
 pub returns-in-End-clause-later : goal.returns-in-End-clause-later
-returns-in-End-clause-later g c = omega (arith, c.loop-taken.invariant.reading.way.sends.later, c.answer_last.ensures.piece.sends.later)
+returns-in-End-clause-later g c = omega (arith, c.loop-taken.invariant.later, c.answer_last.ensures.piece.sends.later)
 
 pub returns-in-End-clause-unflushed : goal.returns-in-End-clause-unflushed
-returns-in-End-clause-unflushed g c = λ is. c.loop-taken.invariant.reading.way.sends.unflushed (c.answer_last.ensures.piece.sends.unflushed is)
+returns-in-End-clause-unflushed g c = λ is. c.loop-taken.invariant.unflushed (c.answer_last.ensures.piece.sends.unflushed is)
 
 pub returns-in-End-clause-ends : goal.returns-in-End-clause-ends
 returns-in-End-clause-ends g c =
@@ -42,12 +44,6 @@ returns-in-End-clause-ends g c =
     c.in-End.ensures.same.is_started (end.place ∙ before.place) (omega (arith, before.most, before.limited))
     (λ tells. omega (arith, end.told (before.keeps.tells ∙ tells), before.place)) before.reading c.answer_last.ensures
 
-pub returns-in-Failed-clause-later : goal.returns-in-Failed-clause-later
-returns-in-Failed-clause-later g c = c.loop-taken.invariant.reading.way.sends.later
-
-pub returns-in-Failed-clause-unflushed : goal.returns-in-Failed-clause-unflushed
-returns-in-Failed-clause-unflushed g c = c.loop-taken.invariant.reading.way.sends.unflushed
-
 pub returns-in-Failed-clause-ends : goal.returns-in-Failed-clause-ends
 returns-in-Failed-clause-ends g c =
     let before = c.loop-taken.invariant in
@@ -57,10 +53,10 @@ returns-in-Failed-clause-ends g c =
     c.loop-taken.taken c.loop-taken.line (inl (omega (arith, before.keeps.later, fails.rose))) c.in-Failed.ensures.same.is_started (fails.place ∙ before.place) (omega (arith, before.most, before.limited)) before.reading
 
 pub returns-then-is_err-clause-later : goal.returns-then-is_err-clause-later
-returns-then-is_err-clause-later g c = omega (arith, c.loop-taken.invariant.reading.way.sends.later, c.answer_piece-stopped.ensures.answers.sends.later)
+returns-then-is_err-clause-later g c = omega (arith, c.loop-taken.invariant.later, c.answer_piece-stopped.ensures.answers.sends.later)
 
 pub returns-then-is_err-clause-unflushed : goal.returns-then-is_err-clause-unflushed
-returns-then-is_err-clause-unflushed g c = λ is. c.loop-taken.invariant.reading.way.sends.unflushed (c.answer_piece-stopped.ensures.answers.sends.unflushed is)
+returns-then-is_err-clause-unflushed g c = λ is. c.loop-taken.invariant.unflushed (c.answer_piece-stopped.ensures.answers.sends.unflushed is)
 
 pub returns-then-is_err-clause-ends : goal.returns-then-is_err-clause-ends
 returns-then-is_err-clause-ends g c =
@@ -90,6 +86,8 @@ loop-taken-preserved g c =
       size = omega (arith, length-append c.read.new.room rest, c.read.auto.room, length-take c.min-wanted.result c.loop-taken.room, length-drop c.min-wanted.result c.loop-taken.room, before.size);
       limited = few;
       place = omega (arith, gives.place, before.place, few);
+      later = omega (arith, before.later, c.answer_piece-stopped.ensures.answers.sends.later);
+      unflushed = λ is. before.unflushed (c.answer_piece-stopped.ensures.answers.sends.unflushed is);
       counted = (let counted = on_ok _ c.answer_piece-stopped.result (sym c.is_err.ensures.value ∙ c.if-is_err.false) c.answer_piece-stopped.ensures.counted in
           omega (arith, counted, before.counted, length-read c.read.new.room rest count gives.fit));
       named = λ tells. c.in-Bytes.ensures.same.opened c.args.name.now (before.keeps.tells ∙ tells) ∙ before.named tells;
@@ -98,12 +96,6 @@ loop-taken-preserved g c =
           (sym c.is_err.ensures.value ∙ c.if-is_err.false) (λ tells. before.keeps.tells ∙ tells) (λ tells. c.in-Bytes.ensures.same.content (before.keeps.tells ∙ tells))
           (record { at = before.place; gives = gives }) before.reading c.answer_piece-stopped.ensures.answers;
     }
-
-pub returns-in-Bytes-read-clause-later : goal.returns-in-Bytes-read-clause-later
-returns-in-Bytes-read-clause-later g c = c.loop-taken.invariant.reading.way.sends.later
-
-pub returns-in-Bytes-read-clause-unflushed : goal.returns-in-Bytes-read-clause-unflushed
-returns-in-Bytes-read-clause-unflushed g c = c.loop-taken.invariant.reading.way.sends.unflushed
 
 pub returns-in-Bytes-read-clause-ends : goal.returns-in-Bytes-read-clause-ends
 returns-in-Bytes-read-clause-ends g c =
@@ -118,10 +110,10 @@ returns-in-Bytes-read-clause-ends g c =
     (omega (arith, gives.place, before.place, full, one)) before.reading
 
 pub returns-in-End-read-clause-later : goal.returns-in-End-read-clause-later
-returns-in-End-read-clause-later g c = omega (arith, c.loop-taken.invariant.reading.way.sends.later, c.answer_last-in-End-read.ensures.piece.sends.later)
+returns-in-End-read-clause-later g c = omega (arith, c.loop-taken.invariant.later, c.answer_last-in-End-read.ensures.piece.sends.later)
 
 pub returns-in-End-read-clause-unflushed : goal.returns-in-End-read-clause-unflushed
-returns-in-End-read-clause-unflushed g c = λ is. c.loop-taken.invariant.reading.way.sends.unflushed (c.answer_last-in-End-read.ensures.piece.sends.unflushed is)
+returns-in-End-read-clause-unflushed g c = λ is. c.loop-taken.invariant.unflushed (c.answer_last-in-End-read.ensures.piece.sends.unflushed is)
 
 pub returns-in-End-read-clause-ends : goal.returns-in-End-read-clause-ends
 returns-in-End-read-clause-ends g c =
@@ -132,12 +124,6 @@ returns-in-End-read-clause-ends g c =
     (g.O.Sink.view c.answer_last-in-End-read.new.out) c.loop-taken.taken c.loop-taken.line c.answer_last-in-End-read.result
     c.in-End-read.ensures.same.is_started (end.place ∙ before.place) (omega (arith, before.most, before.limited))
     (λ tells. omega (arith, end.told (before.keeps.tells ∙ tells), before.place)) before.reading c.answer_last-in-End-read.ensures
-
-pub returns-in-Failed-read-clause-later : goal.returns-in-Failed-read-clause-later
-returns-in-Failed-read-clause-later g c = c.loop-taken.invariant.reading.way.sends.later
-
-pub returns-in-Failed-read-clause-unflushed : goal.returns-in-Failed-read-clause-unflushed
-returns-in-Failed-read-clause-unflushed g c = c.loop-taken.invariant.reading.way.sends.unflushed
 
 pub returns-in-Failed-read-clause-ends : goal.returns-in-Failed-read-clause-ends
 returns-in-Failed-read-clause-ends g c =

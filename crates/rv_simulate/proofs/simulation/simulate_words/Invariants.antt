@@ -1,5 +1,6 @@
 use Rattle.std.proofs.Common.{◌≡◌, ◌≤◌, ◌+◌, ◌-◌, true, length}
 use Rattle.rv_io.specs.Files.{Keeps}
+use Rattle.rv_io.specs.Sink.{StaysUnflushed}
 use Rattle.rv_text.specs.declared.lines.TheConstants.{MOST_BYTES}
 use Rattle.rv_simulate.specs.Simulation.{answer_to}
 use Rattle.rv_simulate.proofs.inside.Reading.{IsReading}
@@ -18,6 +19,8 @@ invariant-loop-taken g l =
       size : length l.room ≡ 16384;
       limited : l.taken ≤ l.most;
       place : now.place ≡ l.taken;
+      later : (g.O.Sink.view l.fn.out).faults ≤ (g.O.Sink.view l.out).faults;
+      unflushed : StaysUnflushed (g.O.Sink.view l.fn.out) (g.O.Sink.view l.out);
       counted : l.line.number ≤ l.taken + 1;
       named : old.tells ≡ true → now.is_opened l.name ≡ true;
       reading : IsReading (answer_to l.circuit l.all) old l.name now.content (g.O.Sink.view l.fn.out) l.taken l.line (g.O.Sink.view l.out);

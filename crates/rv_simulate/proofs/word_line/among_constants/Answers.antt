@@ -1,16 +1,18 @@
 use mir.Val.{bool_byte}
 use Rattle.std.proofs.Common.{◌≡◌, ◌∙◌, ◌+◌, ◌<◌, true, false, take, refl, ap, sym, arith}
 use Rattle.std.proofs.lemmas.List.{take_all}
-use Rattle.rv_gate.specs.Marks.{input_count}
+use Rattle.rv_gate.specs.Marks.{input_count, with_constants}
+use Rattle.rv_gate.proofs.Marks.{length-with_constants}
+use Rattle.rv_many.proofs.inside.Numbers.{number_all, number_none, number_small}
 use Rattle.rv_gate.specs.declared.circuit.Mark.TheVariants.{Input, Zero, One}
 use Rattle.rv_gate.specs.Word.{word_of}
-use Rattle.rv_simulate.proofs.inside.Filling.{answered_for, fills_more, input_count-next, input_count-prefix, next_bit, number_all, number_none, number_small}
+use Rattle.rv_simulate.proofs.inside.Filling.{answered_for, fills_more, input_count-next, input_count-prefix, next_bit}
 use Rattle.rv_simulate.proofs.word_line.among_constants.Goals.{in-Zero, in-One, in-Input+else-used-count}
 use Rattle.rv_simulate.proofs.word_line.among_constants.Goals as goal
 use Rattle.rv_gate.proofs.Bits.{bool_byte-le}
 
 pub loop-line-init : goal.loop-line-init
-loop-line-init c = record { number = number_none c.args.circuit.now.constants (word_of c.args.count c.args.bits); used = refl; within = omega arith }
+loop-line-init c = record { number = number_none (with_constants c.args.circuit.now.constants (word_of c.args.count c.args.bits)); used = refl; within = omega arith }
 
 pub returns-then-used-count : goal.returns-then-used-count
 returns-then-used-count c =
@@ -48,16 +50,21 @@ loop-line-preserved c =
 
 pub overflow_mul-number : goal.overflow_mul-number
 overflow_mul-number c =
-    let small = number_small c.args.circuit.now.constants (word_of c.args.count c.args.bits) c.loop-line.line c.loop-line.number c.loop-line.invariant.number
-    (omega (arith, c.loop-line-test.true, c.line_count-lines.ensures.few)) in
-    omega (arith, small)
+    omega (
+      arith,
+      number_small (with_constants c.args.circuit.now.constants (word_of c.args.count c.args.bits)) c.loop-line.line c.loop-line.number
+          (omega (arith, c.loop-line-test.true, c.line_count-lines.ensures.few)) c.loop-line.invariant.number,
+    )
 
 pub overflow_add-number : goal.overflow_add-number
 overflow_add-number c =
-    let small = number_small c.args.circuit.now.constants (word_of c.args.count c.args.bits) c.loop-line.line c.loop-line.number c.loop-line.invariant.number
-    (omega (arith, c.loop-line-test.true, c.line_count-lines.ensures.few)) in
-    let bit = bool_byte-le c.match-constant.bit in
-    omega (arith, small, c.from.ensures, bit)
+    omega (
+      arith,
+      c.from.ensures,
+      bool_byte-le c.match-constant.bit,
+      number_small (with_constants c.args.circuit.now.constants (word_of c.args.count c.args.bits)) c.loop-line.line c.loop-line.number
+          (omega (arith, c.loop-line-test.true, c.line_count-lines.ensures.few)) c.loop-line.invariant.number,
+    )
 
 pub returns-then-used-count-2 : goal.returns-then-used-count-2
 returns-then-used-count-2 c =
@@ -66,5 +73,6 @@ returns-then-used-count-2 c =
     let lines = c.line_count-lines in
     let count = lines.ensures.valid.constants ∙ sym lines.ensures.value in
     let all : take c.loop-line.line marks ≡ marks = take_all c.loop-line.line marks (omega (arith, count, c.loop-line-test.false)) in
-    let made = number_all marks bits c.loop-line.line lines.result c.loop-line.number count c.loop-line-test.false c.loop-line.invariant.number in
+    let size = length-with_constants marks bits ∙ count in
+    let made = number_all (with_constants marks bits) c.loop-line.line c.loop-line.number lines.result (omega (arith, size, c.loop-line-test.false)) (sym size) c.loop-line.invariant.number in
     answered_for c.new.result _ _ _ _ c.new.ensures (lines.ensures.few, made.0) (sym c.if-used-count-2.true ∙ c.loop-line.invariant.used ∙ ap input_count all) made.1
