@@ -489,12 +489,31 @@ impl Slots {
             (turned_by row.now.cube row.now.q row_turns))) found.old.items found.new.items) }
     {
         if self.places.may_lead(place) {
-            let from = turned_by(row.cube, p, turns);
-            let to = turned_by(row.cube, row.q, row_turns);
-            self.list(moved_as(from, row.cube, to), found)
+            self.list_turned(row, p, turns, row_turns, found)
         } else {
             Ok(())
         }
+    }
+
+    // The same, without a look at the filter. It is seldom called, and a call of its own keeps the loop small.
+    #[inline(never)]
+    fn list_turned(
+        &self,
+        row: &Row,
+        p: u8,
+        turns: Turns,
+        row_turns: Turns,
+        found: &mut Vec<usize>,
+    ) -> Result<(), AllocError>
+        requires line { p < MOST_INPUTS }
+        requires row { row.now.q < MOST_INPUTS }
+        ensures { OnOk result (Gains self.now.cubes (IsAlike self.now.cubes
+            (moved_as (turned_by row.now.cube p turns) row.now.cube
+            (turned_by row.now.cube row.now.q row_turns))) found.old.items found.new.items) }
+    {
+        let from = turned_by(row.cube, p, turns);
+        let to = turned_by(row.cube, row.q, row_turns);
+        self.list(moved_as(from, row.cube, to), found)
     }
 
     // Lists the slots that differ in q.
