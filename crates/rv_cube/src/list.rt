@@ -51,6 +51,7 @@ impl CubeList {
     /// These are the terms of a PLA of type esop, in their order, but for those that carry no 1. For the
     /// other types it is the positive-polarity Reed-Muller form, a cube for each set of inputs that some
     /// output needs, in ascending order of the set read as a word. Fails only for want of memory.
+    #[tactic(auto, using(rv_pla::proofs::FreeEntries::allows_own, crate::proofs::inside::Entries::first_list))]
     pub fn from_pla(alloc: Global, pla: &Pla) -> Result<CubeList, AllocError>
         ensures list { IfOk result (λ c. c ≡ first_of pla.now) }
         ensures value { IfOk result (λ c. (word : List Bool) (output : ℕ) → length word ≡ pla.now.inputs
@@ -111,6 +112,7 @@ impl CubeList {
     /// The positive-polarity Reed-Muller form of a table with the outputs of each input word: a cube for each set
     /// of inputs that some output needs, in ascending order of the set read as a word. Its value at each word is
     /// that of the table. Fails only for want of memory.
+    #[tactic(auto, using(std::proofs::lemmas::List::take_at, crate::proofs::inside::ReedMuller::listed))]
     pub fn from_values(
         alloc: Global,
         inputs: u8,

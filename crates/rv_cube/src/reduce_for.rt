@@ -12,6 +12,7 @@ use std::alloc::{AllocError, Global};
 
 /// The list after the first step that applies was made, outputs that only concern free entries dropped too,
 /// again and again until none did. Fails only for want of memory.
+#[tactic(auto, using(crate::proofs::inside::IdleSlots::idle_full, crate::proofs::inside::IdleSlots::all_done))]
 pub fn reduce_for(alloc: Global, cubes: &[Cube], pla: &Pla) -> Result<Vec<Cube>, AllocError>
     requires { All (IsTerm pla.now.inputs MOST_OUTPUTS) cubes.now }
     ensures { IfOk result (λ v. v.items ≡ reduced_for pla.now cubes.now) }

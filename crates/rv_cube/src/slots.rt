@@ -174,6 +174,7 @@ impl Slots {
 
     /// The same, with the place of its inputs.
     #[inline(always)]
+    #[tactic(auto, using(crate::proofs::inside::Noting::slot_of_noted))]
     pub fn find_at(&self, cube: Cube, place: u32) -> Option<usize>
         requires place { place ≡ filter_place (key_of cube) }
         requires within { place < PLACES }
@@ -230,6 +231,7 @@ impl Slots {
     }
 
     // The cube and slot j, which has the same inputs, become one, in the lower of i and j.
+    #[tactic(auto, using(crate::proofs::inside::Twins::become_one))]
     fn merge(&mut self, i: usize, j: usize, cube: Cube) -> Result<(), AllocError>
         requires within { i < length self.old.cubes }
         requires empty { full self.old.cubes i ≡ false }
@@ -280,6 +282,7 @@ impl Slots {
     }
 
     /// The least full slot other than a and b whose cube becomes one with this one.
+    #[tactic(auto, using(crate::proofs::inside::Partners::least_start, crate::proofs::inside::Partners::least_more, crate::proofs::inside::Partners::least_end))]
     pub fn partner(&self, cube: Cube, a: usize, b: usize) -> Option<usize>
         requires { IsCube self.now.inputs MOST_OUTPUTS cube }
         ensures { MatchOption result ((c : ℕ) → IsPartner self.now.inputs self.now.cubes a b cube c → ⊥)
@@ -355,6 +358,7 @@ impl Slots {
     // The lesser of `best` and of the slot other than a and b with the inputs and the outputs of the cube, with the
     // place of its inputs.
     #[inline(always)]
+    #[tactic(auto, using(crate::proofs::inside::Partners::lesser_none))]
     fn lesser_equal(
         &self,
         best: Option<usize>,
@@ -376,6 +380,7 @@ impl Slots {
 
     /// Lists the full slots whose cubes differ from this one in two inputs, in no special order. Other full
     /// slots may be among them. Fails only for want of memory.
+    #[tactic(auto, using(crate::proofs::inside::Listing::below_start, crate::proofs::inside::Listing::listed_full, crate::proofs::inside::Noting::own_asked, crate::proofs::inside::Noting::more_asked))]
     pub fn two_apart(&self, cube: Cube, found: &mut Vec<usize>) -> Result<(), AllocError>
         requires { IsCube self.now.inputs MOST_OUTPUTS cube }
         ensures full { OnOk result (All (λ b. full self.now.cubes b ≡ true) found.new.items) }
@@ -408,6 +413,7 @@ impl Slots {
 
     // Lists the slots that differ in q and a lower input. No cube asks for another input than those of `asked`.
     #[inline(always)]
+    #[tactic(auto, using(crate::proofs::inside::Listing::from_start))]
     fn list_pairs(
         &self,
         cube: Cube,
@@ -445,6 +451,7 @@ impl Slots {
     // Lists the slots that differ from the row's cube in its input, and in p by so many turns, after which the inputs
     // have this place.
     #[inline(always)]
+    #[tactic(auto, using(crate::proofs::inside::Probes::place_after, crate::proofs::inside::Probes::step_within))]
     fn list_moved(
         &self,
         row: &Row,
@@ -469,6 +476,7 @@ impl Slots {
     // Lists the slot that differs from the row's cube in its input and in p by so many turns each, with the place of
     // its inputs.
     #[inline(always)]
+    #[tactic(auto, using(crate::proofs::inside::Listing::gains_none))]
     fn list_at(
         &self,
         row: &Row,
@@ -517,6 +525,7 @@ impl Slots {
     }
 
     // Lists the slots that differ in q.
+    #[tactic(auto, using(std::proofs::lemmas::Result::on_ok_weaker, crate::proofs::inside::Listing::gains_beside))]
     fn list_beside(&self, cube: Cube, q: u8, found: &mut Vec<usize>) -> Result<(), AllocError>
         requires few { self.now.inputs ≤ MOST_INPUTS }
         requires within { q < self.now.inputs }
@@ -529,6 +538,7 @@ impl Slots {
     }
 
     // Lists the slot with the inputs of the cube.
+    #[tactic(auto, using(crate::proofs::inside::Listing::gains_none))]
     fn list_any(&self, cube: Cube, found: &mut Vec<usize>) -> Result<(), AllocError>
         ensures { OnOk result (Gains self.now.cubes (IsAlike self.now.cubes cube) found.old.items found.new.items) }
     {
@@ -541,6 +551,7 @@ impl Slots {
 
     // The same, without a look at the filter.
     #[inline(always)]
+    #[tactic(auto, using(crate::proofs::inside::Listing::gains_none, crate::proofs::inside::Listing::gains_some))]
     fn list(&self, cube: Cube, found: &mut Vec<usize>) -> Result<(), AllocError>
         ensures { OnOk result (Gains self.now.cubes (IsAlike self.now.cubes cube) found.old.items found.new.items) }
     {

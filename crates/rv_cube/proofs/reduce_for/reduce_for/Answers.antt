@@ -1,9 +1,9 @@
-use Rattle.std.proofs.Common.{◌≡◌, ◌<◌, ℕ, length, sym, ◌∙◌, ap, subst}
+use Rattle.std.proofs.Common.{◌≡◌, ℕ, ◌∙◌, ap, subst}
 use Rattle.rv_cube.specs.Esop.{terms_of}
-use Rattle.rv_cube.specs.Reduction.{at, reduced}
+use Rattle.rv_cube.specs.Reduction.{reduced}
 use Rattle.rv_cube.specs.inside.Slotted.{Slotted}
-use Rattle.rv_cube.specs.inside.Idle.{HasNoIdle, IsFirstIdle}
-use Rattle.rv_cube.proofs.inside.IdleSlots.{idle_full, turn, begun, all_done, none_idle}
+use Rattle.rv_cube.specs.inside.Idle.{IsFirstIdle}
+use Rattle.rv_cube.proofs.inside.IdleSlots.{turn, begun, none_idle}
 use Rattle.rv_cube.proofs.reduce_for.reduce_for.Goals as goal
 
 pub drops-init : goal.drops-init
@@ -22,12 +22,6 @@ drops-init c =
       same = b.same;
       vain = rw (c.in_ok-vain.ensures.items_if_clones_equal (λ y e. e)) (none_idle c.args.pla.now c.len.result);
     }
-
-pub drop_output-requires-clause-stands : goal.drop_output-requires-clause-stands
-drop_output-requires-clause-stands c =
-    let P : Slotted → Type 0 = λ v. IsFirstIdle c.args.pla.now v.cubes c.in-Some.slot c.in-Some.output in
-    let f = subst P c.slots-in-drops.ensures c.in-Some.ensures.found in
-    idle_full c.args.pla.now c.drops.reduction.cubes c.in-Some.slot c.in-Some.output f.least.idle
 
 pub drops-smaller : goal.drops-smaller
 drops-smaller c =
@@ -48,10 +42,3 @@ drops-preserved c =
       same = t.same ∙ c.drops.invariant.same;
       vain = c.in-Some.ensures.vain;
     }
-
-pub returns-in-None : goal.returns-in-None
-returns-in-None c =
-    let P : Slotted → Type 0 = λ v. (a : ℕ) → a < length v.cubes → HasNoIdle c.args.pla.now (at v.cubes a) in
-    c.into_cubes.ensures
-    ∙ sym (all_done c.args.pla.now c.drops.reduction.cubes c.drops.invariant.settled (subst P c.slots-in-drops.ensures c.in-None.ensures.found))
-    ∙ c.drops.invariant.same
