@@ -127,7 +127,7 @@ pub fn turned(cube: Cube, input: u8) -> Cube
 
 /// The cube with the third symbol at an input, of which `one` has the second.
 #[inline(always)]
-#[tactic(auto, using(crate::proofs::inside::Neighbours::third_turn, crate::proofs::inside::Turned::twice_care, crate::proofs::inside::Turned::twice_want))]
+#[tactic(auto, using(crate::proofs::inside::Turned::turned_twice))]
 pub fn turned_twice(cube: Cube, one: Cube, input: u8) -> Cube
     requires within { input < MOST_INPUTS }
     requires one { one ≡ with_symbol cube input (turn (symbol cube input)) }

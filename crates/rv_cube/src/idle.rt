@@ -13,7 +13,7 @@ use super::value::{matches, ones_of};
 use rv_pla::{Cube, Pla, has};
 use std::alloc::{AllocError, Global};
 
-#[tactic(auto, using(crate::proofs::inside::Entries::front_on, crate::proofs::inside::Entries::front_off), unfolding(rv_gate::specs::Word::ones_of))]
+#[tactic(auto, using(crate::proofs::inside::Entries::fronts), unfolding(rv_gate::specs::Word::ones_of))]
 fn free_at(pla: &Pla, input: u32) -> u16
     requires { input < 2 ^ pla.now.inputs }
     ensures { result ≡ free_at pla.now input }
@@ -50,7 +50,7 @@ fn past(inputs: u8, number: u32, input: u8) -> u32
 }
 
 // A later word, with none before it that the cube matches, for a word with these inputs that it doesn't.
-#[tactic(auto, using(crate::proofs::inside::IdleSets::passed, crate::proofs::inside::IdleSets::between, crate::proofs::inside::IdleSets::past_within))]
+#[tactic(auto, using(crate::proofs::inside::IdleSets::passing))]
 fn next_word(cube: Cube, inputs: u8, number: u32, set: u16) -> u32
     requires few { inputs ≤ MOST_INPUTS }
     requires word { number < 2 ^ inputs }

@@ -12,6 +12,7 @@ ghost use Rattle.rv_cube.specs.Reduction.{reduced, IsSettled};
 ghost use Rattle.rv_cube.specs.ReductionFor.{reduced_for, IsRight, IsSettledFor};
 ghost use Rattle.rv_cube.specs.Settled.{IsIrreducible, IsIrreducibleFor};
 
+use crate::carried::terms_of;
 use crate::first::{term_cubes, values_of};
 use crate::reduce::reduce;
 use crate::reduce_for::reduce_for;
@@ -150,12 +151,10 @@ impl CubeList {
         requires valid { All (IsCube inputs outputs) terms.items }
         ensures { result ≡ record { inputs = inputs; outputs = outputs; cubes = terms_of terms.items } }
     {
-        let mut cubes = terms;
-        cubes.retain(|cube| cube.outs != 0);
         CubeList {
             inputs,
             outputs,
-            cubes,
+            cubes: terms_of(terms),
         }
     }
 

@@ -186,7 +186,7 @@ impl Reduction {
     }
 
     // The cubes in a and b become one. A step that fails for want of memory loses the list.
-    #[tactic(auto, using(std::proofs::lemmas::Result::on_ok_weaker, crate::proofs::inside::MadeSteps::merged_steps, crate::proofs::inside::MadeSteps::merging))]
+    #[tactic(auto, using(crate::proofs::inside::MadeSteps::joined))]
     fn merge(&mut self, a: usize, b: usize) -> Result<(), AllocError>
         requires { IsFirstMerge self.old.inputs self.old.cubes a b }
         ensures inputs { self.new.inputs ≡ self.old.inputs }

@@ -35,7 +35,7 @@ pub fn transform(table: &mut [u16], inputs: u8)
 }
 
 /// A cube for each set that some output needs.
-#[tactic(auto, using(crate::proofs::inside::ReedMuller::filling_some, crate::proofs::inside::ReedMuller::filling_none, crate::proofs::inside::ReedMuller::set_cubes_valid))]
+#[tactic(auto, using(crate::proofs::inside::ReedMuller::filling))]
 pub fn cubes_of(
     alloc: Global,
     needed: &[u16],

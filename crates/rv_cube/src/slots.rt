@@ -1,6 +1,6 @@
 // The slots of a list of cubes, and what finds them.
 ghost use Rattle.std.specs.Prelude.{◌≡◌, ◌++◌, ◌∷◌, [], ℕ, ◌<◌, ◌≤◌, Bool, true, false, length, Option, None, Some};
-ghost use Rattle.std.specs.Prelude.{All, OnOk, OnErr, IfOk, MatchOption, slice_set};
+ghost use Rattle.std.specs.Prelude.{All, OnOk, OnErr, IfOk, IfSome, MatchOption, slice_set};
 ghost use Rattle.rv_pla.specs.Cube.{IsCube};
 ghost use Rattle.rv_pla.specs.declared.cube.TheConstants.{MOST_INPUTS, MOST_OUTPUTS};
 ghost use Rattle.rv_cube.specs.Esop.{terms_of};
@@ -15,6 +15,7 @@ ghost use Rattle.rv_cube.specs.declared.distance.Turns.TheVariants.{Once, Twice}
 ghost use Rattle.rv_cube.specs.inside.Filter.{filter_place};
 ghost use Rattle.rv_cube.specs.inside.Watching.{IsNearList};
 
+use super::carried::terms_of;
 use super::distance::{Turns, turned, turned_by, turned_twice};
 use super::filter::{PLACES, filter_place, place_from};
 use super::places::Places;
@@ -167,6 +168,7 @@ impl Slots {
     /// The full slot with the inputs of the cube.
     pub fn find(&self, cube: Cube) -> Option<usize>
         ensures value { result ≡ slot_of self.now.cubes cube }
+        ensures within { IfSome result (λ i. i < length self.now.cubes) }
         ensures keyed { IsKeyed self.now.cubes }
     {
         self.find_at(cube, filter_place(cube))
@@ -179,6 +181,7 @@ impl Slots {
         requires place { place ≡ filter_place (key_of cube) }
         requires within { place < PLACES }
         ensures value { result ≡ slot_of self.now.cubes cube }
+        ensures within { IfSome result (λ i. i < length self.now.cubes) }
         ensures keyed { IsKeyed self.now.cubes }
     {
         self.places.find_at(cube, place)
@@ -282,7 +285,7 @@ impl Slots {
     }
 
     /// The least full slot other than a and b whose cube becomes one with this one.
-    #[tactic(auto, using(crate::proofs::inside::Partners::least_start, crate::proofs::inside::Partners::least_more, crate::proofs::inside::Partners::least_end))]
+    #[tactic(auto, using(crate::proofs::inside::Partners::least))]
     pub fn partner(&self, cube: Cube, a: usize, b: usize) -> Option<usize>
         requires { IsCube self.now.inputs MOST_OUTPUTS cube }
         ensures { MatchOption result ((c : ℕ) → IsPartner self.now.inputs self.now.cubes a b cube c → ⊥)
@@ -380,7 +383,7 @@ impl Slots {
 
     /// Lists the full slots whose cubes differ from this one in two inputs, in no special order. Other full
     /// slots may be among them. Fails only for want of memory.
-    #[tactic(auto, using(crate::proofs::inside::Listing::below_start, crate::proofs::inside::Listing::listed_full, crate::proofs::inside::Noting::own_asked, crate::proofs::inside::Noting::more_asked))]
+    #[tactic(auto, using(crate::proofs::inside::Listing::listing, crate::proofs::inside::Noting::asking))]
     pub fn two_apart(&self, cube: Cube, found: &mut Vec<usize>) -> Result<(), AllocError>
         requires { IsCube self.now.inputs MOST_OUTPUTS cube }
         ensures full { OnOk result (All (λ b. full self.now.cubes b ≡ true) found.new.items) }
@@ -566,8 +569,6 @@ impl Slots {
     pub fn into_cubes(self) -> Vec<Cube>
         ensures { result.items ≡ terms_of self.cubes }
     {
-        let mut cubes = self.cubes;
-        cubes.retain(|cube| cube.outs != 0);
-        cubes
+        terms_of(self.cubes)
     }
 }

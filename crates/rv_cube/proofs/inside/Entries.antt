@@ -140,3 +140,6 @@ value-sum pla word output h = value-sum_of pla.kind pla.inputs pla.outputs pla.t
 
 -- what the first list is proved by
 pub ruleset first_list = (length-values, small_values, valid_terms, value-sum, value-table)
+
+-- the outputs at a word, so far
+pub ruleset fronts = (front_on, front_off)

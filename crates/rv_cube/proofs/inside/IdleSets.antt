@@ -120,3 +120,6 @@ past_within n k x h lt =
 
 -- what a word that is counted is proved by
 pub ruleset counted = (length-map-range_with_len, one_shl, idles_on)
+
+-- words that are passed over
+pub ruleset passing = (passed, between, past_within)

@@ -400,3 +400,6 @@ small_transformed (suc n) o table h all =
 
 -- what the list of a table is proved by
 pub ruleset listed = (small_transformed, reed_muller-transformed, value-reed_muller)
+
+-- cubes that are listed so far
+pub ruleset filling = (filling_some, filling_none, set_cubes_valid)

@@ -1,9 +1,10 @@
-use Rattle.std.proofs.Common.{◌≡◌, ℕ, ◌∙◌, ap, subst}
+use Rattle.std.proofs.Common.{◌≡◌, ◌<◌, ℕ, length, sym, ◌∙◌, ap, subst}
 use Rattle.rv_cube.specs.Esop.{terms_of}
-use Rattle.rv_cube.specs.Reduction.{reduced}
+use Rattle.rv_cube.specs.Reduction.{at, reduced}
 use Rattle.rv_cube.specs.inside.Slotted.{Slotted}
-use Rattle.rv_cube.specs.inside.Idle.{IsFirstIdle}
-use Rattle.rv_cube.proofs.inside.IdleSlots.{turn, begun, none_idle}
+use Rattle.rv_cube.specs.inside.Idle.{HasNoIdle, IsFirstIdle}
+use Rattle.rv_cube.proofs.inside.IdleSlots.{turn, begun, all_done, none_idle}
+use Rattle.rv_cube.proofs.inside.Meaning.{are_reduced_for}
 use Rattle.rv_cube.proofs.reduce_for.reduce_for.Goals as goal
 
 pub drops-init : goal.drops-init
@@ -42,3 +43,11 @@ drops-preserved c =
       same = t.same ∙ c.drops.invariant.same;
       vain = c.in-Some.ensures.vain;
     }
+
+pub returns-in-None-clause-means : goal.returns-in-None-clause-means
+returns-in-None-clause-means c =
+    let P : Slotted → Type 0 = λ v. (a : ℕ) → a < length v.cubes → HasNoIdle c.args.pla.now (at v.cubes a) in
+    are_reduced_for c.args.pla.now c.args.cubes.now c.into_cubes.result.items
+    (c.into_cubes.ensures
+    ∙ sym (all_done c.args.pla.now c.drops.reduction.cubes c.drops.invariant.settled (subst P c.slots-in-drops.ensures c.in-None.ensures.found))
+    ∙ c.drops.invariant.same)
