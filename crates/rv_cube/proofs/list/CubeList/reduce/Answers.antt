@@ -1,4 +1,4 @@
-use Rattle.std.proofs.Common.{◌≡◌, List, ap, sym, subst, arith}
+use Rattle.std.proofs.Common.{List, ap, sym, subst, arith}
 use Rattle.rv_pla.specs.declared.cube.Cube.{Cube}
 use Rattle.rv_cube.specs.Dashes.{IsDashed}
 use Rattle.rv_cube.specs.Esop.{Esop}
