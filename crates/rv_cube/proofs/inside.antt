@@ -36,3 +36,4 @@ pub mod MadeSteps
 pub mod Filling
 pub mod IdleSlots
 pub mod IdleSets
+pub mod Meaning

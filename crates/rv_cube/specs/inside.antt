@@ -5,6 +5,7 @@ pub mod Idle
 pub mod Reducing
 pub mod Slots
 pub mod Slotted
+pub mod Meaning
 pub mod Moved
 pub mod Transform
 pub mod Watching

@@ -33,6 +33,7 @@ fn put(set: u16, line: u8, on: bool) -> u16
 
 // The set of the inputs in which two cubes differ.
 #[inline(always)]
+#[tactic(auto, using(crate::proofs::inside::Differing::apart_has))]
 fn differing_set(a: Cube, b: Cube) -> u16
     ensures { (input : ℕ) → has result input ≡ differs a b input }
 {
@@ -50,6 +51,7 @@ fn further(found: Apart, input: u8) -> Apart
 }
 
 /// The inputs in which two cubes differ, where they are at most two.
+#[tactic(auto, using(crate::proofs::inside::Differing::told))]
 pub fn differing(a: Cube, b: Cube, inputs: u8) -> Apart
     requires { inputs ≤ MOST_INPUTS }
     ensures { Tells inputs (differing inputs a b) result }
@@ -110,6 +112,7 @@ fn flipped(set: u16, by: u16, line: u8) -> u16
 
 /// The cube with another symbol at one input.
 #[inline(always)]
+#[tactic(auto, using(crate::proofs::inside::Turned::turned_care, crate::proofs::inside::Turned::turned_want))]
 pub fn turned(cube: Cube, input: u8) -> Cube
     requires { input < MOST_INPUTS }
     ensures { result ≡ with_symbol cube input (turn (symbol cube input)) }
@@ -124,6 +127,7 @@ pub fn turned(cube: Cube, input: u8) -> Cube
 
 /// The cube with the third symbol at an input, of which `one` has the second.
 #[inline(always)]
+#[tactic(auto, using(crate::proofs::inside::Turned::turned_twice))]
 pub fn turned_twice(cube: Cube, one: Cube, input: u8) -> Cube
     requires within { input < MOST_INPUTS }
     requires one { one ≡ with_symbol cube input (turn (symbol cube input)) }

@@ -11,6 +11,7 @@ use super::step::Step;
 use rv_pla::Cube;
 use std::alloc::AllocError;
 
+#[tactic(auto, using(crate::proofs::inside::PartnerSearches::searched))]
 fn partner(
     slots: &Slots,
     a: usize,

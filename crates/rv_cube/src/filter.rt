@@ -28,18 +28,21 @@ impl Model for Filter {
     ghost invariant = { λ f. length f.counts.items ≡ PLACES };
 }
 
-/// The place of a cube's inputs. Inputs change it by an exclusive or, whatever the cube.
+/// The place of a cube's inputs. Inputs change it by an exclusive or, whatever the cube. Up to 12 inputs as few share a
+/// place as can be.
 #[inline(always)]
+#[tactic(auto, using(crate::proofs::inside::Probes::place_within), unfolding(crate::specs::inside::Filter::filter_place))]
 pub(crate) fn filter_place(cube: Cube) -> u32
     ensures value { result ≡ filter_place (key_of cube) }
     ensures within { result < PLACES }
 {
     let (care, want) = (cube.care as u32, cube.want as u32);
-    care ^ want * 4 ^ want * 8
+    care ^ (want * 8 ^ want * 128 % PLACES)
 }
 
 /// The place of a cube's inputs, from that of another's. It is cheap where few inputs are known to differ.
 #[inline(always)]
+#[tactic(auto, using(crate::proofs::inside::Probes::place_between, crate::proofs::inside::Probes::step_within))]
 pub(crate) fn place_from(place: u32, from: Cube, to: Cube) -> u32
     requires place { place ≡ filter_place (key_of from) }
     requires within { place < PLACES }

@@ -6,6 +6,7 @@ ghost use Rattle.rv_cube.specs.First.{outputs_at, values_of, term_cubes};
 use rv_pla::{Cube, Pla};
 use std::alloc::{AllocError, Global};
 
+#[tactic(auto, using(crate::proofs::inside::Entries::fronts), unfolding(rv_gate::specs::Word::ones_of))]
 fn outputs_at(pla: &Pla, input: u32) -> u16
     requires { input < 2 ^ pla.now.inputs }
     ensures { result ≡ outputs_at pla.now (word_of pla.now.inputs input) }

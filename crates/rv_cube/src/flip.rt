@@ -10,6 +10,7 @@ use rv_pla::Cube;
 /// The flip of the target under the cube: the cube's ones are its positive controls, the zeros its negative ones.
 ///
 /// So it acts on the words that the cube matches.
+#[tactic(auto, using(crate::proofs::inside::Words::held))]
 pub fn flip_of(cube: Cube, target: u8) -> Gate
     requires { IsGate (flip_of cube target) }
     ensures value { result ≡ flip_of cube target }

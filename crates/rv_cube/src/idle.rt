@@ -13,6 +13,7 @@ use super::value::{matches, ones_of};
 use rv_pla::{Cube, Pla, has};
 use std::alloc::{AllocError, Global};
 
+#[tactic(auto, using(crate::proofs::inside::Entries::fronts), unfolding(rv_gate::specs::Word::ones_of))]
 fn free_at(pla: &Pla, input: u32) -> u16
     requires { input < 2 ^ pla.now.inputs }
     ensures { result ≡ free_at pla.now input }
@@ -49,6 +50,7 @@ fn past(inputs: u8, number: u32, input: u8) -> u32
 }
 
 // A later word, with none before it that the cube matches, for a word with these inputs that it doesn't.
+#[tactic(auto, using(crate::proofs::inside::IdleSets::passing))]
 fn next_word(cube: Cube, inputs: u8, number: u32, set: u16) -> u32
     requires few { inputs ≤ MOST_INPUTS }
     requires word { number < 2 ^ inputs }
@@ -67,6 +69,7 @@ fn next_word(cube: Cube, inputs: u8, number: u32, set: u16) -> u32
 }
 
 // The outputs of the cube that are free wherever it matches.
+#[tactic(auto, using(crate::proofs::inside::IdleSets::counted))]
 fn idle_outputs(pla: &Pla, free: &[u16], cube: Cube) -> u16
     requires free { free.now ≡ free_sets pla.now }
     requires asked { cube.care < 2 ^ pla.now.inputs }

@@ -5,6 +5,7 @@
 //! makes a list shorter by the distance steps of exorcism and keeps the value.
 #![tactic(auto)]
 
+mod carried;
 mod distance;
 mod due;
 mod exorlink;

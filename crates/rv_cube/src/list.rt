@@ -12,6 +12,7 @@ ghost use Rattle.rv_cube.specs.Reduction.{reduced, IsSettled};
 ghost use Rattle.rv_cube.specs.ReductionFor.{reduced_for, IsRight, IsSettledFor};
 ghost use Rattle.rv_cube.specs.Settled.{IsIrreducible, IsIrreducibleFor};
 
+use crate::carried::terms_of;
 use crate::first::{term_cubes, values_of};
 use crate::reduce::reduce;
 use crate::reduce_for::reduce_for;
@@ -51,6 +52,7 @@ impl CubeList {
     /// These are the terms of a PLA of type esop, in their order, but for those that carry no 1. For the
     /// other types it is the positive-polarity Reed-Muller form, a cube for each set of inputs that some
     /// output needs, in ascending order of the set read as a word. Fails only for want of memory.
+    #[tactic(auto, using(rv_pla::proofs::FreeEntries::allows_own, crate::proofs::inside::Entries::first_list))]
     pub fn from_pla(alloc: Global, pla: &Pla) -> Result<CubeList, AllocError>
         ensures list { IfOk result (λ c. c ≡ first_of pla.now) }
         ensures value { IfOk result (λ c. (word : List Bool) (output : ℕ) → length word ≡ pla.now.inputs
@@ -111,6 +113,7 @@ impl CubeList {
     /// The positive-polarity Reed-Muller form of a table with the outputs of each input word: a cube for each set
     /// of inputs that some output needs, in ascending order of the set read as a word. Its value at each word is
     /// that of the table. Fails only for want of memory.
+    #[tactic(auto, using(std::proofs::lemmas::List::take_at, crate::proofs::inside::ReedMuller::listed))]
     pub fn from_values(
         alloc: Global,
         inputs: u8,
@@ -148,12 +151,10 @@ impl CubeList {
         requires valid { All (IsCube inputs outputs) terms.items }
         ensures { result ≡ record { inputs = inputs; outputs = outputs; cubes = terms_of terms.items } }
     {
-        let mut cubes = terms;
-        cubes.retain(|cube| cube.outs != 0);
         CubeList {
             inputs,
             outputs,
-            cubes,
+            cubes: terms_of(terms),
         }
     }
 

@@ -3,6 +3,7 @@ ghost use Rattle.std.specs.Prelude.{◌≡◌, ◌≤◌, [], All, IfOk, OnOk};
 ghost use Rattle.rv_pla.specs.declared.cube.TheConstants.{MOST_INPUTS, MOST_OUTPUTS};
 ghost use Rattle.rv_cube.specs.Esop.{terms_of, IsTerm};
 ghost use Rattle.rv_cube.specs.Reduction.{reduced};
+ghost use Rattle.rv_cube.specs.inside.Meaning.{AreReduced};
 
 use super::reduction::Reduction;
 use super::slots::Slots;
@@ -10,6 +11,7 @@ use rv_pla::{Cube, MOST_INPUTS};
 use std::alloc::{AllocError, Global};
 
 // Puts cubes into slots, in their order. Those with the same inputs become one.
+#[tactic(auto, using(crate::proofs::inside::Filling::fills_none, crate::proofs::inside::Filling::fills_all))]
 fn fill(slots: &mut Slots, cubes: &[Cube]) -> Result<(), AllocError>
     requires empty { slots.old.cubes ≡ [] }
     requires valid { All (IsTerm slots.old.inputs MOST_OUTPUTS) cubes.now }
@@ -46,7 +48,8 @@ pub fn reduce(alloc: Global, cubes: &[Cube], inputs: u8) -> Result<Vec<Cube>, Al
     requires some { 1 ≤ inputs }
     requires few { inputs ≤ MOST_INPUTS }
     requires valid { All (IsTerm inputs MOST_OUTPUTS) cubes.now }
-    ensures { IfOk result (λ v. v.items ≡ reduced inputs cubes.now) }
+    ensures list { IfOk result (λ v. v.items ≡ reduced inputs cubes.now) }
+    ensures means { IfOk result (λ v. AreReduced inputs cubes.now v.items) }
 {
     let slots = slots_of(alloc, cubes, inputs)?;
     let reduction = Reduction::new(alloc, slots)?.run()?;

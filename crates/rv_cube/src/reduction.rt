@@ -72,6 +72,7 @@ fn merge_at(a: usize, x: Cube, b: usize, y: Cube, inputs: u8) -> (usize, Option<
 
 impl Reduction {
     /// All slots have to be looked at. Fails only for want of memory.
+    #[tactic(auto, using(crate::proofs::inside::Watched::watched_all))]
     pub fn new(alloc: Global, slots: Slots) -> Result<Reduction, AllocError>
         ensures { IfOk result (λ r. r ≡ slots) }
     {
@@ -93,6 +94,7 @@ impl Reduction {
     }
 
     // Puts a cube into an empty slot, as `Slots::settle`.
+    #[tactic(auto, using(crate::proofs::inside::Keeps::near_within))]
     fn put(&mut self, i: usize, cube: Cube) -> Result<(), AllocError>
         requires within { i < length self.old.cubes }
         requires empty { full self.old.cubes i ≡ false }
@@ -132,6 +134,7 @@ impl Reduction {
     }
 
     // The first merge by equal outputs.
+    #[tactic(auto, using(crate::proofs::inside::DueRows::done_lowers))]
     fn next_merge(&mut self) -> Option<(usize, usize)>
         ensures valid { All (IsCube self.old.inputs MOST_OUTPUTS) self.old.cubes }
         ensures keyed { IsKeyed self.old.cubes }
@@ -151,6 +154,7 @@ impl Reduction {
     }
 
     // The first exorlink.
+    #[tactic(auto, using(crate::proofs::inside::DueRows::done_lowers))]
     fn next_exorlink(&mut self) -> Result<Option<Step>, AllocError>
         ensures same { self.new ≡ self.old }
         ensures found { IfOk result (λ o. MatchOption o ((a : ℕ) → ExorlinksNone self.old.inputs self.old.cubes a)
@@ -182,6 +186,7 @@ impl Reduction {
     }
 
     // The cubes in a and b become one. A step that fails for want of memory loses the list.
+    #[tactic(auto, using(crate::proofs::inside::MadeSteps::joined))]
     fn merge(&mut self, a: usize, b: usize) -> Result<(), AllocError>
         requires { IsFirstMerge self.old.inputs self.old.cubes a b }
         ensures inputs { self.new.inputs ≡ self.old.inputs }
@@ -195,6 +200,7 @@ impl Reduction {
     }
 
     // The cubes in `place` and `other` become `own` and `rest`, and then `own` one with its partner.
+    #[tactic(auto, using(crate::proofs::inside::MadeSteps::comes_in, crate::proofs::inside::MadeSteps::exorlinks))]
     fn exorlink(
         &mut self,
         place: usize,
@@ -246,6 +252,7 @@ impl Reduction {
     }
 
     // Makes steps until none applies, or one fails.
+    #[tactic(auto, using(crate::proofs::Reduced::reduced_end))]
     fn make_all(&mut self) -> Result<(), AllocError>
         ensures inputs { self.new.inputs ≡ self.old.inputs }
         ensures list { OnOk result (terms_of self.new.cubes ≡ reduced self.old.inputs (terms_of self.old.cubes)) }
@@ -270,6 +277,7 @@ impl Reduction {
     }
 
     // The cube of a slot loses an output, and goes where none is left. A step that fails loses the list.
+    #[tactic(auto, using(std::proofs::lemmas::Nat::one_shl, crate::proofs::inside::IdleSlots::drop_none))]
     fn drop_in(&mut self, i: usize, output: u8) -> Result<(), AllocError>
         requires stands { full self.old.cubes i ≡ true }
         requires output { output < MOST_OUTPUTS }

@@ -8,6 +8,7 @@ use super::value::ones_of;
 use rv_pla::{Cube, MOST_INPUTS};
 use std::alloc::{AllocError, Global};
 
+#[tactic(auto, using(crate::proofs::inside::ReedMuller::xor_each_from))]
 fn xor_each(low: &[u16], high: &mut [u16])
     requires { length low.now ≡ length high.old }
     ensures { high.new ≡ xor_each low.now high.old }
@@ -18,6 +19,7 @@ fn xor_each(low: &[u16], high: &mut [u16])
 }
 
 /// Puts in place of the values the outputs of each set of inputs.
+#[tactic(auto, using(crate::proofs::inside::ReedMuller::transformed_none))]
 pub fn transform(table: &mut [u16], inputs: u8)
     requires few { inputs ≤ MOST_INPUTS }
     requires full { length table.old ≡ 2 ^ inputs }
@@ -33,6 +35,7 @@ pub fn transform(table: &mut [u16], inputs: u8)
 }
 
 /// A cube for each set that some output needs.
+#[tactic(auto, using(crate::proofs::inside::ReedMuller::filling))]
 pub fn cubes_of(
     alloc: Global,
     needed: &[u16],

@@ -1,6 +1,6 @@
 // The slots of a list of cubes, and what finds them.
 ghost use Rattle.std.specs.Prelude.{◌≡◌, ◌++◌, ◌∷◌, [], ℕ, ◌<◌, ◌≤◌, Bool, true, false, length, Option, None, Some};
-ghost use Rattle.std.specs.Prelude.{All, OnOk, OnErr, IfOk, MatchOption, slice_set};
+ghost use Rattle.std.specs.Prelude.{All, OnOk, OnErr, IfOk, IfSome, MatchOption, slice_set};
 ghost use Rattle.rv_pla.specs.Cube.{IsCube};
 ghost use Rattle.rv_pla.specs.declared.cube.TheConstants.{MOST_INPUTS, MOST_OUTPUTS};
 ghost use Rattle.rv_cube.specs.Esop.{terms_of};
@@ -15,6 +15,7 @@ ghost use Rattle.rv_cube.specs.declared.distance.Turns.TheVariants.{Once, Twice}
 ghost use Rattle.rv_cube.specs.inside.Filter.{filter_place};
 ghost use Rattle.rv_cube.specs.inside.Watching.{IsNearList};
 
+use super::carried::terms_of;
 use super::distance::{Turns, turned, turned_by, turned_twice};
 use super::filter::{PLACES, filter_place, place_from};
 use super::places::Places;
@@ -167,6 +168,7 @@ impl Slots {
     /// The full slot with the inputs of the cube.
     pub fn find(&self, cube: Cube) -> Option<usize>
         ensures value { result ≡ slot_of self.now.cubes cube }
+        ensures within { IfSome result (λ i. i < length self.now.cubes) }
         ensures keyed { IsKeyed self.now.cubes }
     {
         self.find_at(cube, filter_place(cube))
@@ -174,10 +176,12 @@ impl Slots {
 
     /// The same, with the place of its inputs.
     #[inline(always)]
+    #[tactic(auto, using(crate::proofs::inside::Noting::slot_of_noted))]
     pub fn find_at(&self, cube: Cube, place: u32) -> Option<usize>
         requires place { place ≡ filter_place (key_of cube) }
         requires within { place < PLACES }
         ensures value { result ≡ slot_of self.now.cubes cube }
+        ensures within { IfSome result (λ i. i < length self.now.cubes) }
         ensures keyed { IsKeyed self.now.cubes }
     {
         self.places.find_at(cube, place)
@@ -230,6 +234,7 @@ impl Slots {
     }
 
     // The cube and slot j, which has the same inputs, become one, in the lower of i and j.
+    #[tactic(auto, using(crate::proofs::inside::Twins::become_one))]
     fn merge(&mut self, i: usize, j: usize, cube: Cube) -> Result<(), AllocError>
         requires within { i < length self.old.cubes }
         requires empty { full self.old.cubes i ≡ false }
@@ -280,6 +285,7 @@ impl Slots {
     }
 
     /// The least full slot other than a and b whose cube becomes one with this one.
+    #[tactic(auto, using(crate::proofs::inside::Partners::least))]
     pub fn partner(&self, cube: Cube, a: usize, b: usize) -> Option<usize>
         requires { IsCube self.now.inputs MOST_OUTPUTS cube }
         ensures { MatchOption result ((c : ℕ) → IsPartner self.now.inputs self.now.cubes a b cube c → ⊥)
@@ -355,6 +361,7 @@ impl Slots {
     // The lesser of `best` and of the slot other than a and b with the inputs and the outputs of the cube, with the
     // place of its inputs.
     #[inline(always)]
+    #[tactic(auto, using(crate::proofs::inside::Partners::lesser_none))]
     fn lesser_equal(
         &self,
         best: Option<usize>,
@@ -376,6 +383,7 @@ impl Slots {
 
     /// Lists the full slots whose cubes differ from this one in two inputs, in no special order. Other full
     /// slots may be among them. Fails only for want of memory.
+    #[tactic(auto, using(crate::proofs::inside::Listing::listing, crate::proofs::inside::Noting::asking))]
     pub fn two_apart(&self, cube: Cube, found: &mut Vec<usize>) -> Result<(), AllocError>
         requires { IsCube self.now.inputs MOST_OUTPUTS cube }
         ensures full { OnOk result (All (λ b. full self.now.cubes b ≡ true) found.new.items) }
@@ -408,6 +416,7 @@ impl Slots {
 
     // Lists the slots that differ in q and a lower input. No cube asks for another input than those of `asked`.
     #[inline(always)]
+    #[tactic(auto, using(crate::proofs::inside::Listing::from_start))]
     fn list_pairs(
         &self,
         cube: Cube,
@@ -445,6 +454,7 @@ impl Slots {
     // Lists the slots that differ from the row's cube in its input, and in p by so many turns, after which the inputs
     // have this place.
     #[inline(always)]
+    #[tactic(auto, using(crate::proofs::inside::Probes::place_after, crate::proofs::inside::Probes::step_within))]
     fn list_moved(
         &self,
         row: &Row,
@@ -469,6 +479,7 @@ impl Slots {
     // Lists the slot that differs from the row's cube in its input and in p by so many turns each, with the place of
     // its inputs.
     #[inline(always)]
+    #[tactic(auto, using(crate::proofs::inside::Listing::gains_none))]
     fn list_at(
         &self,
         row: &Row,
@@ -489,15 +500,35 @@ impl Slots {
             (turned_by row.now.cube row.now.q row_turns))) found.old.items found.new.items) }
     {
         if self.places.may_lead(place) {
-            let from = turned_by(row.cube, p, turns);
-            let to = turned_by(row.cube, row.q, row_turns);
-            self.list(moved_as(from, row.cube, to), found)
+            self.list_turned(row, p, turns, row_turns, found)
         } else {
             Ok(())
         }
     }
 
+    // The same, without a look at the filter. It is seldom called, and a call of its own keeps the loop small.
+    #[inline(never)]
+    fn list_turned(
+        &self,
+        row: &Row,
+        p: u8,
+        turns: Turns,
+        row_turns: Turns,
+        found: &mut Vec<usize>,
+    ) -> Result<(), AllocError>
+        requires line { p < MOST_INPUTS }
+        requires row { row.now.q < MOST_INPUTS }
+        ensures { OnOk result (Gains self.now.cubes (IsAlike self.now.cubes
+            (moved_as (turned_by row.now.cube p turns) row.now.cube
+            (turned_by row.now.cube row.now.q row_turns))) found.old.items found.new.items) }
+    {
+        let from = turned_by(row.cube, p, turns);
+        let to = turned_by(row.cube, row.q, row_turns);
+        self.list(moved_as(from, row.cube, to), found)
+    }
+
     // Lists the slots that differ in q.
+    #[tactic(auto, using(std::proofs::lemmas::Result::on_ok_weaker, crate::proofs::inside::Listing::gains_beside))]
     fn list_beside(&self, cube: Cube, q: u8, found: &mut Vec<usize>) -> Result<(), AllocError>
         requires few { self.now.inputs ≤ MOST_INPUTS }
         requires within { q < self.now.inputs }
@@ -510,6 +541,7 @@ impl Slots {
     }
 
     // Lists the slot with the inputs of the cube.
+    #[tactic(auto, using(crate::proofs::inside::Listing::gains_none))]
     fn list_any(&self, cube: Cube, found: &mut Vec<usize>) -> Result<(), AllocError>
         ensures { OnOk result (Gains self.now.cubes (IsAlike self.now.cubes cube) found.old.items found.new.items) }
     {
@@ -522,6 +554,7 @@ impl Slots {
 
     // The same, without a look at the filter.
     #[inline(always)]
+    #[tactic(auto, using(crate::proofs::inside::Listing::gains_none, crate::proofs::inside::Listing::gains_some))]
     fn list(&self, cube: Cube, found: &mut Vec<usize>) -> Result<(), AllocError>
         ensures { OnOk result (Gains self.now.cubes (IsAlike self.now.cubes cube) found.old.items found.new.items) }
     {
@@ -536,8 +569,6 @@ impl Slots {
     pub fn into_cubes(self) -> Vec<Cube>
         ensures { result.items ≡ terms_of self.cubes }
     {
-        let mut cubes = self.cubes;
-        cubes.retain(|cube| cube.outs != 0);
-        cubes
+        terms_of(self.cubes)
     }
 }

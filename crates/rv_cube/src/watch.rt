@@ -94,6 +94,7 @@ fn link_from(slots: &Slots, e: usize, p: u8, rows: &mut Due)
 }
 
 // Links slot e with those with which it makes a form that may meet the cube of slot k.
+#[tactic(auto, using(crate::proofs::inside::Watching::third_two))]
 fn link_third(slots: &Slots, k: usize, e: usize, rows: &mut Due)
     requires k_in { k < length slots.now.cubes }
     requires e_in { e < length slots.now.cubes }
@@ -125,6 +126,7 @@ fn watch_near(slots: &Slots, k: usize, e: usize, rows: &mut Due)
 }
 
 // The same for each slot that is listed.
+#[tactic(auto, using(crate::proofs::inside::DueRows::marks_more))]
 fn watch_list(slots: &Slots, k: usize, near: &[usize], rows: &mut Due)
     requires k_in { k < length slots.now.cubes }
     requires within { All (λ b. b < length slots.now.cubes) near.now }

@@ -13,8 +13,9 @@ use Rattle.rv_cube.specs.Reduction.{reduced}
 use Rattle.rv_dbs.specs.Walk.{other, left, right}
 use Rattle.rv_dbs.specs.Singles.{values_of, flips_of, single, turned, between, is_changed, KeepsAbove, singles_from}
 use Rattle.rv_dbs.proofs.Pairs.{other_within}
-use Rattle.rv_dbs.proofs.Between.{IsFree, keeps_more}
+use Rattle.rv_dbs.proofs.Between.{IsFree, keeps_more, left_free, right_free, between_perm}
 use Rattle.rv_dbs.proofs.inside.Gates.{free_care, value_at, length-values, small_values}
+use Rattle.std.proofs.lemmas.Result.{on_ok_weaker}
 
 -- ---- the values of a function
 
@@ -65,3 +66,6 @@ three_joined n k j images g0 g1 g2 g3 e a b c = grind (arith, singles_from, appe
 pub keeps_rest : (n k j : ℕ) (images : List ℕ) (rest : Table) → IsPerm n images → k < n → k ≡ suc j → KeepsAbove n k images
     → rest ≡ record { lines = n; images = between n k images } → (j < rest.lines) × KeepsAbove rest.lines j rest.images
 keeps_rest n k j images rest p h e kept is = grind (arith, keeps_more)
+
+-- what each gate of a line asks and gives
+pub ruleset gates = (on_ok_weaker, left_free, right_free, between_perm, values_full, values_small, values_free, flips_single, none_left)

@@ -10,6 +10,7 @@ use rv_perm::{MOST_PERM_LINES, Perm};
 use std::alloc::{AllocError, Global};
 
 // The next word of the walk from each word.
+#[tactic(auto, using(crate::proofs::Pairs::image_within, crate::proofs::Pairs::other_within))]
 fn steps(alloc: Global, perm: &Perm, k: u8) -> Result<Vec<u32>, AllocError>
     requires { k < perm.now.lines }
     ensures { IfOk result (λ v. v.items ≡ table_by perm.now.lines (next k perm.now.images)) }
@@ -61,6 +62,7 @@ fn twice(alloc: Global, jumps: &[u32]) -> Result<Vec<u32>, AllocError>
 }
 
 /// The least word of the walk from each word: of the first 1, 2, 4, .. words of it.
+#[tactic(auto, using(crate::proofs::inside::Jumps::turns))]
 pub fn least_words(alloc: Global, perm: &Perm, k: u8) -> Result<Vec<u32>, AllocError>
     requires { k < perm.now.lines }
     ensures { IfOk result (λ v. v.items ≡ table_by perm.now.lines (least_on_walk perm.now.lines k perm.now.images)) }

@@ -27,6 +27,7 @@ fn turned(values: &[u16], k: u8, x: u32) -> u32
 }
 
 // The images of the permutation between the two gates.
+#[tactic(auto, using(crate::proofs::Loops::values_full))]
 fn images_between(
     alloc: Global,
     perm: &Perm,
@@ -47,6 +48,7 @@ fn images_between(
 }
 
 // Puts the gates for the lines of the bits `k`, `k - 1`, .. 0 at the end.
+#[tactic(auto, using(crate::proofs::Loops::gates))]
 fn push_singles(alloc: Global, perm: &Perm, k: u8, gates: &mut Vec<Gate>) -> Result<(), AllocError>
     requires line { k < perm.now.lines }
     requires kept { KeepsAbove perm.now.lines k perm.now.images }

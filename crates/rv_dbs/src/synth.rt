@@ -14,6 +14,7 @@ use std::alloc::{AllocError, Global};
 ///
 /// On `n` lines there are 2`n` - 1 single-target gates, each with at most 2^(`n` - 1) flips of its target. So there
 /// are at most 2`n` - 1 runs of flips with one target. Fails only for want of memory.
+#[tactic(auto, using(crate::proofs::inside::Computes::most_gates))]
 pub fn synth_single(alloc: Global, spec: &PermSpec) -> Result<Circuit, AllocError>
     ensures circuit { IfOk result (λ c. c ≡ single_synthesis_of spec.now) }
     ensures steps { IfOk result (λ c.

@@ -9,6 +9,7 @@ use rv_perm::Perm;
 use std::alloc::{AllocError, Global};
 
 // The side of a word.
+#[tactic(auto, using(crate::proofs::inside::Jumps::sides))]
 fn side(perm: &Perm, least: &[u32], k: u8, x: u32) -> bool
     requires line { k < perm.now.lines }
     requires least { least.now ≡ table_by perm.now.lines (least_on_walk perm.now.lines k perm.now.images) }

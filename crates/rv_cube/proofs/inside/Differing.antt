@@ -224,3 +224,6 @@ both_other n x y p q b = record {
   at_q = differs-comm y x q ∙ b.at_q;
   others = λ i l np nq. sym (b.others i l np nq);
 }
+
+-- what a walk over the inputs tells
+pub ruleset told = (tells, apart_next, differing-none)

@@ -137,3 +137,9 @@ value-sum_of kind inputs outputs terms word output h = grind (arith, value-terms
 pub value-sum : (pla : TwoLevel) (word : List Bool) (output : ℕ) → is_esop pla.kind ≡ true
     → has (esop_value (terms_of (term_cubes pla)) word) output ≡ bit_for (entry pla word output)
 value-sum pla word output h = value-sum_of pla.kind pla.inputs pla.outputs pla.terms word output h
+
+-- what the first list is proved by
+pub ruleset first_list = (length-values, small_values, valid_terms, value-sum, value-table)
+
+-- the outputs at a word, so far
+pub ruleset fronts = (front_on, front_off)

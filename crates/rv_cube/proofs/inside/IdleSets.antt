@@ -3,11 +3,11 @@ use Rattle.std.proofs.Common.{◌≡◌, ℕ, zero, suc, ◌+◌, ◌-◌, ◌*�
 use Rattle.std.specs.Prelude.{bit_and, bit_xor}
 use Rattle.std.specs.Int.{bit_at}
 use Rattle.std.proofs.lemmas.Bool.{cases_Bool, eqb-true, and_parts, and_from}
-use Rattle.std.proofs.lemmas.Nat.{mul-le, pow-add, pow_pos}
+use Rattle.std.proofs.lemmas.Nat.{mul-le, pow-add, pow_pos, one_shl}
 use Rattle.std.proofs.lemmas.Nat.Bits.{bit_at-lt, bit_at-zero, bit_at_and, bit_at_xor}
 use Rattle.std.proofs.Math.Nat.{div-mul-le_self, div-eq_of_lt-le, div-lt_iff_lt-mul}
 use Rattle.std.specs.List.{range_with_len}
-use Rattle.std.proofs.lemmas.List.FromFn.{get_or-map-range_with_len}
+use Rattle.std.proofs.lemmas.List.FromFn.{get_or-map-range_with_len, length-map-range_with_len}
 use Rattle.rv_gate.specs.Gate.{all_below}
 use Rattle.rv_gate.specs.Word.{has, bit_of, ones_of, word_of}
 use Rattle.rv_gate.specs.inside.WordLaws.{length-word_of, bit_of-word_of}
@@ -117,3 +117,9 @@ past_within n k x h lt =
     let q : x / 2 ^ k < 2 ^ (n - k) = (div-lt_iff_lt-mul (pow_pos k)).1 (omega arith) in
     let p : (x / 2 ^ k + 1) * 2 ^ k ≤ 2 ^ (n - k) * 2 ^ k = mul-le (x / 2 ^ k + 1) (2 ^ k) (2 ^ (n - k)) (2 ^ k) (omega arith) (omega arith) in
     omega arith
+
+-- what a word that is counted is proved by
+pub ruleset counted = (length-map-range_with_len, one_shl, idles_on)
+
+-- words that are passed over
+pub ruleset passing = (passed, between, past_within)

@@ -169,3 +169,6 @@ pub none_idle : (pla : TwoLevel) (n : ℕ) → All (HasNoIdle pla) (replicate n 
 none_idle pla n k d h =
     let P : Cube → Type 0 = HasNoIdle pla in
     subst P (sym (get_or-replicate n k no_cube d (omega (arith, length-replicate n no_cube)))) (no_idle pla)
+
+-- what the loop ends with
+pub ruleset ended = (idle_full, all_done)

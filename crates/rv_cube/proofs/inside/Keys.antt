@@ -1,7 +1,7 @@
 -- Cubes with the same inputs, and the slot that has some inputs.
 use Rattle.std.proofs.Common.{◌≡◌, ℕ, zero, suc, ◌<◌, ◌≤◌, Bool, true, false, not, cond, refl, sym, ◌∙◌, ap, inl, inr, arith, eq-eqb, ne_eqb, ◌+◌, ◌&&◌, List, length, subst, [], ◌∷◌, ◌++◌, eqb}
 use Rattle.std.specs.Cmp.{both_ways}
-use Rattle.std.specs.Prelude.{Option, None, Some, ◌⊎◌}
+use Rattle.std.specs.Prelude.{Option, None, Some, ◌⊎◌, IfSome}
 use Rattle.std.proofs.lemmas.Bool.{cases_lt, eqb-true, false≢true, and_parts, and_from, cases_eq}
 use Rattle.std.proofs.lemmas.Nat.Bits.{same_from_bits, bit_at_above}
 use Rattle.std.proofs.lemmas.Option.{none-some}
@@ -149,3 +149,8 @@ slot_of-alike slots cube c None e keyed f a = absurd (slot_of-none slots cube e 
 slot_of-alike slots cube c (Some j) e keyed f a =
     let h = slot_of-some slots cube j e in
     ap (λ k. Some k) (keyed j c h.0 f (is_alike-trans (at slots j) cube (at slots c) h.1 (is_alike-comm (at slots c) cube a)))
+
+-- a slot that is found is one of the slots
+pub slot_within : (slots : List Cube) (cube : Cube) (o : Option ℕ) → o ≡ slot_of slots cube → IfSome o (λ k. k < length slots)
+slot_within slots cube None e = tt
+slot_within slots cube (Some k) e = full_within slots k (slot_of-some slots cube k (sym e)).0

@@ -165,3 +165,6 @@ near_end n slots cube found all own h = record {
       (partner_key n MOST_OUTPUTS cube (at slots b) p own (at_valid n MOST_OUTPUTS slots b all) e);
   two = h.two;
 }
+
+-- the slots that are listed at the start and at the end
+pub ruleset listing = (below_start, listed_full)

@@ -20,6 +20,7 @@ use Rattle.rv_cube.proofs.inside.SlotSteps.{moved_list}
 use Rattle.rv_cube.proofs.inside.ExorlinksIn.{IsExorlinkIn, exorlink_in_is}
 use Rattle.rv_cube.proofs.inside.NextSteps.{exorlink_is_next}
 use Rattle.rv_cube.proofs.inside.OneStep.{one_valid, merge_steps, Exorlinking, lower, bare, bare_low, exorlink_steps, length_any, empty_any, low_other, emptied}
+use Rattle.std.proofs.lemmas.Result.{on_ok_weaker}
 
 -- ---- a merge
 
@@ -291,3 +292,6 @@ rest_steps n slots new a b f s place c valid h ne =
     (ap (λ l. reduced n (terms_of (merged_in_any n l b c))) (set_comm slots b a s f ba)
     ∙ ap (λ p. reduced n (terms_of (merged_in_any n (set (set slots a f) b s) p c))) pb
     ∙ moved_kept n slots a b f s place c valid h)
+
+-- two cubes became one
+pub ruleset joined = (on_ok_weaker, merged_steps, merging)

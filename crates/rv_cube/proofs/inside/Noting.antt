@@ -235,3 +235,6 @@ slotted_replace find then asked n slots a b cube h ab bl some own is e = record 
       All-set (AsksWithin (bit_or asked cube.care)) (set slots b no_cube) a cube (own_asked asked cube)
       (All-set (AsksWithin (bit_or asked cube.care)) slots b no_cube (no_cube_asks (bit_or asked cube.care)) all);
 }
+
+-- what cubes ask for
+pub ruleset asking = (own_asked, more_asked)

@@ -50,3 +50,6 @@ partner_in-some n slots a b f s place cube c h least =
     ∙ first_found (partner_in_at n slots a b f s place cube) 0 (length slots) c (Exorlink a b f s place c) (omega arith) (full_within slots c h.other.stands)
     (at_some n slots a b f s place cube c h)
     (λ i l u. at_none n slots a b f s place cube i (λ p. let le = least i p in omega arith))
+
+-- what a search for a partner answers
+pub ruleset searched = (partner_in-none, partner_in-some)

@@ -144,3 +144,6 @@ pub least_end : (n : ℕ) (slots : List Cube) (a b : ℕ) (cube : Cube) (o : Opt
 least_end n slots a b cube o all own h =
     least_same (IsPartnerBelow n slots a b cube n) (IsPartner n slots a b cube) o (below_partner n slots a b cube)
     (λ c. partner_below n slots a b cube c all own) h
+
+-- the least partner so far
+pub ruleset least = (least_start, least_more, least_end)

@@ -397,3 +397,9 @@ small_transformed (suc n) o table h all =
     (small_transformed n o (take (2 ^ n) table) (length-low n table h) low)
     (small_transformed n o (xor_each (take (2 ^ n) table) (drop (2 ^ n) table)) (length-mended n table h)
     (small_each o (take (2 ^ n) table) (drop (2 ^ n) table) (length-low n table h ∙ sym (length-high n table h)) low high))
+
+-- what the list of a table is proved by
+pub ruleset listed = (small_transformed, reed_muller-transformed, value-reed_muller)
+
+-- cubes that are listed so far
+pub ruleset filling = (filling_some, filling_none, set_cubes_valid)

@@ -11,6 +11,7 @@ use Rattle.rv_pla.specs.Cube.{symbol_of}
 use Rattle.rv_gate.proofs.LineSets.{has-or}
 use Rattle.rv_cube.specs.Distance.{cares, wants_one, put, third}
 use Rattle.rv_cube.specs.inside.Slotted.{turn}
+use Rattle.rv_cube.proofs.inside.Neighbours.{third_turn}
 
 -- a line goes in or out where another set holds it
 flipped_at : (set k bit : ℕ) → bit < 2 → bit_xor set (bit * k) ≡ cond (eqb bit 1) (bit_xor set k) set
@@ -84,3 +85,6 @@ pub twice_want : (care want line : ℕ)
     → cond (has (bit_or care want) line) (bit_xor want (2 ^ line)) want
     ≡ put want line (wants_one (third (symbol_of (has care line) (has want line)) (turn (symbol_of (has care line) (has want line)))))
 twice_want care want line = grind (arith, bit_xor, has-or, want_twice_by)
+
+-- a symbol that is turned twice
+pub ruleset turned_twice = (third_turn, twice_care, twice_want)

@@ -95,3 +95,6 @@ merged_in_below n slots i j cube y h e l ij =
 pub merged_in_above : (n : ℕ) (slots : List Cube) (i j : ℕ) (cube y : Cube) → Twin slots i j cube → y ≡ at slots j → i < length slots → j ≤ i
     → set (set slots i no_cube) j (or_empty (carrying (both cube y))) ≡ settled n slots i cube
 merged_in_above n slots i j cube y h e l ij = grind (arith, no_cube, or_empty, settled_above)
+
+-- two slots with the same inputs become one
+pub ruleset become_one = (twin_is, twin_cube, merged_in_below, merged_in_above, replaced_below, replaced_above)

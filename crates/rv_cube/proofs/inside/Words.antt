@@ -64,3 +64,6 @@ matches_by_sets cube n number set is small =
     )
 
 pub ruleset matched = (matches_by_sets)
+
+-- a cube matches the words that hold its controls
+pub ruleset held = (matches-holds)

@@ -1,9 +1,13 @@
 -- A filter: how many inputs of each place lead to a slot, where these are none or one.
-use Rattle.std.specs.Prelude.{◌≡◌, ◌==◌, ℕ, ◌*◌, List, slice_index, Option, None, Some, bit_xor, if◌then◌else◌}
+use Rattle.std.specs.Prelude.{◌≡◌, ◌==◌, ℕ, ◌*◌, ◌%◌, List, slice_index, Option, None, Some, bit_xor, if◌then◌else◌}
+
+-- what the ones add to a place, spread over 19 bits
+abbrev pub ones_place : ℕ → ℕ
+ones_place want = bit_xor (want * 8) (want * 128 % 524288)
 
 -- the place of a cube's inputs, which is linear: an exclusive or of inputs is one of their places
 unfoldable pub filter_place : ℕ × ℕ → ℕ
-filter_place key = bit_xor (bit_xor key.0 (key.1 * 4)) (key.1 * 8)
+filter_place key = bit_xor key.0 (ones_place key.1)
 
 abbrev pub count_at : List ℕ → ℕ → ℕ
 count_at counts place = slice_index counts place

@@ -91,3 +91,9 @@ next_turn n step turns least jumps new_least new_jumps s t a b =
 pub next_stays : (n k : ℕ) (images : List ℕ) → IsPerm n images → k < n → StaysWithin (2 ^ n) (next k images)
 unfolding next
 next_stays n k images p h x l = other_within n k _ h (preimage_within n _ images p (other_within n k _ h (image_within n x images p l)))
+
+-- a word and its pair are in a table
+pub ruleset sides = (length-table, other_within)
+
+-- turns begin and stay among the words
+pub ruleset turns = (first_turn, jumps_within, next_stays)

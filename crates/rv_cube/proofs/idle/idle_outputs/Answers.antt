@@ -1,28 +1,17 @@
-use Rattle.std.proofs.Common.{◌≡◌, ◌+◌, ◌-◌, ◌*◌, ◌%◌, ◌<◌, ◌≤◌, ◌^◌, ℕ, Bool, true, false, List, length, get_or, sym, ◌∙◌, ap, subst, arith}
-use Rattle.std.proofs.lemmas.List.FromFn.{length-map-range_with_len}
+use Rattle.std.proofs.Common.{◌≡◌, ◌+◌, ◌-◌, ◌*◌, ◌%◌, ◌<◌, ◌≤◌, ◌^◌, ℕ, Bool, true, false, List, get_or, sym, ◌∙◌, ap, subst, arith}
 use Rattle.std.specs.Prelude.{bit_and}
 use Rattle.std.proofs.lemmas.Nat.{one_shl}
 use Rattle.rv_pla.specs.declared.cube.Cube.{Cube}
 use Rattle.rv_gate.specs.Word.{word_of}
 use Rattle.rv_pla.specs.Cube.{matches}
 use Rattle.rv_pla.specs.Pla.{TwoLevel}
-use Rattle.rv_cube.specs.inside.Idle.{free_at, free_sets}
+use Rattle.rv_cube.specs.inside.Idle.{free_sets}
 use Rattle.rv_cube.proofs.inside.IdleSets.{Idles, idles_on, idles_off, idles_skip, idles_gone, idles_all}
 use Rattle.rv_cube.proofs.idle.idle_outputs.Goals as goal
 
 -- the words that are counted
 count_is : (n inputs : ℕ) → n ≡ inputs → inputs ≤ 16 → 1 * 2 ^ n % 2 ^ 32 ≡ 2 ^ inputs
 count_is n inputs e few = let p = one_shl n 32 (omega arith) in let q : 2 ^ n ≡ 2 ^ inputs = ap (λ k. 2 ^ k) e in omega arith
-
-length-free : (pla : TwoLevel) → length (free_sets pla) ≡ 2 ^ pla.inputs
-length-free pla = length-map-range_with_len (free_at pla) 0 (2 ^ pla.inputs)
-
-pub bounds-free-number : goal.bounds-free-number
-bounds-free-number c =
-    let n = count_is c.inputs-inputs.result c.args.pla.now.inputs c.inputs-inputs.ensures.value c.inputs-inputs.ensures.valid.few_inputs in
-    let t = c.loop-number-test.true in
-    let l : length c.args.free.now ≡ 2 ^ c.args.pla.now.inputs = ap length c.requires.free ∙ length-free c.args.pla.now in
-    omega arith
 
 -- a word that the cube matches
 matched : (pla : TwoLevel) (cube : Cube) (n number idle : ℕ) (free : List ℕ) (t : Bool) → n ≡ pla.inputs → free ≡ free_sets pla → Idles pla cube number idle → number < 2 ^ pla.inputs → t ≡ matches cube (word_of n number) → t ≡ true
@@ -39,17 +28,6 @@ returns-then-idle-eq0 c j h =
     let i = matched pla c.args.cube c.inputs-inputs.result k c.loop-number.idle c.args.free.now c.matches.result c.inputs-inputs.ensures.value c.requires.free c.loop-number.invariant.idles (omega arith) c.matches.ensures c.if-matches.true in
     let P : ℕ → Type 0 = Idles pla c.args.cube (k + 1) in
     idles_gone pla c.args.cube (k + 1) (subst P c.if-idle-eq0.true i) (omega arith) j h
-
-pub loop-number-preserved-then-matches : goal.loop-number-preserved-then-matches
-loop-number-preserved-then-matches c =
-    let pla : TwoLevel = c.args.pla.now in
-    let k : ℕ = c.loop-number.number in
-    let n = count_is c.inputs-inputs.result pla.inputs c.inputs-inputs.ensures.value c.inputs-inputs.ensures.valid.few_inputs in
-    let t = c.loop-number-test.true in
-    record {
-      idles = matched pla c.args.cube c.inputs-inputs.result k c.loop-number.idle c.args.free.now c.matches.result c.inputs-inputs.ensures.value c.requires.free c.loop-number.invariant.idles (omega arith) c.matches.ensures c.if-matches.true;
-      within = omega arith;
-    }
 
 -- words that are passed over
 skipped : (pla : TwoLevel) (cube : Cube) (n number next idle : ℕ) → n ≡ pla.inputs → Idles pla cube number idle → matches cube (word_of n number) ≡ false → number < next

@@ -3,7 +3,8 @@ use Rattle.rv_cube.specs.Esop.{terms_of}
 use Rattle.rv_cube.specs.Reduction.{at, reduced}
 use Rattle.rv_cube.specs.inside.Slotted.{Slotted}
 use Rattle.rv_cube.specs.inside.Idle.{HasNoIdle, IsFirstIdle}
-use Rattle.rv_cube.proofs.inside.IdleSlots.{idle_full, turn, begun, all_done, none_idle}
+use Rattle.rv_cube.proofs.inside.IdleSlots.{turn, begun, all_done, none_idle}
+use Rattle.rv_cube.proofs.inside.Meaning.{are_reduced_for}
 use Rattle.rv_cube.proofs.reduce_for.reduce_for.Goals as goal
 
 pub drops-init : goal.drops-init
@@ -22,12 +23,6 @@ drops-init c =
       same = b.same;
       vain = rw (c.in_ok-vain.ensures.items_if_clones_equal (λ y e. e)) (none_idle c.args.pla.now c.len.result);
     }
-
-pub drop_output-requires-clause-stands : goal.drop_output-requires-clause-stands
-drop_output-requires-clause-stands c =
-    let P : Slotted → Type 0 = λ v. IsFirstIdle c.args.pla.now v.cubes c.in-Some.slot c.in-Some.output in
-    let f = subst P c.slots-in-drops.ensures c.in-Some.ensures.found in
-    idle_full c.args.pla.now c.drops.reduction.cubes c.in-Some.slot c.in-Some.output f.least.idle
 
 pub drops-smaller : goal.drops-smaller
 drops-smaller c =
@@ -49,9 +44,10 @@ drops-preserved c =
       vain = c.in-Some.ensures.vain;
     }
 
-pub returns-in-None : goal.returns-in-None
-returns-in-None c =
+pub returns-in-None-clause-means : goal.returns-in-None-clause-means
+returns-in-None-clause-means c =
     let P : Slotted → Type 0 = λ v. (a : ℕ) → a < length v.cubes → HasNoIdle c.args.pla.now (at v.cubes a) in
-    c.into_cubes.ensures
+    are_reduced_for c.args.pla.now c.args.cubes.now c.into_cubes.result.items
+    (c.into_cubes.ensures
     ∙ sym (all_done c.args.pla.now c.drops.reduction.cubes c.drops.invariant.settled (subst P c.slots-in-drops.ensures c.in-None.ensures.found))
-    ∙ c.drops.invariant.same
+    ∙ c.drops.invariant.same)

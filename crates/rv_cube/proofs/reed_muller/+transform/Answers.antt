@@ -2,14 +2,11 @@ use Rattle.std.proofs.Common.{◌≡◌, ◌<◌, ℕ, suc, ◌+◌, ◌-◌, �
 use Rattle.std.proofs.lemmas.Nat.{one_shl}
 use Rattle.std.proofs.Math.Nat.{pow-suc}
 use Rattle.rv_cube.specs.inside.Transform.{transformed, xor_each}
-use Rattle.rv_cube.proofs.inside.ReedMuller.{transformed_none, transformed_halves}
+use Rattle.rv_cube.proofs.inside.ReedMuller.{transformed_halves}
 use Rattle.rv_cube.proofs.reed_muller.+transform.Goals as goal
 
 double : (n : ℕ) → 0 < n → 2 ^ n ≡ 2 ^ (n - 1) + 2 ^ (n - 1)
 double n h = let p : n ≡ suc (n - 1) = omega arith in ap (λ k. 2 ^ k) p ∙ omega (arith, pow-suc 2 (n - 1))
-
-pub returns-then-inputs-eq0 : goal.returns-then-inputs-eq0
-returns-then-inputs-eq0 t c = transformed_none c.args.inputs c.args.table.now c.if-inputs-eq0.true
 
 pub split_at_mut-low-requires : goal.split_at_mut-low-requires
 split_at_mut-low-requires t c =

@@ -1,13 +1,6 @@
 use Rattle.std.proofs.Common.{sym}
-use Rattle.rv_cube.proofs.inside.Full.{full_within}
-use Rattle.rv_cube.proofs.inside.Keys.{slot_of-some}
 use Rattle.rv_cube.proofs.inside.Watching.{link_found, link_missed}
 use Rattle.rv_cube.proofs.watch.link_at.Goals as goal
-
-pub link-requires-clause-g_in : goal.link-requires-clause-g_in
-link-requires-clause-g_in c =
-    let s = c.args.slots.now.cubes in
-    full_within s c.in-Some.g (slot_of-some s c.args.cube c.in-Some.g (sym c.in-Some.ensures.value)).0
 
 pub returns-in-Some : goal.returns-in-Some
 returns-in-Some c =

@@ -1,15 +1,9 @@
-use Rattle.std.proofs.Common.{◌≡◌, ◌<◌, ◌-◌, ◌^◌, ℕ, List, length, ap, sym, subst, ◌∙◌, arith}
+use Rattle.std.proofs.Common.{◌<◌, ◌-◌, ℕ, List, length, ap, sym, subst, ◌∙◌}
 use Rattle.std.specs.Prelude.{All}
-use Rattle.rv_dbs.specs.Walk.{next, least_from}
-use Rattle.rv_dbs.specs.Singles.{table_by}
+use Rattle.rv_dbs.specs.Walk.{next}
 use Rattle.rv_dbs.specs.inside.Jumps.{lesser, twice}
-use Rattle.rv_dbs.proofs.inside.Jumps.{first_turn, next_turn, jumps_within, next_stays}
+use Rattle.rv_dbs.proofs.inside.Jumps.{next_turn, jumps_within, next_stays}
 use Rattle.rv_dbs.proofs.least.least_words.Goals as goal
-
-pub loop-turn-init : goal.loop-turn-init
-loop-turn-init c =
-    first_turn c.args.perm.now.lines (next c.args.k c.args.perm.now.images) _ _
-    (c.in_ok-least.ensures ∙ ap (λ m. table_by m (λ (x : ℕ). x)) c.lines-lines.ensures.value) c.in_ok-jumps.ensures
 
 pub lesser-requires-clause-within : goal.lesser-requires-clause-within
 lesser-requires-clause-within c =
@@ -17,12 +11,6 @@ lesser-requires-clause-within c =
     let w = jumps_within c.args.perm.now.lines (next c.args.k c.args.perm.now.images) c.loop-turn.turn _ _
     (next_stays _ c.args.k _ c.lines-lines.ensures.valid c.requires) c.loop-turn.invariant in
     subst P (sym c.deref-in-loop-turn.ensures.value) w.1
-
-pub lesser-requires-clause-as_many : goal.lesser-requires-clause-as_many
-lesser-requires-clause-as_many c =
-    let w = jumps_within c.args.perm.now.lines (next c.args.k c.args.perm.now.images) c.loop-turn.turn _ _
-    (next_stays _ c.args.k _ c.lines-lines.ensures.valid c.requires) c.loop-turn.invariant in
-    ap length c.deref.ensures.value ∙ w.0 ∙ sym (ap length c.deref-in-loop-turn.ensures.value)
 
 pub twice-requires : goal.twice-requires
 twice-requires c =
@@ -37,10 +25,3 @@ loop-turn-preserved c =
     (next_stays _ c.args.k _ c.lines-lines.ensures.valid c.requires) c.loop-turn.invariant
     (c.in_ok-least-2.ensures ∙ ap (λ l. lesser l c.deref-in-loop-turn.result.now) c.deref.ensures.value ∙ ap (lesser c.loop-turn.least.items) c.deref-in-loop-turn.ensures.value)
     (c.in_ok-jumps-2.ensures ∙ ap twice c.deref-in-loop-turn-2.ensures.value)
-
-pub returns : goal.returns
-returns c =
-    let n : ℕ = c.args.perm.now.lines in
-    let value = c.lines-lines.ensures.value in
-    let all : c.loop-turn.turn ≡ c.args.perm.now.lines = omega arith in
-    c.loop-turn.invariant.least_is ∙ ap (λ m. table_by c.args.perm.now.lines (least_from (next c.args.k c.args.perm.now.images) (2 ^ m - 1))) all

@@ -1,4 +1,4 @@
-use Rattle.std.proofs.Common.{◌≡◌, ◌-◌, ◌++◌, ℕ, List, [], ap, sym, ◌∙◌, subst, arith}
+use Rattle.std.proofs.Common.{◌≡◌, ◌-◌, ◌++◌, ℕ, List, [], ap, sym, ◌∙◌, subst}
 use Rattle.rv_gate.specs.declared.gate.Shape.{Shape}
 use Rattle.rv_dbs.specs.Singles.{singles, singles_from}
 use Rattle.rv_dbs.specs.Meaning.{IsSingles}
@@ -7,16 +7,6 @@ use Rattle.rv_dbs.proofs.singles.gates_for.Goals as goal
 
 from_none : (n m : ℕ) (images : List ℕ) (none gates : List Shape) → m ≡ n → none ≡ [] → gates ≡ none ++ singles_from n (m - 1) images → gates ≡ singles n images
 from_none n m images none gates e z is = is ∙ ap (λ g. g ++ singles_from n (m - 1) images) z ∙ ap (λ j. singles_from n (j - 1) images) e
-
--- no line comes before the first one
-pub push_singles-requires-clause-kept : goal.push_singles-requires-clause-kept
-push_singles-requires-clause-kept c i x low high l =
-    let value = c.lines-lines.ensures.value in
-    let some = c.lines-lines.ensures.valid.0 in
-    absurd (omega (arith, value, low, high))
-
-pub returns-clause-gates : goal.returns-clause-gates
-returns-clause-gates c = from_none _ _ _ _ _ c.lines-lines.ensures.value c.new-gates.ensures.items c.in_ok-push_singles.ensures
 
 pub returns-clause-means : goal.returns-clause-means
 returns-clause-means c =

@@ -8,13 +8,6 @@ use Rattle.rv_dbs.proofs.Between.{turned_within}
 use Rattle.rv_dbs.proofs.Loops.{values_full, turned_by_values}
 use Rattle.rv_dbs.proofs.singles.images_between.Goals as goal
 
-pub turned-requires-clause-word : goal.turned-requires-clause-word
-turned-requires-clause-word c =
-    let n : ℕ = c.args.perm.now.lines in
-    let size : c.word_count-x-end.result ≡ 2 ^ c.args.perm.now.lines = c.word_count-x-end.ensures ∙ ap (λ m. 2 ^ m) c.lines.ensures.value in
-    let len = values_full c.args.perm.now.lines c.args.perm.now.lines _ _ refl c.requires.first in
-    omega (arith, size, len)
-
 pub get-requires : goal.get-requires
 get-requires c =
     let size : c.word_count-x-end.result ≡ 2 ^ c.args.perm.now.lines = c.word_count-x-end.ensures ∙ ap (λ m. 2 ^ m) c.lines.ensures.value in

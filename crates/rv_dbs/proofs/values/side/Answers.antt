@@ -1,22 +1,8 @@
-use Rattle.std.proofs.Common.{◌<◌, ◌^◌, ℕ, ltb, length, get_or, ap, ◌∙◌, arith}
+use Rattle.std.proofs.Common.{◌<◌, ◌^◌, ℕ, ltb, get_or, ap, ◌∙◌}
 use Rattle.rv_dbs.specs.Walk.{other, side, least_on_walk}
-use Rattle.rv_dbs.proofs.inside.Jumps.{length-table, table_at}
+use Rattle.rv_dbs.proofs.inside.Jumps.{table_at}
 use Rattle.rv_dbs.proofs.Pairs.{other_within}
 use Rattle.rv_dbs.proofs.values.side.Goals as goal
-
-pub bounds-least-other : goal.bounds-least-other
-bounds-least-other c =
-    let n : ℕ = c.args.perm.now.lines in
-    let len = ap length c.requires.least ∙ length-table c.args.perm.now.lines _ in
-    let o = other_within c.args.perm.now.lines c.args.k c.args.x c.requires.line c.requires.word in
-    let e = c.other.ensures in
-    omega (arith, len, o, e)
-
-pub bounds-least-x : goal.bounds-least-x
-bounds-least-x c =
-    let len = ap length c.requires.least ∙ length-table c.args.perm.now.lines _ in
-    let h = c.requires.word in
-    omega (arith, len, h)
 
 pub returns : goal.returns
 unfolding side

@@ -2,7 +2,7 @@ use Rattle.std.proofs.Common.{◌≡◌, ◌*◌, ◌%◌, ◌<◌, ◌^◌, ℕ
 use Rattle.std.specs.Prelude.{bit_xor}
 use Rattle.std.proofs.lemmas.Nat.{one_shl}
 use Rattle.std.proofs.lemmas.Result.{on_ok_weaker}
-use Rattle.rv_cube.proofs.inside.IdleSlots.{drop_some, drop_none}
+use Rattle.rv_cube.proofs.inside.IdleSlots.{drop_some}
 use Rattle.rv_cube.proofs.reduction.Reduction.drop_in.Goals as goal
 
 -- the set with one output
@@ -16,8 +16,3 @@ returns-then-cube-ne0-clause-dropped c =
     (drop_some c.self.inside.slots c.args.self.now c.clear.new.self c.put.new.self c.args.i c.args.output _ c.cube-cube.result c.self.view_is c.requires.stands c.self.invariant.keyed
     c.cube-cube.ensures.value e c.if-cube-ne0.true c.clear.ensures)
     c.put.ensures.ok
-
-pub returns-else-cube-ne0-clause-dropped : goal.returns-else-cube-ne0-clause-dropped
-returns-else-cube-ne0-clause-dropped c =
-    let e = one_output c.cube-cube.result.outs c.args.output c.requires.output in
-    drop_none c.self.inside.slots c.args.self.now c.clear.new.self c.args.i c.args.output _ c.cube-cube.result c.self.view_is c.cube-cube.ensures.value e c.if-cube-ne0.false c.clear.ensures

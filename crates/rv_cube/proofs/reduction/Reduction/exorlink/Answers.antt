@@ -1,18 +1,9 @@
 use Rattle.std.proofs.lemmas.Result.{on_ok_weaker}
 use Rattle.rv_cube.proofs.inside.MadeSteps.{comes_in, exorlinked_steps, exorlinks}
-use Rattle.std.proofs.Common.{◌≡◌, ◌<◌, ℕ, false, length, sym, ◌∙◌, ap, subst}
-use Rattle.rv_pla.specs.Cube.{IsCube}
-use Rattle.rv_pla.specs.declared.cube.TheConstants.{MOST_OUTPUTS}
+use Rattle.std.proofs.Common.{◌≡◌, ◌<◌, false, length, sym, subst}
 use Rattle.rv_cube.specs.inside.Slots.{full}
 use Rattle.rv_cube.specs.inside.Slotted.{Slotted}
 use Rattle.rv_cube.proofs.reduction.Reduction.exorlink.Goals as goal
-
-pub put_any-requires-clause-within : goal.put_any-requires-clause-within
-put_any-requires-clause-within c =
-    (comes_in c.args.self.now c.clear.new.self c.clear-2.new.self c.clear-3.new.self c.args.place c.args.other c.args.partner c.args.own c.args.rest c.cube-third.result c.merge_at-low.result.0 c.merge_at-low.result.1
-    (exorlinks c.self.inside.slots c.args.self.now c.clear.new.self c.clear-2.new.self c.clear-3.new.self c.args.place c.args.other c.args.partner c.args.own c.args.rest c.cube-third.result c.inputs.result c.merge_at-low.result
-    c.self.view_is c.self.invariant.valid c.self.invariant.keyed c.requires c.cube-third.ensures.value c.inputs.ensures.value c.merge_at-low.ensures
-    c.clear.ensures c.clear-2.ensures c.clear-3.ensures)).low_within
 
 pub put_any-requires-clause-empty : goal.put_any-requires-clause-empty
 put_any-requires-clause-empty c =
@@ -53,17 +44,3 @@ returns-clause-steps c =
     c.self.view_is c.self.invariant.valid c.self.invariant.keyed c.requires c.cube-third.ensures.value c.inputs.ensures.value c.merge_at-low.ensures
     c.clear.ensures c.clear-2.ensures c.clear-3.ensures)
     c.in_ok-put_any.ensures.ok) c.put.ensures.ok
-
-pub put-requires-clause-some : goal.put-requires-clause-some
-put-requires-clause-some c = c.requires.rest_carries
-
-pub put-requires-clause-valid : goal.put-requires-clause-valid
-put-requires-clause-valid c =
-    let inputs = λ (v : Slotted). v.inputs in
-    let same = c.put_any.ensures.inputs ∙ ap inputs c.clear-3.ensures ∙ ap inputs c.clear-2.ensures ∙ ap inputs c.clear.ensures in
-    subst (λ (n : ℕ). IsCube n MOST_OUTPUTS c.args.rest) (sym same) c.requires.rest_valid
-
-pub returns-clause-inputs : goal.returns-clause-inputs
-returns-clause-inputs c =
-    let inputs = λ (v : Slotted). v.inputs in
-    c.put.ensures.inputs ∙ c.put_any.ensures.inputs ∙ ap inputs c.clear-3.ensures ∙ ap inputs c.clear-2.ensures ∙ ap inputs c.clear.ensures

@@ -1,5 +1,4 @@
-use Rattle.std.proofs.lemmas.Result.{on_ok_weaker}
-use Rattle.rv_cube.proofs.inside.MadeSteps.{merge_valid, merged_steps, merging}
+use Rattle.rv_cube.proofs.inside.MadeSteps.{merge_valid, merging}
 use Rattle.rv_cube.proofs.reduction.Reduction.merge.Goals as goal
 
 pub put_any-requires-clause-valid : goal.put_any-requires-clause-valid
@@ -7,10 +6,3 @@ put_any-requires-clause-valid c =
     merge_valid c.args.self.now c.clear.new.self c.clear-2.new.self c.args.a c.args.b c.cube-x.result c.cube-y.result c.merge-one.result
     (merging c.self.inside.slots c.args.self.now c.clear.new.self c.clear-2.new.self c.args.a c.args.b c.cube-x.result c.cube-y.result c.inputs.result c.merge-one.result
     c.self.view_is c.self.invariant.valid c.self.invariant.keyed c.requires c.cube-x.ensures.value c.cube-y.ensures.value c.inputs.ensures.value c.merge-one.ensures c.clear.ensures c.clear-2.ensures)
-
-pub returns-clause-steps : goal.returns-clause-steps
-returns-clause-steps c =
-    on_ok_weaker c.put_any.result (merged_steps c.args.self.now c.clear.new.self c.clear-2.new.self c.put_any.new.self c.args.a c.args.b c.cube-x.result c.cube-y.result c.merge-one.result
-    (merging c.self.inside.slots c.args.self.now c.clear.new.self c.clear-2.new.self c.args.a c.args.b c.cube-x.result c.cube-y.result c.inputs.result c.merge-one.result
-    c.self.view_is c.self.invariant.valid c.self.invariant.keyed c.requires c.cube-x.ensures.value c.cube-y.ensures.value c.inputs.ensures.value c.merge-one.ensures c.clear.ensures c.clear-2.ensures))
-    c.put_any.ensures.ok

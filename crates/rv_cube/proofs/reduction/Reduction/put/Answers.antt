@@ -2,12 +2,7 @@ use Rattle.std.proofs.Common.{ℕ, List, sym, subst}
 use Rattle.rv_cube.specs.inside.Slotted.{Slotted}
 use Rattle.rv_cube.specs.inside.Watching.{IsListedNear}
 use Rattle.rv_cube.proofs.reduction.Reduction.put.Goals as goal
-use Rattle.rv_cube.proofs.inside.Keeps.{Puts, put_keeps, near_within}
-
-pub watch-requires-clause-within : goal.watch-requires-clause-within
-watch-requires-clause-within c =
-    near_within c.self.inside.slots c.settle.new.self c.args.i c.args.cube c.list_near.new.near.items c.deref.result.now c.in_ok-list_near.ensures.all_full c.deref.ensures.value
-    c.in_ok-settle.ensures.ok
+use Rattle.rv_cube.proofs.inside.Keeps.{Puts, put_keeps}
 
 pub invariant_of-self-2 : goal.invariant_of-self-2
 invariant_of-self-2 c =

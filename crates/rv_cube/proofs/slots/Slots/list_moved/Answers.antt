@@ -2,24 +2,13 @@ use Rattle.std.proofs.lemmas.Result.{on_ok_weaker}
 use Rattle.rv_cube.specs.declared.distance.Turns.TheVariants.{Once, Twice}
 use Rattle.rv_cube.specs.inside.Moved.{turned_by}
 use Rattle.rv_cube.proofs.inside.Moved.{gains_either}
-use Rattle.rv_cube.proofs.inside.Probes.{place_after, step_within}
+use Rattle.rv_cube.proofs.inside.Probes.{place_after}
 use Rattle.rv_cube.proofs.slots.Slots.list_moved.Goals as goal
-
-pub list_at-requires-clause-within : goal.list_at-requires-clause-within
-list_at-requires-clause-within c = step_within c.args.place c.args.row.now.one_step c.requires.within c.requires.row.one.within
 
 pub list_at-requires-clause-place : goal.list_at-requires-clause-place
 list_at-requires-clause-place c =
     let cube = c.args.row.now.cube in
     place_after (turned_by cube c.args.p c.args.turns) cube (turned_by cube c.args.row.now.q Once) c.args.place c.args.row.now.one_step c.requires.place c.requires.row.one
-
-pub list_at-requires-2-clause-within : goal.list_at-requires-2-clause-within
-list_at-requires-2-clause-within c = step_within c.args.place c.args.row.now.other_step c.requires.within c.requires.row.other.within
-
-pub list_at-requires-2-clause-place : goal.list_at-requires-2-clause-place
-list_at-requires-2-clause-place c =
-    let cube = c.args.row.now.cube in
-    place_after (turned_by cube c.args.p c.args.turns) cube (turned_by cube c.args.row.now.q Twice) c.args.place c.args.row.now.other_step c.requires.place c.requires.row.other
 
 pub returns : goal.returns
 returns c =

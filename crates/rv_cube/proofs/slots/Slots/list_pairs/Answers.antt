@@ -2,7 +2,7 @@ use Rattle.std.proofs.Common.{◌≡◌, ◌≢◌, ◌+◌, ℕ, get_or, refl, 
 use Rattle.rv_cube.specs.declared.distance.Turns.TheVariants.{Once, Twice}
 use Rattle.rv_cube.specs.inside.Moved.{turned_by}
 use Rattle.rv_cube.specs.inside.Slotted.{Gains, IsTwoApartFrom}
-use Rattle.rv_cube.proofs.inside.Listing.{from_start, from_more}
+use Rattle.rv_cube.proofs.inside.Listing.{from_more}
 use Rattle.rv_cube.proofs.inside.Moved.{gains_moved, skip_input}
 use Rattle.rv_cube.proofs.inside.Probes.{step_is}
 use Rattle.rv_cube.proofs.slots.Slots.list_pairs.Goals as goal
@@ -25,9 +25,6 @@ list_moved-requires-then-has-clause-row c = record {
   other = step_is c.args.cube (turned_by c.args.cube c.args.q Twice) c.filter_place-place.result (get_or c.args.near.now.other_places c.args.q 0) c.filter_place-place.ensures.value
       (c.requires.other_places.is c.args.q c.requires.within) c.filter_place-place.ensures.within (c.requires.other_places.within c.args.q c.requires.within);
 }
-
-pub loop-p-init : goal.loop-p-init
-loop-p-init c = from_start c.args.self.now.cubes c.args.cube c.args.q c.args.found.now.items
 
 pub loop-p-preserved : goal.loop-p-preserved
 loop-p-preserved c =

@@ -3,22 +3,11 @@ use Rattle.std.specs.Prelude.{All, bit_or}
 use Rattle.rv_pla.specs.Cube.{IsCube}
 use Rattle.rv_pla.specs.declared.cube.TheConstants.{MOST_OUTPUTS}
 use Rattle.rv_cube.specs.inside.Slotted.{Slotted, AsksWithin, Gains, IsTwoApartBelow}
-use Rattle.rv_cube.proofs.inside.Listing.{below_start, below_more, listed, listed_full}
+use Rattle.rv_cube.proofs.inside.Listing.{below_more, listed}
 use Rattle.rv_cube.proofs.inside.Moved.{skip_row}
 use Rattle.rv_cube.proofs.inside.Noting.{own_asked, more_asked}
 use Rattle.rv_cube.proofs.slots.Slots.two_apart.Goals as goal
 use Rattle.rv_cube.proofs.slots.Slots.two_apart.Goals.{then-has+in_ok-list_pairs, else-has}
-
-pub loop-q-init : goal.loop-q-init
-loop-q-init c = below_start c.args.self.now.cubes c.args.cube c.clear.new.self.items c.clear.ensures.items
-
-pub list_pairs-requires-clause-own : goal.list_pairs-requires-clause-own
-list_pairs-requires-clause-own c = own_asked c.self.inside.asked c.args.cube
-
-pub list_pairs-requires-clause-asks : goal.list_pairs-requires-clause-asks
-list_pairs-requires-clause-asks c =
-    subst (λ (t : Slotted). All (AsksWithin (bit_or c.self.inside.asked c.args.cube.care)) t.cubes) c.self.view_is
-    (more_asked c.self.inside.asked c.args.cube c.self.inside.cubes.items c.self.invariant.asks)
 
 pub loop-q-preserved : goal.loop-q-preserved
 loop-q-preserved c =
@@ -34,10 +23,6 @@ loop-q-preserved c =
           (skip_row c.args.self.now.cubes c.args.cube (bit_or c.self.inside.asked c.args.cube.care) c.loop-q.q [] c.loop-q.found.items (own_asked c.self.inside.asked c.args.cube) asks
           (sym c.has.ensures ∙ w.if-has.false) c.loop-q.invariant)
     ]
-
-pub returns-clause-full : goal.returns-clause-full
-returns-clause-full c =
-    listed_full c.args.self.now.cubes (IsTwoApartBelow c.args.self.now.cubes c.args.cube c.loop-q.q) c.loop-q.found.items c.loop-q.invariant
 
 pub returns-clause-lists : goal.returns-clause-lists
 returns-clause-lists c =
