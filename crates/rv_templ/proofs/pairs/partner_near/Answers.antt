@@ -1,0 +1,44 @@
+use Rattle.std.proofs.Common.{arith, sym, ◌∙◌, length, map}
+use Rattle.std.proofs.lemmas.List.{length-map}
+use Rattle.rv_links.specs.Nodes.{Node}
+use Rattle.rv_links.specs.inside.Chains.{nodes_from}
+use Rattle.rv_templ.proofs.inside.LinkedWindows.{shorter_next, coming_few}
+use Rattle.rv_templ.proofs.inside.LookupLaws.{tried_first, tried_live, tried_more, tried_found, tried_stopped, tried_all}
+use Rattle.rv_templ.proofs.pairs.partner_near.Goals as goal
+
+pub loop-at-init : goal.loop-at-init
+loop-at-init c = record {
+  none = tried_first c.args.linked.now.nodes c.gate-gate.result c.args.node c.next-at.result c.recall_invariant.ensures.rising c.recall_invariant.ensures.once c.requires.live c.next-at.ensures;
+  few = omega (arith, coming_few c.next-at.result c.args.linked.now.nodes, length-map c.args.linked.now.nodes (λ (n : Node). n.gate));
+}
+
+pub returns-in-Both-clause-partner : goal.returns-in-Both-clause-partner
+returns-in-Both-clause-partner c =
+    tried_found c.args.linked.now.nodes c.gate-gate.result c.gate.result c.args.node c.in-Some.other c.loop-at.at _ c.recall_invariant.ensures.rising c.recall_invariant.ensures.once c.requires.live
+    c.gate-gate.ensures c.in-Some.is c.loop-at.invariant.none c.gate.ensures (sym c.in-Both.ensures)
+
+pub returns-in-One-clause-partner : goal.returns-in-One-clause-partner
+returns-in-One-clause-partner c =
+    tried_found c.args.linked.now.nodes c.gate-gate.result c.gate.result c.args.node c.in-Some.other c.loop-at.at _ c.recall_invariant.ensures.rising c.recall_invariant.ensures.once c.requires.live
+    c.gate-gate.ensures c.in-Some.is c.loop-at.invariant.none c.gate.ensures (sym c.in-One.ensures)
+
+pub returns-then-last-clause-partner : goal.returns-then-last-clause-partner
+returns-then-last-clause-partner c =
+    tried_stopped c.args.linked.now.nodes c.gate-gate.result c.gate.result c.args.node c.in-Some.other c.number.result c.loop-at.at c.args.stop c.recall_invariant.ensures.rising c.recall_invariant.ensures.once c.requires.live
+    c.gate-gate.ensures c.in-Some.is c.loop-at.invariant.none c.gate.ensures (sym c.in-Apart.ensures) (c.is_stop-last.ensures c.if-last.true) c.number.ensures.value c.requires.stop
+
+pub loop-at-smaller : goal.loop-at-smaller
+loop-at-smaller c =
+    shorter_next c.in-Some.other c.args.linked.now.nodes c.next-at-in-Some.result c.loop-at.at c.recall_invariant.ensures.once
+    (tried_live c.args.linked.now.nodes c.gate-gate.result c.args.node c.in-Some.other c.loop-at.at c.in-Some.is c.loop-at.invariant.none) c.next-at-in-Some.ensures c.in-Some.is
+
+pub loop-at-preserved : goal.loop-at-preserved
+loop-at-preserved c = record {
+  none = tried_more c.args.linked.now.nodes c.gate-gate.result c.gate.result c.args.node c.in-Some.other c.loop-at.at c.next-at-in-Some.result c.recall_invariant.ensures.rising c.recall_invariant.ensures.once
+      c.in-Some.is c.loop-at.invariant.none c.next-at-in-Some.ensures c.gate.ensures (sym c.in-Apart.ensures);
+  few = (let less = loop-at-smaller c in let few = c.loop-at.invariant.few in omega (arith, less, few));
+}
+
+pub returns-clause-partner : goal.returns-clause-partner
+returns-clause-partner c =
+    tried_all c.args.linked.now.nodes c.gate-gate.result c.args.node c.loop-at.at c.recall_invariant.ensures.rising c.recall_invariant.ensures.once c.requires.live c.gate-gate.ensures c.in_default.is c.loop-at.invariant.none
