@@ -1,4 +1,4 @@
-ghost use Rattle.std.specs.Prelude.{◌≡◌, ◌≢◌, ℕ, ◌≤◌, List, IsTrue, IsFalse};
+ghost use Rattle.std.specs.Prelude.{ℕ, ◌≤◌, List};
 ghost use Rattle.rv_links.specs.Nodes.{Node};
 ghost use Rattle.rv_links.specs.Seeking.{Reaches, Found};
 
@@ -16,18 +16,6 @@ pub enum Sought {
 }
 
 impl Sought {
-    /// Whether it tells anything.
-    pub fn is_known(self) -> bool
-        ensures known { IsTrue result → self ≢ Sought.Unknown }
-        ensures unknown { IsFalse result → self ≡ Sought.Unknown }
-    {
-        match self {
-            Sought::Unknown => false,
-            Sought::Nowhere => true,
-            Sought::At(_) => true,
-        }
-    }
-
     /// What two look-ups tell: the first place of both.
     pub fn sooner(self, other: Sought) -> Sought
         ensures first { (x : ℕ) → Reaches self x → Reaches result x }

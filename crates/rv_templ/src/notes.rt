@@ -21,6 +21,7 @@ use crate::along::{Cursor, back, front, gate_count, node_at};
 use crate::joining::{Joined, join};
 use crate::loosening::loosen_joined;
 use crate::pairs::Pair;
+use crate::stops::commutes_before;
 use rv_gate::{Gate, MOST_GATES};
 use rv_links::{Linked, NodeId};
 
@@ -254,15 +255,16 @@ fn forget_made(linked: &mut Linked, b: NodeId, made: &Joined) -> bool
     }
 }
 
-// Whether it is known at once that both gates commute with every gate.
-fn are_free(linked: &Linked, first: Gate, second: Gate) -> bool
-    ensures first { IsTrue result → (id : ℕ) → IsTrue (live id linked.now.nodes) → rule first (node_gate id linked.now.nodes) ≡ true }
-    ensures second { IsTrue result → (id : ℕ) → IsTrue (live id linked.now.nodes) → rule second (node_gate id linked.now.nodes) ≡ true }
+// Whether both gates commute with every gate before a node.
+fn are_free(linked: &Linked, first: Gate, second: Gate, b: NodeId) -> bool
+    requires { IsTrue (live b linked.now.nodes) }
+    ensures first { IsTrue result → (id : ℕ) → IsTrue (live id linked.now.nodes) → id < b → rule first (node_gate id linked.now.nodes) ≡ true }
+    ensures second { IsTrue result → (id : ℕ) → IsTrue (live id linked.now.nodes) → id < b → rule second (node_gate id linked.now.nodes) ≡ true }
 {
-    if !linked.commutes_with_all(first) {
+    if !commutes_before(linked, first, b) {
         return false;
     }
-    linked.commutes_with_all(second)
+    commutes_before(linked, second, b)
 }
 
 /// Forgets what may be wrong after the pair is made, where `here` is its place and all gates before it have a note. Answers
@@ -286,7 +288,7 @@ pub fn forget_pair(linked: &mut Linked, pair: &Pair, here: Cursor, far: usize) -
     let second = linked.gate(b);
     let made = join(first, second);
     linked.set_note(b, 0);
-    let free = are_free(linked, first, second);
+    let free = are_free(linked, first, second, b);
     if free {
         let gone = forget_made(linked, b, &made);
         return if gone { front() } else { here };

@@ -6,7 +6,6 @@ ghost use Rattle.rv_links.specs.inside.Chains.{nodes_from};
 ghost use Rattle.rv_templ.specs.inside.Notes.{Noted, AllNoted, Others, coupled};
 ghost use Rattle.rv_templ.specs.inside.Linking.{IsCursor};
 ghost use Rattle.rv_templ.specs.Pairs.{pair_step};
-ghost use Rattle.rv_templ.specs.inside.Lookups.{Partner};
 ghost use Rattle.rv_templ.specs.inside.Mates.{Mate, NoMate, Candidate, IsStop, IsPairSpot};
 
 use crate::along::{Cursor, node_at};
@@ -24,8 +23,69 @@ pub struct Pair {
     pub b: NodeId,
 }
 
-// How many nodes are tried one by one before gates are looked up.
-const MOST_NEAR: u32 = 16;
+// Up to a stop that is so near the nodes are tried one by one.
+const MOST_NEAR: u32 = 256;
+
+// Whether so few numbers lead to the stop.
+fn is_near(linked: &Linked, node: NodeId, stop: Option<u32>) -> bool
+    requires { IsTrue (live node linked.now.nodes) }
+{
+    match stop {
+        None => false,
+        Some(last) => last <= linked.number(node) + MOST_NEAR,
+    }
+}
+
+// Whether the number is that of the stop.
+fn is_stop(stop: Option<u32>, number: u32) -> bool
+    ensures { IsTrue result → stop ≡ Some number }
+{
+    match stop {
+        None => false,
+        Some(last) => last == number,
+    }
+}
+
+// The nearest node whose gate joins with the node's, looked for node by node up to the stop.
+fn partner_along(linked: &Linked, node: NodeId, stop: Option<u32>) -> Option<NodeId>
+    requires live { IsTrue (live node linked.now.nodes) }
+    requires stop { IsStop linked.now.nodes (node_gate node linked.now.nodes) node stop }
+    ensures { MatchOption result (NoMate linked.now.nodes node) (λ b. Candidate linked.now.nodes node b) }
+{
+    linked.recall_invariant();
+    let gate = linked.gate(node);
+    let mut at = linked.next(node);
+    while let Some(other) = at {
+        match join(gate, linked.gate(other)) {
+            Joined::Both => return Some(other),
+            Joined::One(_) => return Some(other),
+            Joined::Apart => {}
+        }
+        let last = is_stop(stop, linked.number(other));
+        if last {
+            return None;
+        }
+        at = linked.next(other);
+    }
+    None
+}
+
+// The same, where the gates that join with the node's are looked up unless the stop is near.
+fn nearest(linked: &Linked, node: NodeId, stop: Option<u32>) -> Option<NodeId>
+    requires live { IsTrue (live node linked.now.nodes) }
+    requires stop { IsStop linked.now.nodes (node_gate node linked.now.nodes) node stop }
+    ensures { MatchOption result (NoMate linked.now.nodes node) (λ b. Candidate linked.now.nodes node b) }
+{
+    let near = is_near(linked, node, stop);
+    if near {
+        return partner_along(linked, node, stop);
+    }
+    match look_up(linked, node, linked.gate(node)) {
+        Sought::Unknown => partner_along(linked, node, stop),
+        Sought::Nowhere => None,
+        Sought::At(other) => Some(other),
+    }
+}
 
 // The candidate, if no stop is before it.
 fn if_free(linked: &Linked, a: NodeId, b: NodeId, stop: Option<u32>) -> Option<NodeId>
@@ -40,77 +100,6 @@ fn if_free(linked: &Linked, a: NodeId, b: NodeId, stop: Option<u32>) -> Option<N
     }
 }
 
-// Whether the number is that of the stop.
-fn is_stop(stop: Option<u32>, number: u32) -> bool
-    ensures { IsTrue result → stop ≡ Some number }
-{
-    match stop {
-        None => false,
-        Some(last) => last == number,
-    }
-}
-
-// The nearest node whose gate joins with the node's, among so many after it, and none after the stop.
-fn partner_near(linked: &Linked, node: NodeId, stop: Option<u32>, most: u32) -> Sought
-    requires live { IsTrue (live node linked.now.nodes) }
-    requires stop { IsStop linked.now.nodes (node_gate node linked.now.nodes) node stop }
-    ensures partner { Partner linked.now.nodes node result }
-    ensures most { result ≡ Sought.Unknown → most ≤ length linked.now.nodes }
-{
-    linked.recall_invariant();
-    let gate = linked.gate(node);
-    let mut tried = 0;
-    let mut at = linked.next(node);
-    while let Some(other) = at {
-        if tried == most {
-            return Sought::Unknown;
-        }
-        match join(gate, linked.gate(other)) {
-            Joined::Both => return Sought::At(other),
-            Joined::One(_) => return Sought::At(other),
-            Joined::Apart => {}
-        }
-        let last = is_stop(stop, linked.number(other));
-        if last {
-            return Sought::Nowhere;
-        }
-        tried += 1;
-        at = linked.next(other);
-    }
-    Sought::Nowhere
-}
-
-// The same among all, looked up if that tells anything.
-fn nearest_of_all(linked: &Linked, node: NodeId, stop: Option<u32>) -> Sought
-    requires live { IsTrue (live node linked.now.nodes) }
-    requires stop { IsStop linked.now.nodes (node_gate node linked.now.nodes) node stop }
-    ensures partner { Partner linked.now.nodes node result }
-    ensures known { result ≢ Sought.Unknown }
-{
-    linked.recall_invariant();
-    match look_up(linked, node, linked.gate(node)) {
-        Sought::Unknown => partner_near(linked, node, stop, u32::MAX),
-        Sought::Nowhere => Sought::Nowhere,
-        Sought::At(other) => Sought::At(other),
-    }
-}
-
-// The same, where some are tried first if there is a stop.
-fn nearest(linked: &Linked, node: NodeId, stop: Option<u32>) -> Sought
-    requires live { IsTrue (live node linked.now.nodes) }
-    requires stop { IsStop linked.now.nodes (node_gate node linked.now.nodes) node stop }
-    ensures partner { Partner linked.now.nodes node result }
-    ensures known { result ≢ Sought.Unknown }
-{
-    linked.recall_invariant();
-    let most = if stop.is_none() { 0 } else { MOST_NEAR };
-    match partner_near(linked, node, stop, most) {
-        Sought::Unknown => nearest_of_all(linked, node, stop),
-        Sought::Nowhere => Sought::Nowhere,
-        Sought::At(other) => Sought::At(other),
-    }
-}
-
 // The nearest node with which the node is a pair.
 fn partner_of(linked: &Linked, node: NodeId, stop: Option<u32>) -> Option<NodeId>
     requires live { IsTrue (live node linked.now.nodes) }
@@ -118,9 +107,8 @@ fn partner_of(linked: &Linked, node: NodeId, stop: Option<u32>) -> Option<NodeId
     ensures { MatchOption result (NoMate linked.now.nodes node) (λ b. Mate linked.now.nodes node b) }
 {
     match nearest(linked, node, stop) {
-        Sought::Unknown => unreachable!(),
-        Sought::Nowhere => None,
-        Sought::At(other) => if_free(linked, node, other, stop),
+        None => None,
+        Some(other) => if_free(linked, node, other, stop),
     }
 }
 

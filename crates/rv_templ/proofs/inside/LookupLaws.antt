@@ -14,18 +14,19 @@ use Rattle.rv_gate.specs.declared.gate.Shape.{Shape}
 use Rattle.rv_gate.specs.declared.gate.Shape.TheVariants.{Flip, Swap, Peres}
 use Rattle.rv_gate.specs.declared.word.TheConstants.{MOST_LINES}
 use Rattle.rv_gate.proofs.LineSets.{same_lines, has-or, has-xor, has-line, has-none, bit_xor-back}
-use Rattle.rv_links.specs.Order.{lists, next_in, Rising, NoTwice}
+use Rattle.rv_links.specs.Order.{lists, head, next_in, Rising, NoTwice}
 use Rattle.rv_links.specs.Nodes.{Node, ids_in, live, node_gate, gates_in, noted}
 use Rattle.rv_links.specs.declared.sought.Sought.{Sought}
 use Rattle.rv_links.specs.declared.sought.Sought.TheVariants.{Unknown, Nowhere, At}
 use Rattle.rv_links.specs.Seeking.{Tells, Reaches, Found}
+use Rattle.rv_links.proofs.inside.WindowLemmas.{live_first as live_front}
 use Rattle.rv_templ.specs.Gates.{AreGates}
 use Rattle.rv_templ.specs.Pairs.{lone, apart_on, paired, partner}
 use Rattle.rv_templ.specs.inside.Lookups.{Variant}
 use Rattle.rv_templ.specs.inside.Mates.{NoMate, Candidate, Joinless, IsStop, numbers_left}
 use Rattle.rv_templ.specs.inside.Notes.{Apart}
 use Rattle.rv_templ.proofs.JoinLaws.{cond_some, lone_is, line_used, third_some}
-use Rattle.rv_templ.proofs.NodeLists.{apart, gate_at_node, Stands, stands, later_than, sooner_than, is_after, next_least, next_later, walk_more, live_first, live_last, Each, each_of}
+use Rattle.rv_templ.proofs.NodeLists.{apart, gate_at_node, Stands, stands, later_than, sooner_than, is_after, head_least, next_least, next_later, walk_more, live_first, live_last, Each, each_of}
 use Rattle.rv_templ.proofs.inside.PartnerWalk.{none_among, joinless_each, stopped}
 
 -- ---- answers
@@ -281,14 +282,14 @@ tried_all nodes g a at r d on eg e t =
 
 -- so far all commute
 pub record Doubt (nodes : List Node) (g : Shape) (a : ℕ) (at : Option ℕ) : Type 0 where
-  pub later : IfSome at (λ b. (live b nodes ≡ true) × (a < b) × (b < MOST_GATES))
+  pub later : IfSome at (λ b. (live b nodes ≡ true) × (a < b))
   pub free : (x : ℕ) → live x nodes ≡ true → IsBefore x at → a < x → rule g (node_gate x nodes) ≡ true
 
 pub doubt_at : (nodes : List Node) (g : Shape) (a b : ℕ) (at : Option ℕ) → at ≡ Some b → Doubt nodes g a at → Doubt nodes g a (Some b)
 doubt_at nodes g a b at e k = subst (λ (o : Option ℕ). Doubt nodes g a o) e k
 
 pub doubt_more : (nodes : List Node) (g h : Shape) (a b : ℕ) (at next : Option ℕ) → at ≡ Some b → Doubt nodes g a at → h ≡ node_gate b nodes → rule g h ≡ true
-    → IfSome next (λ c. (live c nodes ≡ true) × (b < c) × (c < MOST_GATES)) → ((x : ℕ) → live x nodes ≡ true → b < x → IsBefore x next → rule g (node_gate x nodes) ≡ true) → Doubt nodes g a next
+    → IfSome next (λ c. (live c nodes ≡ true) × (b < c)) → ((x : ℕ) → live x nodes ≡ true → b < x → IsBefore x next → rule g (node_gate x nodes) ≡ true) → Doubt nodes g a next
 doubt_more nodes g h a b at next e k eh r later free =
     let w = doubt_at nodes g a b at e k in
     record {
@@ -297,21 +298,49 @@ doubt_more nodes g h a b at next e k eh r later free =
           walk_more (λ y. a < y → rule g (node_gate y nodes) ≡ true) nodes b next (λ y l q p. w.free y l q p) (λ _. ap (rule g) (sym eh) ∙ r) (λ y l q p _. free y l q p) x on before lt;
     }
   where
-    later_still : (o : Option ℕ) → IfSome o (λ c. (live c nodes ≡ true) × (b < c) × (c < MOST_GATES)) → a < b → IfSome o (λ c. (live c nodes ≡ true) × (a < c) × (c < MOST_GATES))
+    later_still : (o : Option ℕ) → IfSome o (λ c. (live c nodes ≡ true) × (b < c)) → a < b → IfSome o (λ c. (live c nodes ≡ true) × (a < c))
     later_still None k lt = tt
-    later_still (Some c) k lt = (k.0, omega (arith, k.1, lt), k.2)
+    later_still (Some c) k lt = (k.0, omega (arith, k.1, lt))
 
-pub doubt_stop : (nodes : List Node) (g h : Shape) (a b : ℕ) (at : Option ℕ) → at ≡ Some b → Doubt nodes g a at → h ≡ node_gate b nodes → rule g h ≡ false → IsStop nodes g a (Some b)
-doubt_stop nodes g h a b at e k eh r =
+pub doubt_stop : (nodes : List Node) (g h : Shape) (a b : ℕ) (at : Option ℕ) → at ≡ Some b → Doubt nodes g a at → b < MOST_GATES → h ≡ node_gate b nodes → rule g h ≡ false → IsStop nodes g a (Some b)
+doubt_stop nodes g h a b at e k few eh r =
     let w = doubt_at nodes g a b at e k in
-    record { free = λ x on lt before. w.free x on before lt; at = (w.later.0, w.later.1, w.later.2, ap (rule g) (sym eh) ∙ r) }
+    record { free = λ x on lt before. w.free x on before lt; at = (w.later.0, w.later.1, few, ap (rule g) (sym eh) ∙ r) }
+
+-- so far all before a node commute
+pub record Before (nodes : List Node) (g : Shape) (at : Option ℕ) : Type 0 where
+  pub on : IfSome at (λ b. live b nodes ≡ true)
+  pub free : (x : ℕ) → live x nodes ≡ true → IsBefore x at → rule g (node_gate x nodes) ≡ true
+
+pub before_first : (nodes : List Node) (g : Shape) (at : Option ℕ) → Rising (ids_in nodes) → at ≡ head (ids_in nodes) → Before nodes g at
+before_first nodes g at r e = record { on = live_front nodes at e; free = λ x l b. absurd (head_least nodes x r l (subst (λ (o : Option ℕ). IsBefore x o) e b)) }
+
+pub before_as : (nodes : List Node) (g : Shape) (at o : Option ℕ) → at ≡ o → Before nodes g at → Before nodes g o
+before_as nodes g at o e k = subst (λ (p : Option ℕ). Before nodes g p) e k
+
+pub before_more : (nodes : List Node) (g h : Shape) (b : ℕ) (at next : Option ℕ) → at ≡ Some b → Before nodes g at → h ≡ node_gate b nodes → rule g h ≡ true
+    → IfSome next (λ c. (live c nodes ≡ true) × (b < c) × (c < MOST_GATES)) → ((x : ℕ) → live x nodes ≡ true → b < x → IsBefore x next → rule g (node_gate x nodes) ≡ true) → Before nodes g next
+before_more nodes g h b at next e k eh r later free =
+    let w = before_as nodes g at (Some b) e k in
+    record {
+      on = still next later;
+      free = walk_more (λ y. rule g (node_gate y nodes) ≡ true) nodes b next (λ y l q. w.free y l q) (ap (rule g) (sym eh) ∙ r) free;
+    }
+  where
+    still : (o : Option ℕ) → IfSome o (λ c. (live c nodes ≡ true) × (b < c) × (c < MOST_GATES)) → IfSome o (λ c. live c nodes ≡ true)
+    still None k = tt
+    still (Some c) k = k.0
+
+pub before_left : (nodes : List Node) (b : ℕ) (at next : Option ℕ) → at ≡ Some b → b < MOST_GATES → IfSome next (λ c. (live c nodes ≡ true) × (b < c) × (c < MOST_GATES)) → numbers_left next < numbers_left at
+before_left nodes b at None e lt k = let q = ap numbers_left e in omega (arith, q, lt)
+before_left nodes b at (Some c) e lt k = let q = ap numbers_left e in omega (arith, q, lt, k.1)
 
 pub doubt_none : (nodes : List Node) (g : Shape) (a : ℕ) (at : Option ℕ) → at ≡ None → Doubt nodes g a at → IsStop nodes g a None
 doubt_none nodes g a at e k = let w = subst (λ (o : Option ℕ). Doubt nodes g a o) e k in record { free = λ x on lt before. w.free x on before lt; at = tt }
 
-pub doubt_left : (nodes : List Node) (b : ℕ) (at next : Option ℕ) → at ≡ Some b → b < MOST_GATES → IfSome next (λ c. (live c nodes ≡ true) × (b < c) × (c < MOST_GATES)) → numbers_left next < numbers_left at
+pub doubt_left : (nodes : List Node) (b : ℕ) (at next : Option ℕ) → at ≡ Some b → b < MOST_GATES → IfSome next (λ c. (live c nodes ≡ true) × (b < c)) → numbers_left next < numbers_left at
 doubt_left nodes b at None e lt k = let q = ap numbers_left e in omega (arith, q, lt)
-doubt_left nodes b at (Some c) e lt k = let q = ap numbers_left e in omega (arith, q, lt, k.1, k.2)
+doubt_left nodes b at (Some c) e lt k = let q = ap numbers_left e in omega (arith, q, lt, k.1)
 
 -- ---- notes that go
 

@@ -20,7 +20,7 @@ use Rattle.rv_templ.proofs.inside.LinkedPairs.{first_is, second_is, join_of, bef
 use Rattle.rv_templ.proofs.inside.LinkedWindows.{head_at}
 use Rattle.rv_templ.proofs.inside.PairWalk.{node_here}
 use Rattle.rv_templ.proofs.inside.PartnerWalk.{passes_each}
-use Rattle.rv_templ.proofs.NodeLists.{listed_at, gate_split, later_than, is_after, rising_last, each_of}
+use Rattle.rv_templ.proofs.NodeLists.{listed_at, gate_split, later_than, sooner_than, is_after, rising_last, each_of}
 use Rattle.rv_templ.proofs.Options.{after_none}
 use Rattle.rv_templ.proofs.PairSteps.{partner_pass}
 use Rattle.rv_templ.proofs.inside.NoteLaws.{kept_split, kept_before, noted_last, noted_far, unknown_noted, unknown_split, quiet_more, free_quiet, not_joined}
@@ -77,18 +77,22 @@ pair_right nodes notes a b far low m le near z right kept =
           (noted_far notes ps ns m.first (m.between ++ (m.second ∷ m.after)) now far (omega (arith, far_on, length-drop low m.before)) old later)
     ]
 
--- a gate that commutes with that of each node
-free_passes : (nodes xs ys : List Node) (g : Shape) → NoTwice (ids_in nodes) → nodes ≡ xs ++ ys → ((id : ℕ) → live id nodes ≡ true → rule g (node_gate id nodes) ≡ true) → passes g (gates_in xs) ≡ true
-free_passes nodes xs ys g d e all = passes_each g xs (each_of (λ x h. rule g h ≡ true) nodes [] xs ys e d (λ x l on. all x on))
+-- a gate that commutes with that of each node before one
+free_passes : (nodes xs ys : List Node) (n : Node) (b : ℕ) (g : Shape) → Rising (ids_in nodes) → NoTwice (ids_in nodes) → nodes ≡ xs ++ (n ∷ ys) → n.id ≡ b
+    → ((id : ℕ) → live id nodes ≡ true → id < b → rule g (node_gate id nodes) ≡ true) → passes g (gates_in xs) ≡ true
+free_passes nodes xs ys n b g r d e i all =
+    passes_each g xs
+    (each_of (λ x h. rule g h ≡ true) nodes [] xs (n ∷ ys) e d
+    (λ x l on. all x on (let lt = sooner_than xs n ys x (subst (λ (k : List Node). Rising (ids_in k)) e r) l in omega (arith, lt, i))))
 
-pub free_right : (nodes : List Node) (notes : List ℕ) (a b far : ℕ) (m : Mate nodes a b) (g h : Shape) → NoTwice (ids_in nodes) → g ≡ node_gate a nodes → h ≡ node_gate b nodes
-    → ((id : ℕ) → live id nodes ≡ true → rule g (node_gate id nodes) ≡ true) → ((id : ℕ) → live id nodes ≡ true → rule h (node_gate id nodes) ≡ true)
+pub free_right : (nodes : List Node) (notes : List ℕ) (a b far : ℕ) (m : Mate nodes a b) (g h : Shape) → Rising (ids_in nodes) → NoTwice (ids_in nodes) → g ≡ node_gate a nodes → h ≡ node_gate b nodes
+    → ((id : ℕ) → live id nodes ≡ true → id < b → rule g (node_gate id nodes) ≡ true) → ((id : ℕ) → live id nodes ≡ true → id < b → rule h (node_gate id nodes) ≡ true)
     → noted b notes ≡ 0 → Noted notes nodes far → Apart notes m.gates (m.before ++ (m.first ∷ m.between)) → Noted notes (coupled nodes a b m) far
-free_right nodes notes a b far m g h d eg eh p q z right k =
+free_right nodes notes a b far m g h r d eg eh p q z right k =
     let xs : List Node = m.before ++ (m.first ∷ m.between) in
     let s = before_second nodes a b m in
-    let one : passes m.first.gate (gates_in xs) ≡ true = ap (λ y. passes y (gates_in xs)) (sym (eg ∙ first_is nodes a b m d)) ∙ free_passes nodes xs (m.second ∷ m.after) g d s p in
-    let two : passes m.second.gate (gates_in xs) ≡ true = ap (λ y. passes y (gates_in xs)) (sym (eh ∙ second_is nodes a b m d)) ∙ free_passes nodes xs (m.second ∷ m.after) h d s q in
+    let one : passes m.first.gate (gates_in xs) ≡ true = ap (λ y. passes y (gates_in xs)) (sym (eg ∙ first_is nodes a b m d)) ∙ free_passes nodes xs m.after m.second b g r d s m.is_second p in
+    let two : passes m.second.gate (gates_in xs) ≡ true = ap (λ y. passes y (gates_in xs)) (sym (eh ∙ second_is nodes a b m d)) ∙ free_passes nodes xs m.after m.second b h r d s m.is_second q in
     pair_right nodes notes a b far 0 m (omega arith) (inl refl) z right (kept_free notes m.first m.second m.gates xs one two k)
 
 -- what the pair comes to

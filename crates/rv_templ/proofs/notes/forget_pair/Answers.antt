@@ -18,6 +18,9 @@ use Rattle.rv_templ.proofs.notes.forget_pair.Goals as goal
 pub forget_made-gone-requires : goal.forget_made-gone-requires
 forget_made-gone-requires c = ap (live c.args.pair.now.b) c.set_note.ensures.nodes ∙ second_live c.args.linked.now.nodes c.args.pair.now.a c.args.pair.now.b c.requires.spot.mate
 
+pub are_free-free-requires : goal.are_free-free-requires
+are_free-free-requires c = ap (live c.args.pair.now.b) c.set_note.ensures.nodes ∙ second_live c.args.linked.now.nodes c.args.pair.now.a c.args.pair.now.b c.requires.spot.mate
+
 pub set_note-requires : goal.set_note-requires
 set_note-requires c = second_live c.args.linked.now.nodes c.args.pair.now.a c.args.pair.now.b c.requires.spot.mate
 
@@ -31,7 +34,7 @@ returns-then-gone-clause-right c s =
     let fewer = fewer_on c.args.linked.now.notes c.set_note.new.self.notes c.forget_made-gone.new.linked.notes (fewer_set c.args.linked.now.notes c.set_note.new.self.notes c.args.pair.now.b c.set_note.ensures.here c.set_note.ensures.others) c.forget_made-gone.ensures.fewer in
     let one = rw c.set_note.ensures.nodes at (c.are_free-free.ensures.first c.if-free.true) in
     let two = rw c.set_note.ensures.nodes at (c.are_free-free.ensures.second c.if-free.true) in
-    free_right nodes c.forget_made-gone.new.linked.notes a c.args.pair.now.b c.args.far m c.gate-first.result c.gate-second.result once c.gate-first.ensures c.gate-second.ensures one two
+    free_right nodes c.forget_made-gone.new.linked.notes a c.args.pair.now.b c.args.far m c.gate-first.result c.gate-second.result c.recall_invariant.ensures.rising once c.gate-first.ensures c.gate-second.ensures one two
     (fewer_zero c.set_note.new.self.notes c.forget_made-gone.new.linked.notes c.args.pair.now.b c.forget_made-gone.ensures.fewer c.set_note.ensures.here)
     (fewer_noted c.args.linked.now.notes c.forget_made-gone.new.linked.notes nodes c.args.far fewer c.requires.right)
     (c.forget_made-gone.ensures.apart m.gates m.second (m.before ++ (m.first ∷ m.between)) m.after made m.is_second (c.set_note.ensures.nodes ∙ before_second nodes a c.args.pair.now.b m))
@@ -46,7 +49,7 @@ returns-else-gone-clause-right c s =
     let fewer = fewer_on c.args.linked.now.notes c.set_note.new.self.notes c.forget_made-gone.new.linked.notes (fewer_set c.args.linked.now.notes c.set_note.new.self.notes c.args.pair.now.b c.set_note.ensures.here c.set_note.ensures.others) c.forget_made-gone.ensures.fewer in
     let one = rw c.set_note.ensures.nodes at (c.are_free-free.ensures.first c.if-free.true) in
     let two = rw c.set_note.ensures.nodes at (c.are_free-free.ensures.second c.if-free.true) in
-    free_right nodes c.forget_made-gone.new.linked.notes a c.args.pair.now.b c.args.far m c.gate-first.result c.gate-second.result once c.gate-first.ensures c.gate-second.ensures one two
+    free_right nodes c.forget_made-gone.new.linked.notes a c.args.pair.now.b c.args.far m c.gate-first.result c.gate-second.result c.recall_invariant.ensures.rising once c.gate-first.ensures c.gate-second.ensures one two
     (fewer_zero c.set_note.new.self.notes c.forget_made-gone.new.linked.notes c.args.pair.now.b c.forget_made-gone.ensures.fewer c.set_note.ensures.here)
     (fewer_noted c.args.linked.now.notes c.forget_made-gone.new.linked.notes nodes c.args.far fewer c.requires.right)
     (c.forget_made-gone.ensures.apart m.gates m.second (m.before ++ (m.first ∷ m.between)) m.after made m.is_second (c.set_note.ensures.nodes ∙ before_second nodes a c.args.pair.now.b m))

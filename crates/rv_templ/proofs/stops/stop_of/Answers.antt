@@ -1,4 +1,4 @@
-use Rattle.std.proofs.Common.{ap, sym, subst, ◌∙◌}
+use Rattle.std.proofs.Common.{arith, ap, sym, subst, ◌∙◌}
 use Rattle.std.specs.Prelude.{None, Some}
 use Rattle.rv_gate.specs.Commuting.{rule}
 use Rattle.rv_gate.specs.declared.gate.Shape.{Shape}
@@ -14,32 +14,31 @@ returns-then-commutes_with_all c = record {
 }
 
 pub loop-at-init : goal.loop-at-init
-loop-at-init c = record { later = c.next_in_doubt-at.ensures.later; free = λ x on before lt. c.next_in_doubt-at.ensures.free x on lt before }
+loop-at-init c = record { later = c.next_to_ask-at.ensures.later; free = λ x on before lt. c.next_to_ask-at.ensures.free x on lt before }
 
 pub gate-requires : goal.gate-requires
 gate-requires c = (doubt_at c.args.linked.now.nodes c.gate-gate.result c.args.node c.in-Some.next c.loop-at.at c.in-Some.is c.loop-at.invariant).later.0
 
-pub number-requires : goal.number-requires
-number-requires c = (doubt_at c.args.linked.now.nodes c.gate-gate.result c.args.node c.in-Some.next c.loop-at.at c.in-Some.is c.loop-at.invariant).later.0
+pub number-number-requires : goal.number-number-requires
+number-number-requires c = (doubt_at c.args.linked.now.nodes c.gate-gate.result c.args.node c.in-Some.next c.loop-at.at c.in-Some.is c.loop-at.invariant).later.0
 
-pub next_in_doubt-at-requires-in-Some : goal.next_in_doubt-at-requires-in-Some
-next_in_doubt-at-requires-in-Some c = (doubt_at c.args.linked.now.nodes c.gate-gate.result c.args.node c.in-Some.next c.loop-at.at c.in-Some.is c.loop-at.invariant).later.0
+pub next_to_ask-at-requires-in-Some : goal.next_to_ask-at-requires-in-Some
+next_to_ask-at-requires-in-Some c = (doubt_at c.args.linked.now.nodes c.gate-gate.result c.args.node c.in-Some.next c.loop-at.at c.in-Some.is c.loop-at.invariant).later.0
 
 pub returns-then-not-free : goal.returns-then-not-free
 returns-then-not-free c =
     let nodes = c.args.linked.now.nodes in
-    let s = doubt_stop nodes c.gate-gate.result c.gate.result c.args.node c.in-Some.next c.loop-at.at c.in-Some.is c.loop-at.invariant c.gate.ensures (sym c.passes-free.ensures ∙ c.if-not-free.true) in
-    rw (c.number.ensures.value, ← c.gate-gate.ensures) s
+    let s = doubt_stop nodes c.gate-gate.result c.gate.result c.args.node c.in-Some.next c.loop-at.at c.in-Some.is c.loop-at.invariant (omega (arith, c.number-number.ensures.value, c.number-number.ensures.few)) c.gate.ensures (sym c.passes-free.ensures ∙ c.if-not-free.true) in
+    rw (c.number-number.ensures.value, ← c.gate-gate.ensures) s
 
 pub loop-at-smaller : goal.loop-at-smaller
 loop-at-smaller c =
-    let w = doubt_at c.args.linked.now.nodes c.gate-gate.result c.args.node c.in-Some.next c.loop-at.at c.in-Some.is c.loop-at.invariant in
-    doubt_left c.args.linked.now.nodes c.in-Some.next c.loop-at.at c.next_in_doubt-at-in-Some.result c.in-Some.is w.later.2 c.next_in_doubt-at-in-Some.ensures.later
+    doubt_left c.args.linked.now.nodes c.in-Some.next c.loop-at.at c.next_to_ask-at-in-Some.result c.in-Some.is (omega (arith, c.number-number.ensures.value, c.number-number.ensures.few)) c.next_to_ask-at-in-Some.ensures.later
 
 pub loop-at-preserved : goal.loop-at-preserved
 loop-at-preserved c =
-    doubt_more c.args.linked.now.nodes c.gate-gate.result c.gate.result c.args.node c.in-Some.next c.loop-at.at c.next_in_doubt-at-in-Some.result c.in-Some.is c.loop-at.invariant c.gate.ensures
-    (sym c.passes-free.ensures ∙ c.if-not-free.false) c.next_in_doubt-at-in-Some.ensures.later c.next_in_doubt-at-in-Some.ensures.free
+    doubt_more c.args.linked.now.nodes c.gate-gate.result c.gate.result c.args.node c.in-Some.next c.loop-at.at c.next_to_ask-at-in-Some.result c.in-Some.is c.loop-at.invariant c.gate.ensures
+    (sym c.passes-free.ensures ∙ c.if-not-free.false) c.next_to_ask-at-in-Some.ensures.later c.next_to_ask-at-in-Some.ensures.free
 
 pub returns : goal.returns
 returns c =
