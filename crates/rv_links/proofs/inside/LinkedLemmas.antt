@@ -10,7 +10,7 @@ use Rattle.rv_links.specs.Order.{lists, head, next_in, prev_in, NoTwice}
 use Rattle.rv_links.specs.inside.Ring.{Order, without, rest_after}
 use Rattle.rv_links.specs.Nodes.{Node, Linkage, ids_in, live, node_gate, noted, erased}
 use Rattle.rv_links.specs.inside.Chains.{blank, gate_at, nodes_of, IsLinked}
-use Rattle.rv_links.proofs.inside.RingLemmas.{lists_here, lists_more, lists_cases, differ_from, lists_without, kept_without, NoTwice-without, gone_without}
+use Rattle.rv_links.proofs.inside.RingLemmas.{lists_here, lists_more, lists_cases, differ_from, lists_without, kept_without, NoTwice-without}
 
 pub ids_of_nodes : (gates : List Shape) (ids : List ℕ) → ids_in (nodes_of gates ids) ≡ ids
 ids_of_nodes gates [] = refl
@@ -94,23 +94,9 @@ linkage {notes = notes} frame a b e = ap (λ ns. let v : Linkage = record { fram
 
 -- ---- the next node
 
-pub next_is_head : (x : ℕ) (ids : List ℕ) → next_in x ids ≡ head (rest_after x ids)
-unfolding next_in rest_after
-next_is_head x [] = refl
-next_is_head x (y ∷ ys) = elim (cases_Bool (eqb x y)) [ inl t ↦ rw t refl | inr f ↦ rw f (next_is_head x ys) ]
-
 head_is : (zs : List ℕ) (q : ℕ) → head zs ≡ Some q → (rest : List ℕ) × (zs ≡ q ∷ rest)
 head_is [] q e = absurd (none-some q e)
 head_is (z ∷ zs) q e = (zs, ap (λ n. n ∷ zs) (same_Some z q e))
-
-listed_after : (x r : ℕ) (ids : List ℕ) → lists r (rest_after x ids) ≡ true → lists r ids ≡ true
-unfolding rest_after
-listed_after x r [] h = h
-listed_after x r (y ∷ ys) h =
-    elim (cases_Bool (eqb x y)) [
-      | inl t ↦ lists_more r y ys (ap (λ b. lists r (cond b ys (rest_after x ys))) (sym t) ∙ h)
-      | inr f ↦ lists_more r y ys (listed_after x r ys (ap (λ b. lists r (cond b ys (rest_after x ys))) (sym f) ∙ h))
-    ]
 
 -- the numbers after x, one step on
 pub after_step : (x q : ℕ) (ids : List ℕ) → NoTwice ids → next_in x ids ≡ Some q → (rest_after x ids ≡ q ∷ rest_after q ids) × (lists q ids ≡ true)

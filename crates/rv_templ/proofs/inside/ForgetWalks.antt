@@ -22,7 +22,7 @@ use Rattle.rv_templ.proofs.inside.CursorLaws.{all_passed}
 use Rattle.rv_templ.proofs.inside.LinkedWindows.{shorter_next, head_at, node_more}
 use Rattle.rv_templ.proofs.NodeLists.{head_least, next_least, walk_more, apart, listed_at, gate_at_node}
 use Rattle.rv_templ.proofs.inside.LinkedPairs.{place_is, second_here}
-use Rattle.rv_templ.proofs.inside.NoteLaws.{kept_split, kept_append, fewer_kept, fewer_apart, apart_append, apart_first, fewer_unknown, unknown_append}
+use Rattle.rv_templ.proofs.inside.NoteLaws.{kept_split, kept_append, fewer_kept, fewer_unknown, unknown_append}
 use Rattle.rv_templ.proofs.inside.NotesAfter.{drop_within}
 use Rattle.rv_templ.proofs.inside.PairWalk.{There, there, there_live, there_next, there_off, node_here, before_once}
 

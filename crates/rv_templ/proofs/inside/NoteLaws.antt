@@ -181,13 +181,6 @@ fewer_kept old new first second gates (n ∷ rest) f k = (
   fewer_kept old new first second gates rest f k.1,
 )
 
-pub fewer_apart : (old new : List ℕ) (gates : List Shape) (l : List Node) → Fewer old new → Apart old gates l → Apart new gates l
-fewer_apart old new gates [] f k = tt
-fewer_apart old new gates (n ∷ rest) f k = (
-  elim (f n.id) [ inl z ↦ inl z | inr same ↦ (elim k.0 [ inl z ↦ inl (same ∙ z) | inr j ↦ inr j ]) ],
-  fewer_apart old new gates rest f k.1,
-)
-
 pub fewer_unknown : (old new : List ℕ) (l : List Node) → Fewer old new → NoneNoted old l → NoneNoted new l
 fewer_unknown old new [] f k = tt
 fewer_unknown old new (n ∷ rest) f k = (elim (f n.id) [ inl z ↦ z | inr same ↦ same ∙ k.0 ], fewer_unknown old new rest f k.1)
@@ -244,14 +237,6 @@ unknown_split notes (x ∷ xs) ys u = let r = unknown_split notes xs ys u.1 in (
 pub unknown_append : (notes : List ℕ) (xs ys : List Node) → NoneNoted notes xs → NoneNoted notes ys → NoneNoted notes (xs ++ ys)
 unknown_append notes [] ys u r = r
 unknown_append notes (x ∷ xs) ys u r = (u.0, unknown_append notes xs ys u.1 r)
-
-pub apart_append : (notes : List ℕ) (gates : List Shape) (xs ys : List Node) → Apart notes gates xs → Apart notes gates ys → Apart notes gates (xs ++ ys)
-apart_append notes gates [] ys k r = r
-apart_append notes gates (x ∷ xs) ys k r = (k.0, apart_append notes gates xs ys k.1 r)
-
-pub apart_first : (notes : List ℕ) (gates : List Shape) (xs ys : List Node) → Apart notes gates (xs ++ ys) → Apart notes gates xs
-apart_first notes gates [] ys k = tt
-apart_first notes gates (x ∷ xs) ys k = (k.0, apart_first notes gates xs ys k.1)
 
 pub apart_nothing : (notes : List ℕ) (l : List Node) → Apart notes [] l
 apart_nothing notes [] = tt
