@@ -5,5 +5,5 @@ pub mod ChangeLemmas
 pub mod WindowLemmas
 pub mod StayLemmas
 pub mod UsedLemmas
-pub mod EnterLemmas
 pub mod IndexLemmas
+pub mod BlockLemmas

@@ -45,10 +45,6 @@ unfoldable pub node_gate : ℕ → List Node → Shape
 node_gate id [] = Flip 0 0 0
 node_gate id (n ∷ rest) = if id == n.id then n.gate else node_gate id rest
 
--- the nodes that touch a line, in order
-abbrev pub chain : List Node → ℕ → List Node
-chain nodes line = filter (λ n. touches n.gate line) nodes
-
 -- a node that stays, with its gate
 pub record Stays (id : ℕ) (old new : List Node) : Type 0 where
   pub is_live : IsTrue (live id new)

@@ -2,3 +2,4 @@ pub mod Ring
 pub mod Chains
 pub mod Used
 pub mod Index
+pub mod Blocks

@@ -2,10 +2,10 @@
 //!
 //! A [`Linked`] is made from a circuit and gives one back. Contracts see it as the record `Linkage`: the names, labels
 //! and marks of the lines, the list of its nodes in order, each with its gate, and a note for each, which is the caller's.
-//! The gates that touch a line, in order, are the chain of that line, and are linked too. The numbers of the nodes rise along
-//! the order for ever, and a hash leads from a gate to the nodes that have it.
+//! The numbers of the nodes rise along the order for ever, and a hash leads from a gate to the nodes that have it.
 #![tactic(auto)]
 
+mod blocks;
 mod chains;
 mod index;
 mod linked;

@@ -1,14 +1,16 @@
 ghost use Rattle.std.specs.Prelude.{◌≡◌, ◌≢◌, ℕ, ◌+◌, ◌-◌, ◌*◌, ◌^◌, ◌<◌, ◌≤◌, [], ◌∷◌, ◌++◌, length, drop, suc, ◌↔◌, All, IfSome, IfOk, true, IsTrue, IsFalse};
 ghost use Rattle.std.specs.List.{range_with_len};
 ghost use Rattle.rv_gate.specs.Word.{has};
-ghost use Rattle.rv_gate.specs.Gate.{touches, controls, is_flip, FitsIn, IsGate};
+ghost use Rattle.rv_gate.specs.Gate.{controls, is_flip, FitsIn, IsGate};
 ghost use Rattle.rv_gate.specs.Commuting.{rule};
 ghost use Rattle.rv_gate.specs.declared.circuit.TheConstants.{MOST_GATES};
 ghost use Rattle.rv_links.specs.Order.{head, lists, next_in, prev_in};
 ghost use Rattle.rv_links.specs.Seeking.{Tells};
-ghost use Rattle.rv_links.specs.Nodes.{IsLinkage, circuit_of, ids_in, gates_in, chain, live, node_gate, noted, Stays, erased, regated, window_set, incidences, window_gates, window_ids};
+ghost use Rattle.rv_links.specs.Doubt.{IsBefore};
+ghost use Rattle.rv_links.specs.Nodes.{IsLinkage, circuit_of, ids_in, gates_in, live, node_gate, noted, Stays, erased, regated, window_set, incidences, window_gates, window_ids};
 ghost use Rattle.rv_links.specs.inside.Chains.{gate_at, finish};
 
+use crate::blocks::Blocks;
 use crate::ring::Ring;
 use crate::used::{is_free, read_by, used};
 use crate::{NodeId, Sought, chains, index};
@@ -16,11 +18,10 @@ use rv_gate::{Circuit, Gate, LineSet};
 use std::alloc::{AllocError, Global};
 use std::marker::Model;
 
-/// A circuit whose gates are linked: each with the next and the previous one, and on each line that it touches with the
-/// next and the previous one that touch it.
+/// A circuit whose gates are linked, each with the next and the previous one.
 ///
-/// Once it is made no call takes memory, but [`to_circuit`](Linked::to_circuit). A gate takes 44 bytes and 8 for each
-/// line of the circuit and for the whole order, touched or not: 564 bytes on 64 lines, so 592 MB for the largest circuit.
+/// Once it is made no call takes memory, but [`to_circuit`](Linked::to_circuit). A gate takes 53 bytes, so the largest
+/// circuit 56 MB.
 #[derive(Drop)]
 pub struct Linked {
     // The names, labels and marks, and no gates.
@@ -28,11 +29,10 @@ pub struct Linked {
     // By the numbers of the nodes.
     gates: Vec<Gate>,
     order: Ring,
-    // By the lines.
-    chains: Vec<Ring>,
     // Each gate reads and changes only lines of these sets.
     read: LineSet,
     changed: LineSet,
+    blocks: Blocks,
     // By the numbers of the nodes.
     notes: Vec<u32>,
     // Where gates are found by their hash, and how many were written there since it was made anew.
@@ -46,12 +46,13 @@ impl Model for Linked {
     ghost use Rattle.rv_links.specs.inside.Chains.{nodes_of, IsLinked};
     ghost use Rattle.rv_links.specs.inside.Used.{UsesAll};
     ghost use Rattle.rv_links.specs.inside.Index.{IsSearchable};
+    ghost use Rattle.rv_links.specs.inside.Blocks.{IsCovered};
 
     ghost Value = { Linkage };
 
     ghost view = { λ l. record { frame = l.frame; nodes = nodes_of l.gates.items l.order.ids; notes = l.notes.items } };
 
-    ghost invariant = { λ l. IsLinked (length l.frame.names) l.gates.items l.order l.chains.items × UsesAll l.read l.changed l.gates.items × (length l.notes.items ≡ length l.gates.items) × IsSearchable l.slots.items l.gates.items l.order.ids };
+    ghost invariant = { λ l. IsLinked (length l.frame.names) l.gates.items l.order × UsesAll l.read l.changed l.gates.items × (length l.notes.items ≡ length l.gates.items) × IsSearchable l.slots.items l.gates.items l.order.ids × IsCovered l.blocks.small.items l.blocks.middle.items l.blocks.large.items l.gates.items l.order.ids };
 }
 
 impl Linked {
@@ -61,15 +62,15 @@ impl Linked {
         ensures ids { IfOk result (λ l. ids_in l.nodes ≡ range_with_len 0 (length circuit.now.gates)) }
         ensures notes { IfOk result (λ l. (id : ℕ) → noted id l.notes ≡ 0) }
     {
-        let lines = circuit.line_count();
+        circuit.recall_invariant();
         let mut frame = circuit.copy()?;
         frame.set_gates(Vec::new(alloc));
         let gates = Vec::from_slice(alloc, circuit.gates())?;
         let room = gates.len() as u32;
         let mut order = Ring::new(alloc, room)?;
-        let mut chains = chains::rings(alloc, &order, lines)?;
-        chains::thread(&mut order, &mut chains, &gates);
+        chains::thread(&mut order, room);
         let (read, changed) = used(&gates);
+        let blocks = Blocks::new(alloc, &gates)?;
         let notes = vec![in alloc; 0u32; gates.len()]?;
         let mut slots = vec![in alloc; 0u32; 2 * gates.len() + 1]?;
         index::renew(&mut slots, &gates, &order);
@@ -77,9 +78,9 @@ impl Linked {
             frame,
             gates,
             order,
-            chains,
             read,
             changed,
+            blocks,
             notes,
             slots,
             entered: 0,
@@ -152,29 +153,6 @@ impl Linked {
         }
     }
 
-    /// The place of the next gate that touches the line, which this one touches. `None` exactly where there is none.
-    pub fn next_on(&self, node: NodeId, line: u8) -> Option<NodeId>
-        requires live { IsTrue (live node self.now.nodes) }
-        requires touched { IsTrue (touches (node_gate node self.now.nodes) line) }
-        ensures { result ≡ next_in node (ids_in (chain self.now.nodes line)) }
-    {
-        match self.chains[line as usize].next(node.id) {
-            Some(id) => Some(NodeId { id }),
-            None => None,
-        }
-    }
-
-    /// The place of the first gate that touches the line. `None` exactly where there is none.
-    pub fn first_on(&self, line: u8) -> Option<NodeId>
-        requires { line < length self.now.frame.names }
-        ensures { result ≡ head (ids_in (chain self.now.nodes line)) }
-    {
-        match self.chains[line as usize].first() {
-            Some(id) => Some(NodeId { id }),
-            None => None,
-        }
-    }
-
     /// The number of the place, which no other gate has.
     pub fn number(&self, node: NodeId) -> u32
         requires { IsTrue (live node self.now.nodes) }
@@ -215,6 +193,19 @@ impl Linked {
         is_free(gate, self.read, self.changed)
     }
 
+    /// A later place, such that the gate commutes with all between; `None` where it commutes with all after the place. Many
+    /// gates are passed at once, where none of them reads or changes what would matter.
+    pub fn next_in_doubt(&self, gate: Gate, node: NodeId) -> Option<NodeId>
+        requires { IsTrue (live node self.now.nodes) }
+        ensures later { IfSome result (λ b. IsTrue (live b self.now.nodes) × (node < b) × (b < MOST_GATES)) }
+        ensures free { (x : ℕ) → IsTrue (live x self.now.nodes) → node < x → IsBefore x result → rule gate (node_gate x self.now.nodes) ≡ true }
+    {
+        match self.blocks.first_in_doubt(&self.gates, &self.order, gate, node.id + 1) {
+            Some(id) => Some(NodeId { id }),
+            None => None,
+        }
+    }
+
     /// The lines that gates have read so far, and so all controls of flips.
     pub fn read_lines(&self) -> LineSet
         ensures { (id line : ℕ) → IsTrue (live id self.now.nodes) → is_flip (node_gate id self.now.nodes) ≡ true → has (controls (node_gate id self.now.nodes)) line ≡ true → has result line ≡ true }
@@ -236,8 +227,6 @@ impl Linked {
         // Every other gate stays at its place.
         ensures others { (id : ℕ) → id ≢ node → IsTrue (live id self.old.nodes) → Stays id self.old.nodes self.new.nodes }
     {
-        let gate = self.gates[node.id as usize];
-        chains::leave(&mut self.chains, gate, node.id);
         self.order.remove(node.id);
     }
 
@@ -249,11 +238,10 @@ impl Linked {
     {
         // Its shape is that of a gate.
         gate.recall_invariant();
-        let old = self.gates[node.id as usize];
         self.read |= read_by(gate);
         self.changed |= gate.targets();
+        self.blocks.enter(node.id, gate);
         self.gates[node.id as usize] = gate;
-        chains::change(&mut self.chains, &self.gates, &self.order, node.id, old);
         self.entered = index::keep(
             &mut self.slots,
             self.entered,

@@ -1,6 +1,6 @@
 ghost use Rattle.std.specs.Prelude.{◌≡◌, ◌+◌, ◌-◌, ◌*◌, ◌^◌, ◌<◌, ◌≤◌, [], ◌∷◌, ◌++◌, length, IfOk, IsTrue, IsFalse};
 ghost use Rattle.rv_links.specs.Order.{lists, head, next_in, prev_in};
-ghost use Rattle.rv_links.specs.inside.Ring.{without, put_before};
+ghost use Rattle.rv_links.specs.inside.Ring.{without};
 
 use std::alloc::{AllocError, Global};
 use std::marker::Model;
@@ -39,21 +39,6 @@ impl Ring {
         next.push(room)?;
         let prev = Vec::from_slice(alloc, &next)?;
         let ring = Ring { next, prev, room };
-        Ok(ring)
-    }
-
-    /// The same order. Fails only for want of memory, and takes no more than it needs.
-    pub fn copy(&self) -> Result<Ring, AllocError>
-        ensures { IfOk result (λ r. r ≡ self.now) }
-    {
-        let alloc = *self.next.allocator();
-        let next = Vec::from_slice(alloc, &self.next)?;
-        let prev = Vec::from_slice(alloc, &self.prev)?;
-        let ring = Ring {
-            next,
-            prev,
-            room: self.room,
-        };
         Ok(ring)
     }
 
@@ -101,20 +86,6 @@ impl Ring {
         self.next[before as usize] = after;
         self.prev[after as usize] = before;
         self.next[x as usize] = x;
-    }
-
-    /// Puts a number directly before another.
-    pub fn insert_before(&mut self, x: u32, after: u32)
-        requires below { x < self.old.room }
-        requires fresh { IsFalse (lists x self.old.ids) }
-        requires there { IsTrue (lists after self.old.ids) }
-        ensures { self.new ≡ record self.old { ids = put_before x after self.old.ids } }
-    {
-        let before = self.prev[after as usize];
-        self.next[x as usize] = after;
-        self.prev[x as usize] = before;
-        self.next[before as usize] = x;
-        self.prev[after as usize] = x;
     }
 
     /// Puts a number at the end.

@@ -6,6 +6,13 @@ ghost use Rattle.rv_links.specs.inside.Used.{read_by, Uses, UsesAll};
 
 use rv_gate::{Gate, LineSet};
 
+/// Lines that gates read, and that they change.
+#[derive(Clone, Copy)]
+pub struct LineUse {
+    pub read: LineSet,
+    pub changed: LineSet,
+}
+
 /// The lines that make a gate commute with no flip that changes one of them, unless their controls are opposed.
 pub fn read_by(gate: Gate) -> LineSet
     ensures { result ≡ read_by gate }

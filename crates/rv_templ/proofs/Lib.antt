@@ -16,6 +16,5 @@ pub mod FirstSteps
 pub mod LinkedGates
 pub mod NodeLists
 pub mod BuiltInLaws
-pub mod OffTarget
 mod PassLaws
 pub mod inside

@@ -1,7 +1,8 @@
 -- Nodes that stand after others.
 use Rattle.std.proofs.Common.{◌≡◌, ℕ, ◌<◌, true, false, ◌||◌, eqb, List, [], ◌∷◌, ◌++◌, refl, sym, subst, ◌∙◌, ap, inl, inr, arith, eq-eqb, ne_eqb, append_assoc}
-use Rattle.std.proofs.lemmas.Bool.{cases_eq, cond-true, cond-false, false≢true, or_cases, or_parts, or_left, or_right, eqb-true}
-use Rattle.std.specs.Prelude.{Some}
+use Rattle.std.proofs.lemmas.Bool.{cases_eq, cases_order, cond-true, cond-false, false≢true, or_cases, or_parts, or_left, or_right, eqb-true}
+use Rattle.std.specs.Prelude.{Option, Some, None, IfSome}
+use Rattle.rv_links.specs.Doubt.{IsBefore}
 use Rattle.std.proofs.lemmas.Option.{none-some, same_Some}
 use Rattle.rv_gate.specs.declared.gate.Shape.{Shape}
 use Rattle.rv_links.specs.Order.{lists, head, next_in, NoTwice, Rising}
@@ -109,6 +110,76 @@ is_after (m ∷ before) n after y r on lt =
       | inl e ↦ let q = eqb-true y m.id e in let l = r.0 n.id (listed_at before n after) in absurd (omega (arith, q, l, lt))
       | inr l ↦ is_after before n after y r.1 l lt
     ]
+
+-- one with a lesser number is before it
+pub is_before : (before : List Node) (n : Node) (after : List Node) (y : ℕ) → Rising (ids_in (before ++ (n ∷ after))) → live y (before ++ (n ∷ after)) ≡ true → y < n.id → live y before ≡ true
+is_before [] n after y r on lt =
+    elim (or_cases (eqb y n.id) (lists y (ids_in after)) on) [
+      | inl e ↦ let q = eqb-true y n.id e in absurd (omega (arith, q, lt))
+      | inr l ↦ let q = r.0 y l in absurd (omega (arith, q, lt))
+    ]
+is_before (m ∷ before) n after y r on lt =
+    elim (or_cases (eqb y m.id) (lists y (ids_in (before ++ (n ∷ after)))) on) [
+      | inl e ↦ or_left (eqb y m.id) _ e
+      | inr l ↦ or_right (eqb y m.id) _ (is_before before n after y r.1 l lt)
+    ]
+
+pub rising_last : (xs ys : List Node) → Rising (ids_in (xs ++ ys)) → Rising (ids_in ys)
+rising_last [] ys r = r
+rising_last (x ∷ xs) ys r = rising_last xs ys r.1
+
+-- no node is before the first one
+pub head_least : (nodes : List Node) (y : ℕ) → Rising (ids_in nodes) → live y nodes ≡ true → IsBefore y (head (ids_in nodes)) → ⊥
+head_least [] y r on b = false≢true on
+head_least (n ∷ rest) y r on b =
+    elim (or_cases (eqb y n.id) (lists y (ids_in rest)) on) [
+      | inl e ↦ let q = eqb-true y n.id e in omega (arith, q, b)
+      | inr l ↦ let q = r.0 y l in omega (arith, q, b)
+    ]
+
+-- and none is between a node and the next one
+pub next_least : (nodes : List Node) (x : ℕ) (next : Option ℕ) → Rising (ids_in nodes) → NoTwice (ids_in nodes) → live x nodes ≡ true → next ≡ next_in x (ids_in nodes)
+    → (y : ℕ) → live y nodes ≡ true → x < y → IsBefore y next → ⊥
+next_least nodes x next r d on e y there lt b =
+    let s = stands nodes x on in
+    let r2 : Rising (ids_in (s.before ++ (s.node ∷ s.after))) = subst (λ (l : List Node). Rising (ids_in l)) s.split r in
+    let d2 : NoTwice (ids_in (s.before ++ (s.node ∷ s.after))) = subst (λ (l : List Node). NoTwice (ids_in l)) s.split d in
+    let is : next ≡ head (ids_in s.after) = e ∙ ap (λ i. next_in i (ids_in nodes)) (sym s.is) ∙ ap (λ l. next_in s.node.id (ids_in l)) s.split ∙ next_at s.before s.node s.after (apart s.before s.node s.after d2) in
+    head_least s.after y (rising_last (s.before ++ (s.node ∷ [])) s.after (subst (λ (l : List Node). Rising (ids_in l)) (sym (append_assoc s.before (s.node ∷ []) s.after)) r2))
+    (is_after s.before s.node s.after y r2 (ap (live y) (sym s.split) ∙ there) (omega (arith, lt, s.is))) (subst (λ (o : Option ℕ). IsBefore y o) is b)
+
+pub next_later : (nodes : List Node) (x : ℕ) (next : Option ℕ) → Rising (ids_in nodes) → NoTwice (ids_in nodes) → live x nodes ≡ true → next ≡ next_in x (ids_in nodes) → IfSome next (λ b. (live b nodes ≡ true) × (x < b))
+next_later nodes x next r d on e =
+    let s = stands nodes x on in
+    let r2 : Rising (ids_in (s.before ++ (s.node ∷ s.after))) = subst (λ (l : List Node). Rising (ids_in l)) s.split r in
+    let d2 : NoTwice (ids_in (s.before ++ (s.node ∷ s.after))) = subst (λ (l : List Node). NoTwice (ids_in l)) s.split d in
+    let is : next ≡ head (ids_in s.after) = e ∙ ap (λ i. next_in i (ids_in nodes)) (sym s.is) ∙ ap (λ l. next_in s.node.id (ids_in l)) s.split ∙ next_at s.before s.node s.after (apart s.before s.node s.after d2) in
+    subst (λ (o : Option ℕ). IfSome o (λ b. (live b nodes ≡ true) × (x < b))) (sym is) (later s.before s.node s.after nodes x s.split s.is r2)
+  where
+    later : (before : List Node) (n : Node) (after nodes : List Node) (x : ℕ) → nodes ≡ before ++ (n ∷ after) → n.id ≡ x → Rising (ids_in (before ++ (n ∷ after))) → IfSome (head (ids_in after)) (λ b. (live b nodes ≡ true) × (x < b))
+    later before n [] nodes x s i r = tt
+    later before n (m ∷ after) nodes x s i r = (
+      ap (live m.id) (s ∙ sym (append_assoc before (n ∷ []) (m ∷ after))) ∙ listed_at (before ++ (n ∷ [])) m after,
+      (let lt = later_than before n (m ∷ after) m.id r (listed_at [] m after) in omega (arith, lt, i)),
+    )
+
+-- what holds of the nodes before one, and of it, holds of those before the next
+pub walk_more : (P : ℕ → Type 0) (nodes : List Node) (here : ℕ) (next : Option ℕ) → ((x : ℕ) → live x nodes ≡ true → x < here → P x) → P here → ((x : ℕ) → live x nodes ≡ true → here < x → IsBefore x next → P x)
+    → (x : ℕ) → live x nodes ≡ true → IsBefore x next → P x
+walk_more P nodes here next before is gap x on b =
+    elim (cases_order x here) [ inl e ↦ subst P (sym e) is | inr o ↦ (elim o [ inl lt ↦ before x on lt | inr gt ↦ gap x on gt b ]) ]
+
+pub gate_split : (nodes before : List Node) (n : Node) (after : List Node) (x : ℕ) → NoTwice (ids_in nodes) → nodes ≡ before ++ (n ∷ after) → n.id ≡ x → node_gate x nodes ≡ n.gate
+gate_split nodes before n after x d s i =
+    ap (λ y. node_gate y nodes) (sym i) ∙ ap (node_gate n.id) s ∙ gate_at_node before n after (apart before n after (subst (λ (l : List Node). NoTwice (ids_in l)) s d))
+
+pub live_first : (x : ℕ) (xs ys : List Node) → live x xs ≡ true → live x (xs ++ ys) ≡ true
+live_first x [] ys on = absurd (false≢true on)
+live_first x (m ∷ xs) ys on = elim (or_cases (eqb x m.id) (lists x (ids_in xs)) on) [ inl e ↦ or_left (eqb x m.id) _ e | inr l ↦ or_right (eqb x m.id) _ (live_first x xs ys l) ]
+
+pub live_last : (x : ℕ) (xs ys : List Node) → live x ys ≡ true → live x (xs ++ ys) ≡ true
+live_last x [] ys on = on
+live_last x (m ∷ xs) ys on = or_right (eqb x m.id) _ (live_last x xs ys on)
 
 -- what holds of the gates of live nodes holds of each of some nodes
 unfoldable pub Each : (ℕ → Shape → Type 0) → List Node → Type 0

@@ -24,6 +24,7 @@ mod replacement;
 mod search;
 mod simplify;
 mod sizes;
+mod stops;
 mod varied;
 mod windows;
 

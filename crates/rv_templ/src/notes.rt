@@ -13,59 +13,47 @@ ghost use Rattle.rv_links.specs.inside.Chains.{nodes_from};
 ghost use Rattle.rv_templ.specs.Pairs.{paired};
 ghost use Rattle.rv_templ.specs.inside.Joins.{option_of};
 ghost use Rattle.rv_templ.specs.inside.Linking.{IsCursor};
-ghost use Rattle.rv_templ.specs.inside.Mates.{NoMate, Joinless, IsPairSpot};
-ghost use Rattle.rv_templ.specs.inside.Notes.{Quiet, Noted, AllNoted, NoneNoted, Fewer, Others, Apart, Kept, coupled, stop_note, sight};
+ghost use Rattle.rv_templ.specs.inside.Lookups.{LooseAll};
+ghost use Rattle.rv_templ.specs.inside.Mates.{NoMate, Joinless, IsStop, IsPairSpot};
+ghost use Rattle.rv_templ.specs.inside.Notes.{Quiet, Noted, AllNoted, NoneNoted, Fewer, Others, Apart, Kept, coupled};
 
 use crate::along::{Cursor, back, front, gate_count, node_at};
-use crate::image::target_of;
 use crate::joining::{Joined, join};
 use crate::loosening::loosen_joined;
 use crate::pairs::Pair;
-use crate::passing::passes;
+use crate::stops::commutes_before;
 use rv_gate::{Gate, MOST_GATES};
 use rv_links::{Linked, NodeId};
 
-// The note of a node whose gate makes no pair, and on how many gates after it that depends.
-fn stop_note(linked: &Linked, node: NodeId) -> (u32, usize)
-    requires { IsTrue (live node linked.now.nodes) }
-    ensures note { result.0 ≡ stop_note (node_gate node linked.now.nodes) (nodes_from (next_in node (ids_in linked.now.nodes)) linked.now.nodes) }
-    ensures sight { result.1 ≡ sight (node_gate node linked.now.nodes) (nodes_from (next_in node (ids_in linked.now.nodes)) linked.now.nodes) }
-{
-    linked.recall_invariant();
-    let gate = linked.gate(node);
-    let mut seen: usize = 0;
-    let mut at = linked.next(node);
-    while let Some(next) = at {
-        seen += 1;
-        let free = passes(gate, linked.gate(next));
-        if !free {
-            return (linked.number(next) + 2, seen);
-        }
-        at = linked.next(next);
-    }
-    (1, seen)
-}
-
-// The same, where at most `left` gates are after it.
-fn note_for(linked: &Linked, node: NodeId, left: usize) -> (u32, usize)
+// The note of a node that makes no pair, and on how many gates after it that depends at most; at most `left` gates are
+// after it.
+fn note_for(linked: &Linked, node: NodeId, stop: Option<u32>, left: usize) -> (u32, usize)
     requires live { IsTrue (live node linked.now.nodes) }
     requires none { NoMate linked.now.nodes node }
+    requires stop { IsStop linked.now.nodes (node_gate node linked.now.nodes) node stop }
     requires left { length (nodes_from (next_in node (ids_in linked.now.nodes)) linked.now.nodes) ≤ left }
     ensures quiet { Quiet result.0 (node_gate node linked.now.nodes) (nodes_from (next_in node (ids_in linked.now.nodes)) linked.now.nodes) result.1 }
     ensures some { result.0 ≢ 0 }
 {
     linked.recall_invariant();
-    if linked.commutes_with_all(linked.gate(node)) {
-        return (1, left);
+    match stop {
+        None => (1, left),
+        Some(last) => (last + 2, (last - linked.number(node)) as usize),
     }
-    stop_note(linked, node)
 }
 
-/// Notes that the node makes no pair, where at most `left` gates are after it. Answers on how many gates after it a note
+/// Notes that the node makes no pair, with its stop, where at most `left` gates are after it. Answers on how many gates after it a note
 /// depends at most.
-pub fn note_quiet(linked: &mut Linked, node: NodeId, far: usize, left: usize) -> usize
+pub fn note_quiet(
+    linked: &mut Linked,
+    node: NodeId,
+    stop: Option<u32>,
+    far: usize,
+    left: usize,
+) -> usize
     requires live { IsTrue (live node linked.old.nodes) }
     requires none { NoMate linked.old.nodes node }
+    requires stop { IsStop linked.old.nodes (node_gate node linked.old.nodes) node stop }
     requires left { length (nodes_from (next_in node (ids_in linked.old.nodes)) linked.old.nodes) ≤ left }
     requires right { Noted linked.old.notes linked.old.nodes far }
     ensures frame { linked.new.frame ≡ linked.old.frame }
@@ -75,7 +63,7 @@ pub fn note_quiet(linked: &mut Linked, node: NodeId, far: usize, left: usize) ->
     ensures others { Others node linked.old.notes linked.new.notes }
 {
     linked.recall_invariant();
-    let (note, seen) = note_for(linked, node, left);
+    let (note, seen) = note_for(linked, node, stop, left);
     linked.set_note(node, note);
     far.max(seen)
 }
@@ -210,27 +198,24 @@ fn forget_if_joined(linked: &mut Linked, node: NodeId, new: Gate) -> bool
     }
 }
 
-// Forgets the notes of nodes before `b` that make a pair with the gate, looked for along the chain of its target, which they
-// touch. Tells whether a note went.
+// Forgets the notes of nodes before `b` that make a pair with the gate. Tells whether a note went.
 fn forget_along(linked: &mut Linked, b: NodeId, new: Gate) -> bool
-    requires { FitsIn new (length linked.old.frame.names) }
     ensures frame { linked.new.frame ≡ linked.old.frame }
     ensures nodes { linked.new.nodes ≡ linked.old.nodes }
     ensures fewer { Fewer linked.old.notes linked.new.notes }
     ensures same { IsFalse result → linked.new.notes ≡ linked.old.notes }
-    ensures apart { (n : Node) (xs ys : List Node) → n.id ≡ b → linked.old.nodes ≡ xs ++ (n ∷ ys) → Apart linked.new.notes (new ∷ []) xs }
+    ensures loose { LooseAll linked.new.notes linked.old.nodes b new }
 {
     linked.recall_invariant();
-    let line = target_of(new);
     let mut gone = false;
-    let mut at = linked.first_on(line);
+    let mut at = linked.first();
     while let Some(node) = at {
         if node == b {
             return gone;
         }
         let went = forget_if_joined(linked, node, new);
         gone |= went;
-        at = linked.next_on(node, line);
+        at = linked.next(node);
     }
     gone
 }
@@ -238,8 +223,7 @@ fn forget_along(linked: &mut Linked, b: NodeId, new: Gate) -> bool
 // The same by look-ups, as far as these tell.
 #[tactic(auto, using(crate::proofs::inside::LookupLaws::apart_before, crate::proofs::inside::NoteLaws::fewer_on))]
 fn forget_joined(linked: &mut Linked, b: NodeId, new: Gate) -> bool
-    requires live { IsTrue (live b linked.old.nodes) }
-    requires fits { FitsIn new (length linked.old.frame.names) }
+    requires { IsTrue (live b linked.old.nodes) }
     ensures frame { linked.new.frame ≡ linked.old.frame }
     ensures nodes { linked.new.nodes ≡ linked.old.nodes }
     ensures fewer { Fewer linked.old.notes linked.new.notes }
@@ -257,8 +241,7 @@ fn forget_joined(linked: &mut Linked, b: NodeId, new: Gate) -> bool
 
 // The same for what the pair comes to.
 fn forget_made(linked: &mut Linked, b: NodeId, made: &Joined) -> bool
-    requires live { IsTrue (live b linked.old.nodes) }
-    requires fits { (gates : List Shape) → option_of made.now ≡ Some gates → All (λ g. FitsIn g (length linked.old.frame.names)) gates }
+    requires { IsTrue (live b linked.old.nodes) }
     ensures frame { linked.new.frame ≡ linked.old.frame }
     ensures nodes { linked.new.nodes ≡ linked.old.nodes }
     ensures fewer { Fewer linked.old.notes linked.new.notes }
@@ -272,15 +255,16 @@ fn forget_made(linked: &mut Linked, b: NodeId, made: &Joined) -> bool
     }
 }
 
-// Whether it is known at once that both gates commute with every gate.
-fn are_free(linked: &Linked, first: Gate, second: Gate) -> bool
-    ensures first { IsTrue result → (id : ℕ) → IsTrue (live id linked.now.nodes) → rule first (node_gate id linked.now.nodes) ≡ true }
-    ensures second { IsTrue result → (id : ℕ) → IsTrue (live id linked.now.nodes) → rule second (node_gate id linked.now.nodes) ≡ true }
+// Whether both gates commute with every gate before a node.
+fn are_free(linked: &Linked, first: Gate, second: Gate, b: NodeId) -> bool
+    requires { IsTrue (live b linked.now.nodes) }
+    ensures first { IsTrue result → (id : ℕ) → IsTrue (live id linked.now.nodes) → id < b → rule first (node_gate id linked.now.nodes) ≡ true }
+    ensures second { IsTrue result → (id : ℕ) → IsTrue (live id linked.now.nodes) → id < b → rule second (node_gate id linked.now.nodes) ≡ true }
 {
-    if !linked.commutes_with_all(first) {
+    if !commutes_before(linked, first, b) {
         return false;
     }
-    linked.commutes_with_all(second)
+    commutes_before(linked, second, b)
 }
 
 /// Forgets what may be wrong after the pair is made, where `here` is its place and all gates before it have a note. Answers
@@ -304,7 +288,7 @@ pub fn forget_pair(linked: &mut Linked, pair: &Pair, here: Cursor, far: usize) -
     let second = linked.gate(b);
     let made = join(first, second);
     linked.set_note(b, 0);
-    let free = are_free(linked, first, second);
+    let free = are_free(linked, first, second, b);
     if free {
         let gone = forget_made(linked, b, &made);
         return if gone { front() } else { here };

@@ -1,19 +1,18 @@
 //! Pairs of linked gates.
 ghost use Rattle.std.specs.Prelude.{◌≡◌, ◌≢◌, ℕ, ◌+◌, ◌<◌, ◌≤◌, min, List, [], ◌∷◌, length, take, IsTrue, IsFalse, IfSome, IfNone, Some, None, MatchOption};
 ghost use Rattle.rv_links.specs.Order.{next_in};
-ghost use Rattle.rv_links.specs.Nodes.{live, noted, ids_in, gates_in};
+ghost use Rattle.rv_links.specs.Nodes.{live, node_gate, noted, ids_in, gates_in};
 ghost use Rattle.rv_links.specs.inside.Chains.{nodes_from};
 ghost use Rattle.rv_templ.specs.inside.Notes.{Noted, AllNoted, Others, coupled};
 ghost use Rattle.rv_templ.specs.inside.Linking.{IsCursor};
 ghost use Rattle.rv_templ.specs.Pairs.{pair_step};
-ghost use Rattle.rv_templ.specs.inside.Mates.{Mate, NoMate, Candidate, IsPairSpot};
+ghost use Rattle.rv_templ.specs.inside.Mates.{Mate, NoMate, Candidate, IsStop, IsPairSpot};
 
 use crate::along::{Cursor, node_at};
-use crate::image::target_of;
 use crate::joining::{Joined, join};
 use crate::lookups::look_up;
 use crate::notes::note_quiet;
-use crate::passing::passes;
+use crate::stops::stop_of;
 use rv_links::{Linked, NodeId, Sought};
 
 /// A pair, with the place of its first gate, counted from 0.
@@ -24,70 +23,92 @@ pub struct Pair {
     pub b: NodeId,
 }
 
-// The candidate, if the node commutes with all gates before it.
-fn if_free(linked: &Linked, a: NodeId, b: NodeId) -> Option<NodeId>
-    requires { Candidate linked.now.nodes a b }
+// Up to a stop that is so near the nodes are tried one by one.
+const MOST_NEAR: u32 = 256;
+
+// Whether so few numbers lead to the stop.
+fn is_near(linked: &Linked, node: NodeId, stop: Option<u32>) -> bool
+    requires { IsTrue (live node linked.now.nodes) }
+{
+    match stop {
+        None => false,
+        Some(last) => last <= linked.number(node) + MOST_NEAR,
+    }
+}
+
+// Whether the number is that of the stop.
+fn is_stop(stop: Option<u32>, number: u32) -> bool
+    ensures { IsTrue result → stop ≡ Some number }
+{
+    match stop {
+        None => false,
+        Some(last) => last == number,
+    }
+}
+
+// The nearest node whose gate joins with the node's, looked for node by node up to the stop.
+fn partner_along(linked: &Linked, node: NodeId, stop: Option<u32>) -> Option<NodeId>
+    requires live { IsTrue (live node linked.now.nodes) }
+    requires stop { IsStop linked.now.nodes (node_gate node linked.now.nodes) node stop }
+    ensures { MatchOption result (NoMate linked.now.nodes node) (λ b. Candidate linked.now.nodes node b) }
+{
+    linked.recall_invariant();
+    let gate = linked.gate(node);
+    let mut at = linked.next(node);
+    while let Some(other) = at {
+        match join(gate, linked.gate(other)) {
+            Joined::Both => return Some(other),
+            Joined::One(_) => return Some(other),
+            Joined::Apart => {}
+        }
+        let last = is_stop(stop, linked.number(other));
+        if last {
+            return None;
+        }
+        at = linked.next(other);
+    }
+    None
+}
+
+// The same, where the gates that join with the node's are looked up unless the stop is near.
+fn nearest(linked: &Linked, node: NodeId, stop: Option<u32>) -> Option<NodeId>
+    requires live { IsTrue (live node linked.now.nodes) }
+    requires stop { IsStop linked.now.nodes (node_gate node linked.now.nodes) node stop }
+    ensures { MatchOption result (NoMate linked.now.nodes node) (λ b. Candidate linked.now.nodes node b) }
+{
+    let near = is_near(linked, node, stop);
+    if near {
+        return partner_along(linked, node, stop);
+    }
+    match look_up(linked, node, linked.gate(node)) {
+        Sought::Unknown => partner_along(linked, node, stop),
+        Sought::Nowhere => None,
+        Sought::At(other) => Some(other),
+    }
+}
+
+// The candidate, if no stop is before it.
+fn if_free(linked: &Linked, a: NodeId, b: NodeId, stop: Option<u32>) -> Option<NodeId>
+    requires candidate { Candidate linked.now.nodes a b }
+    requires stop { IsStop linked.now.nodes (node_gate a linked.now.nodes) a stop }
     ensures { MatchOption result (NoMate linked.now.nodes a) (λ x. Mate linked.now.nodes a x) }
 {
     linked.recall_invariant();
-    let gate = linked.gate(a);
-    if linked.commutes_with_all(gate) {
-        return Some(b);
+    match stop {
+        None => Some(b),
+        Some(last) => { if last < linked.number(b) { None } else { Some(b) } }
     }
-    let mut at = linked.next(a);
-    while let Some(node) = at {
-        if node == b {
-            return Some(b);
-        }
-        let free = passes(gate, linked.gate(node));
-        if !free {
-            return None;
-        }
-        at = linked.next(node);
-    }
-    None
 }
 
-// The nearest node with which the node is a pair, looked for along the chain of its target, which a gate touches that joins
-// with this one.
-fn partner_along(linked: &Linked, node: NodeId) -> Option<NodeId>
-    requires { IsTrue (live node linked.now.nodes) }
+// The nearest node with which the node is a pair.
+fn partner_of(linked: &Linked, node: NodeId, stop: Option<u32>) -> Option<NodeId>
+    requires live { IsTrue (live node linked.now.nodes) }
+    requires stop { IsStop linked.now.nodes (node_gate node linked.now.nodes) node stop }
     ensures { MatchOption result (NoMate linked.now.nodes node) (λ b. Mate linked.now.nodes node b) }
 {
-    linked.recall_invariant();
-    let gate = linked.gate(node);
-    let line = target_of(gate);
-    let mut at = linked.next_on(node, line);
-    while let Some(other) = at {
-        let second = linked.gate(other);
-        match join(gate, second) {
-            Joined::Both => return if_free(linked, node, other),
-            Joined::One(_) => return if_free(linked, node, other),
-            Joined::Apart => {}
-        }
-        let free = passes(gate, second);
-        if !free {
-            return None;
-        }
-        at = linked.next_on(other, line);
-    }
-    None
-}
-
-// The nearest node with which the node is a pair. Where its gate commutes with all, no gate of the chain would end the
-// walk, so the gates are looked up that join with it.
-fn partner_of(linked: &Linked, node: NodeId) -> Option<NodeId>
-    requires { IsTrue (live node linked.now.nodes) }
-    ensures { MatchOption result (NoMate linked.now.nodes node) (λ b. Mate linked.now.nodes node b) }
-{
-    let gate = linked.gate(node);
-    if !linked.commutes_with_all(gate) {
-        return partner_along(linked, node);
-    }
-    match look_up(linked, node, gate) {
-        Sought::Unknown => partner_along(linked, node),
-        Sought::Nowhere => None,
-        Sought::At(other) => if_free(linked, node, other),
+    match nearest(linked, node, stop) {
+        None => None,
+        Some(other) => if_free(linked, node, other, stop),
     }
 }
 
@@ -135,10 +156,11 @@ fn mate_or_note(
     if linked.note(node) != 0 {
         return (None, far);
     }
-    if let Some(other) = partner_of(linked, node) {
+    let stop = stop_of(linked, node);
+    if let Some(other) = partner_of(linked, node, stop) {
         return (Some(other), far);
     }
-    let far = note_quiet(linked, node, far, left);
+    let far = note_quiet(linked, node, stop, far, left);
     (None, far)
 }
 

@@ -8,7 +8,7 @@ use Rattle.std.proofs.lemmas.List.{get_or_past, get_or_read, get_or_push, get_or
 use Rattle.std.proofs.lemmas.List.Elements.{recursion_from_All}
 use Rattle.std.proofs.lemmas.Map.Steps.{length-le_from_distinct_below}
 use Rattle.rv_links.specs.Order.{lists, head, next_in, prev_from, prev_in, NoTwice}
-use Rattle.rv_links.specs.inside.Ring.{Order, without, put_before, Joined, walk, IsChain, ids_of, IsRing}
+use Rattle.rv_links.specs.inside.Ring.{Order, without, Joined, walk, IsChain, ids_of, IsRing}
 
 -- ---- lists of numbers
 
@@ -196,39 +196,6 @@ put_last N P M Q x z p a (w ∷ ws) j d na nz xa nx =
       put_last N P M Q x z p w ws j.2 d.1 d.0 oz.1 ox.0 ox.1,
     )
 
--- x directly before y
-pub put_front : (N P M Q : ℕ → ℕ) (x y : ℕ) → Put N P M Q x (P y) y → (a : ℕ) (zs : List ℕ) (z : ℕ) → Joined N P a zs z
-    → NoTwice zs → lists a zs ≡ false → lists z zs ≡ false → x ≢ a → x ≢ z → lists x zs ≡ false → lists y zs ≡ true
-    → Joined M Q a (put_before x y zs) z
-unfolding put_before
-put_front N P M Q x y p a [] z j d na nz xa xz nx on = absurd (false≢true on)
-put_front N P M Q x y p a (w ∷ ws) z j d na nz xa xz nx on =
-    let oa = lists_not a w ws na in
-    let oz = lists_not z w ws nz in
-    let ox = lists_not x w ws nx in
-    elim (cases_eq y w) as (λ _. Joined M Q a (cond (eqb y w) (x ∷ w ∷ ws) (w ∷ put_before x y ws)) z) [
-      | inl e ↦
-          let pa : P y ≡ a = ap P e ∙ j.1 in
-          let kn : (k : ℕ) → lists k (w ∷ ws) ≡ true → M k ≡ N k =
-          λ k l. p.keeps_next k (λ q. differ_from a k (w ∷ ws) na l (sym (q ∙ pa))) (λ q. differ_from x k (w ∷ ws) nx l (sym q)) in
-          let rest : Joined M Q w ws z =
-          frame N P M Q w ws z j.2 (kn w (lists_here w ws)) (λ k l. kn k (lists_more k w ws l))
-          (p.keeps_prev z (λ q. oz.0 (q ∙ e)) (λ q. xz (sym q)))
-          (λ k l. p.keeps_prev k (λ q. differ_from w k ws d.0 l (sym (q ∙ e))) (λ q. differ_from x k ws ox.1 l (sym q))) in
-          rw (eq-eqb y w e) (ap M (sym pa) ∙ p.over, p.to ∙ pa, (p.from ∙ e, ap Q (sym e) ∙ p.back, rest))
-      | inr ne ↦
-          rw (ne_eqb y w ne)
-          (elim (lists_cases y w ws on) [
-            | inl e ↦ absurd (ne e)
-            | inr l ↦
-                let ap_ : a ≢ P y = elim (prev_within N P w ws z y j.2 l) [ inl i ↦ (λ q. oa.0 (q ∙ i)) | inr i ↦ differ_from a (P y) ws oa.1 i ] in (
-                  p.keeps_next a ap_ (λ q. xa (sym q)) ∙ j.0,
-                  p.keeps_prev w (λ q. ne (sym q)) (λ q. ox.0 (sym q)) ∙ j.1,
-                  put_front N P M Q x y p w ws z j.2 d.1 d.0 oz.1 ox.0 xz ox.1 l,
-                )
-          ])
-    ]
-
 -- no number links to itself
 pub next_not_self : (N P : ℕ → ℕ) (a : ℕ) (zs : List ℕ) (z x : ℕ) → Joined N P a zs z → NoTwice zs → lists z zs ≡ false → lists x zs ≡ true → N x ≢ x
 next_not_self N P a [] z x j d nz on = absurd (false≢true on)
@@ -291,47 +258,8 @@ NoTwice-without x (w ∷ ws) d =
       | inr f ↦ rw f (false_from_ne_true _ (λ l. false≢true (sym d.0 ∙ lists_without x w ws l)), NoTwice-without x ws d.1)
     ]
 
-pub gone_without : (x : ℕ) (zs : List ℕ) → NoTwice zs → lists x (without x zs) ≡ false
-unfolding without
-gone_without x [] d = refl
-gone_without x (w ∷ ws) d =
-    elim (cases_eq x w) [
-      | inl e ↦ rw (eq-eqb x w e) (ap (λ n. lists n ws) e ∙ d.0)
-      | inr ne ↦ rw (ne_eqb x w ne) (not_lists x w (without x ws) ne (gone_without x ws d.1))
-    ]
-
 or_turn : (p q r : Bool) → (p || (q || r)) ≡ (q || (p || r))
 or_turn p q r = grind arith
-
-pub lists_put_before : (x b y : ℕ) (zs : List ℕ) → lists b zs ≡ true → lists y (put_before x b zs) ≡ (eqb y x || lists y zs)
-unfolding put_before
-lists_put_before x b y [] on = absurd (false≢true on)
-lists_put_before x b y (w ∷ ws) on =
-    elim (cases_eq b w) [
-      | inl e ↦ rw (eq-eqb b w e) refl
-      | inr ne ↦
-          rw (ne_eqb b w ne)
-          (elim (lists_cases b w ws on) [
-            | inl e ↦ absurd (ne e)
-            | inr l ↦ ap (λ r. eqb y w || r) (lists_put_before x b y ws l) ∙ or_turn (eqb y w) (eqb y x) (lists y ws)
-          ])
-    ]
-
-pub NoTwice-put_before : (x b : ℕ) (zs : List ℕ) → lists b zs ≡ true → lists x zs ≡ false → NoTwice zs → NoTwice (put_before x b zs)
-unfolding put_before
-NoTwice-put_before x b [] on nx d = absurd (false≢true on)
-NoTwice-put_before x b (w ∷ ws) on nx d =
-    let ox = lists_not x w ws nx in
-    elim (cases_eq b w) as (λ _. NoTwice (cond (eqb b w) (x ∷ w ∷ ws) (w ∷ put_before x b ws))) [
-      | inl e ↦ rw (eq-eqb b w e) (nx, d)
-      | inr ne ↦
-          rw (ne_eqb b w ne)
-          (elim (lists_cases b w ws on) [
-            | inl e ↦ absurd (ne e)
-            | inr l ↦
-                (lists_put_before x b w ws l ∙ not_lists w x ws (λ q. ox.0 (sym q)) d.0, NoTwice-put_before x b ws l ox.1 d.1)
-          ])
-    ]
 
 pub lists_push : (x y : ℕ) (zs : List ℕ) → lists y (zs ++ x ∷ []) ≡ (eqb y x || lists y zs)
 lists_push x y [] = refl
@@ -468,20 +396,6 @@ put_chain next prev room ids x b n more k lx lb l_n nx there j d same =
           get_or-set_other (set next x n) b y x 0 yb ∙ get_or-set_other next x y n 0 o.0 ∙ k.absent y lt o.1;
     }
 
-pub insert_before_chain : (next prev : List ℕ) (room : ℕ) (ids : List ℕ) (x n : ℕ) → IsChain next prev room ids → x < room → lists x ids ≡ false → lists n ids ≡ true
-    → IsChain (set (set next x n) (get_or prev n 0) x) (set (set prev x (get_or prev n 0)) n x) room (put_before x n ids)
-insert_before_chain next prev room ids x n k lx nx on =
-    let b : ℕ = get_or prev n 0 in
-    let xr : x ≢ room = λ e. omega arith in
-    let out = end_outside next prev room ids k in
-    let ln : n < room = k.below n on in
-    let there = prev_within (λ i. get_or next i 0) (λ i. get_or prev i 0) room ids room n k.joined on in
-    let xb : x ≢ b = elim there [ inl e ↦ (λ q. omega arith) | inr i ↦ differ_from x b ids nx i ] in
-    let p = put_of next prev room x b n k.long_next k.long_prev lx (k.prev_in_room n) (omega arith) xb (differ_from x n ids nx on) in
-    put_chain next prev room ids x b n (put_before x n ids) k lx (k.prev_in_room n) (omega arith) nx there
-    (put_front (λ i. get_or next i 0) (λ i. get_or prev i 0) _ _ x n p room ids room k.joined k.once out out xr xr nx on)
-    (NoTwice-put_before x n ids on nx k.once) (λ y. lists_put_before x n y ids on)
-
 pub push_back_chain : (next prev : List ℕ) (room : ℕ) (ids : List ℕ) (x : ℕ) → IsChain next prev room ids → x < room → lists x ids ≡ false
     → IsChain (set (set next x room) (get_or prev room 0) x) (set (set prev x (get_or prev room 0)) room x) room (ids ++ x ∷ [])
 push_back_chain next prev room ids x k lx nx =
@@ -549,12 +463,6 @@ pub remove_by : (next prev : List ℕ) (room : ℕ) (ids : List ℕ) (x p n : �
 remove_by next prev room ids x p n k on ep en =
     let lx = k.below x on in
     rw (read prev room x p k.long_prev (omega arith) ep, read next room x n k.long_next (omega arith) en) (remove_chain next prev room ids x k on)
-
-pub insert_before_by : (next prev : List ℕ) (room : ℕ) (ids : List ℕ) (x n b : ℕ) → IsChain next prev room ids → x < room → lists x ids ≡ false → lists n ids ≡ true
-    → b ≡ get_or prev n b → IsChain (set (set next x n) b x) (set (set prev x b) n x) room (put_before x n ids)
-insert_before_by next prev room ids x n b k lx nx on e =
-    let ln = k.below n on in
-    rw (read prev room n b k.long_prev (omega arith) e) (insert_before_chain next prev room ids x n k lx nx on)
 
 pub push_back_by : (next prev : List ℕ) (room : ℕ) (ids : List ℕ) (x b : ℕ) → IsChain next prev room ids → x < room → lists x ids ≡ false
     → b ≡ get_or prev room b → IsChain (set (set next x room) b x) (set (set prev x b) room x) room (ids ++ x ∷ [])

@@ -194,9 +194,9 @@ all_nodes P gates ids h =
     (All-map (λ (n : Node). P n.gate) (λ id. let n : Node = record { id = id; gate = gate_at gates id } in n) ids (λ j d lt. h (get_or ids j d) (get_lists ids j d lt)))
 
 -- what the fields of a linked cascade keep, as contracts see it
-pub linkage_is : {notes : List ℕ} → (frame : Cascade) (gates : List Shape) (order : Order) (chains : List Order) → IsLinked (length frame.names) gates order chains → Rising order.ids → IsCascade frame
+pub linkage_is : {notes : List ℕ} → (frame : Cascade) (gates : List Shape) (order : Order) → IsLinked (length frame.names) gates order → Rising order.ids → IsCascade frame
     → IsLinkage (record { frame = frame; nodes = nodes_of gates order.ids; notes = notes })
-linkage_is {notes = notes} frame gates order chains k r f =
+linkage_is {notes = notes} frame gates order k r f =
     let a : length order.ids ≤ length gates = ids_few order.ids (length gates) k.once k.below in
     let b : length (gates_in (nodes_of gates order.ids)) ≡ length (nodes_of gates order.ids) = length-map (nodes_of gates order.ids) _ in
     let c : length (nodes_of gates order.ids) ≡ length order.ids = length-map order.ids _ in

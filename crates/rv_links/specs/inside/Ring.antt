@@ -11,11 +11,6 @@ unfoldable pub without : ℕ → List ℕ → List ℕ
 without x [] = []
 without x (y ∷ ys) = if x == y then ys else y ∷ without x ys
 
--- x directly before y
-unfoldable pub put_before : ℕ → ℕ → List ℕ → List ℕ
-put_before x y [] = []
-put_before x y (z ∷ zs) = if y == z then x ∷ z ∷ zs else z ∷ put_before x y zs
-
 -- the numbers after x
 unfoldable pub rest_after : ℕ → List ℕ → List ℕ
 rest_after x [] = []

@@ -1,14 +1,16 @@
 -- The walks on which notes go.
 use Rattle.std.proofs.Common.{◌≡◌, ◌≢◌, ℕ, ◌+◌, ◌-◌, ◌<◌, ◌≤◌, true, false, eqb, List, [], ◌∷◌, ◌++◌, length, take, drop, refl, sym, ◌∙◌, ap, inl, inr, arith, subst, append_assoc, length-append, take-append-drop, length-drop}
-use Rattle.std.specs.Prelude.{◌⊎◌, Option, Some, None}
+use Rattle.std.specs.Prelude.{◌⊎◌, Option, Some, None, IfSome}
+use Rattle.rv_links.specs.Doubt.{IsBefore}
+use Rattle.rv_links.proofs.inside.WindowLemmas.{live_first, live_after}
 use Rattle.std.proofs.Math.Seq.{drop-append_seam, take-add}
 use Rattle.std.proofs.lemmas.Bool.{cond-true, or_parts, or_from}
 use Rattle.std.proofs.lemmas.List.{append-nil, length-take-le, take_all, drop-drop}
 use Rattle.std.proofs.lemmas.List.Elements.{filter-append}
 use Rattle.rv_gate.specs.declared.gate.Shape.{Shape}
 use Rattle.rv_gate.specs.Gate.{touches}
-use Rattle.rv_links.specs.Order.{lists, head, next_in, NoTwice}
-use Rattle.rv_links.specs.Nodes.{Node, ids_in, live, node_gate, chain, noted}
+use Rattle.rv_links.specs.Order.{lists, head, next_in, NoTwice, Rising}
+use Rattle.rv_links.specs.Nodes.{Node, ids_in, live, node_gate, noted}
 use Rattle.rv_templ.specs.Images.{target_of}
 use Rattle.rv_templ.specs.Pairs.{paired}
 use Rattle.rv_templ.specs.declared.joining.Joined.{Joined}
@@ -18,13 +20,11 @@ use Rattle.rv_templ.specs.inside.Mates.{Joinless, IsPairSpot}
 use Rattle.rv_templ.specs.inside.Notes.{Fewer, NoneNoted, Apart, Kept}
 use Rattle.rv_templ.proofs.inside.CursorLaws.{all_passed}
 use Rattle.rv_templ.proofs.inside.LinkedWindows.{shorter_next, head_at, node_more}
-use Rattle.rv_templ.proofs.NodeLists.{apart, listed_at, gate_at_node}
+use Rattle.rv_templ.proofs.NodeLists.{head_least, next_least, walk_more, apart, listed_at, gate_at_node}
 use Rattle.rv_templ.proofs.inside.LinkedPairs.{place_is, second_here}
-use Rattle.rv_templ.proofs.inside.NoteLaws.{kept_split, kept_append, fewer_kept, fewer_apart, apart_append, apart_first, fewer_unknown, unknown_append}
+use Rattle.rv_templ.proofs.inside.NoteLaws.{kept_split, kept_append, fewer_kept, fewer_unknown, unknown_append}
 use Rattle.rv_templ.proofs.inside.NotesAfter.{drop_within}
-use Rattle.rv_templ.proofs.OffTarget.{joined_on}
 use Rattle.rv_templ.proofs.inside.PairWalk.{There, there, there_live, there_next, there_off, node_here, before_once}
-use Rattle.rv_templ.proofs.inside.PartnerWalk.{Untouched, first_on, none_on, next_on_at, once_chain}
 
 -- ---- from a place on
 
@@ -94,90 +94,29 @@ near_end nodes notes low a b made at gates first second xs ys le w e eo ea eb wi
     sym (drop-append_seam front w.seen) ∙ ap (λ k. drop k (front ++ w.seen)) (length-take-le low nodes le) ∙ ap (drop low) (sym whole ∙ s) ∙ drop_within low xs (second ∷ ys) within in
     (kept_split notes first second gates (drop low xs) (second ∷ ys) (subst (λ (l : List Node). Kept notes first second gates l) rest (w.kept gates first second eo ea eb))).0
 
--- ---- on a line
+-- ---- from the front
 
-pub record OnLine (nodes : List Node) (notes : List ℕ) (new : Shape) (line : ℕ) (at : Option ℕ) : Type 0 where
-  pub seen : List Node
-  pub left : List Node
-  pub split : nodes ≡ seen ++ left
-  pub at_is : at ≡ head (ids_in (chain left line))
-  pub apart : Apart notes (new ∷ []) seen
+-- those so far have no note, or do not join
+pub record Loosening (nodes : List Node) (notes : List ℕ) (new : Shape) (at : Option ℕ) : Type 0 where
+  pub on : IfSome at (λ b. live b nodes ≡ true)
+  pub loose : (x : ℕ) → live x nodes ≡ true → IsBefore x at → (noted x notes ≡ 0) ⊎ (paired (node_gate x nodes) new ≡ None)
 
-apart_off : (notes : List ℕ) (new : Shape) (l : List Node) → Untouched (target_of new) l → Apart notes (new ∷ []) l
-unfolding Untouched
-apart_off notes new [] off = tt
-apart_off notes new (n ∷ rest) off = (inr (joined_on n.gate new off.0, tt), apart_off notes new rest off.1)
+pub loose_start : (nodes : List Node) (notes : List ℕ) (new : Shape) (at : Option ℕ) → Rising (ids_in nodes) → at ≡ head (ids_in nodes) → Loosening nodes notes new at
+loose_start nodes notes new at r e = record { on = live_first nodes at e; loose = λ x l b. absurd (head_least nodes x r l (subst (λ (o : Option ℕ). IsBefore x o) e b)) }
 
--- the node at which the walk is
-record OnNow (nodes : List Node) (notes : List ℕ) (new : Shape) (line x : ℕ) : Type 0 where
-  pub front : List Node
-  pub node : Node
-  pub rest : List Node
-  pub split : nodes ≡ front ++ (node ∷ rest)
-  pub is : node.id ≡ x
-  pub on : touches node.gate line ≡ true
-  pub apart : Apart notes (new ∷ []) front
+pub loose_as : (nodes : List Node) (notes : List ℕ) (new : Shape) (at o : Option ℕ) → at ≡ o → Loosening nodes notes new at → Loosening nodes notes new o
+loose_as nodes notes new at o e k = subst (λ (p : Option ℕ). Loosening nodes notes new p) e k
 
-on_now : (nodes : List Node) (notes : List ℕ) (new : Shape) (line x : ℕ) (at : Option ℕ) → line ≡ target_of new → OnLine nodes notes new line at → at ≡ Some x → OnNow nodes notes new line x
-on_now nodes notes new line x at t w e =
-    let f = first_on w.left line x (sym e ∙ w.at_is) in
+pub loose_more : (nodes : List Node) (old notes : List ℕ) (new : Shape) (x : ℕ) (at next : Option ℕ) → Rising (ids_in nodes) → NoTwice (ids_in nodes) → at ≡ Some x → Loosening nodes old new at → Fewer old notes
+    → (noted x notes ≡ 0) ⊎ (paired (node_gate x nodes) new ≡ None) → next ≡ next_in x (ids_in nodes) → Loosening nodes notes new next
+loose_more nodes old notes new x at next r d e k f here en =
+    let w = loose_as nodes old new at (Some x) e k in
     record {
-      front = w.seen ++ f.skipped;
-      node = f.node;
-      rest = f.rest;
-      split = w.split ∙ ap (λ l. w.seen ++ l) f.split ∙ sym (append_assoc w.seen f.skipped (f.node ∷ f.rest));
-      is = f.is;
-      on = f.on;
-      apart = apart_append notes (new ∷ []) w.seen f.skipped w.apart (apart_off notes new f.skipped (subst (λ (i : ℕ). Untouched i f.skipped) t f.off));
+      on = live_after x nodes next d en;
+      loose = walk_more (λ y. (noted y notes ≡ 0) ⊎ (paired (node_gate y nodes) new ≡ None)) nodes x next
+          (λ y l lt. elim (w.loose y l lt) [ inl z ↦ inl (elim (f y) [ inl gone ↦ gone | inr same ↦ same ∙ z ]) | inr p ↦ inr p ]) here
+          (λ y l q p. absurd (next_least nodes x next r d w.on en y l q p));
     }
-
-pub line_live : (nodes : List Node) (notes : List ℕ) (new : Shape) (line x : ℕ) (at : Option ℕ) → line ≡ target_of new → OnLine nodes notes new line at → at ≡ Some x → live x nodes ≡ true
-line_live nodes notes new line x at t w e =
-    let k = on_now nodes notes new line x at t w e in
-    ap (live x) k.split ∙ ap (λ i. live i (k.front ++ (k.node ∷ k.rest))) (sym k.is) ∙ listed_at k.front k.node k.rest
-
-on_gate : (nodes : List Node) (notes : List ℕ) (new : Shape) (line x : ℕ) → NoTwice (ids_in nodes) → (k : OnNow nodes notes new line x) → node_gate x nodes ≡ k.node.gate
-on_gate nodes notes new line x d k =
-    ap (λ i. node_gate i nodes) (sym k.is) ∙ ap (node_gate k.node.id) k.split ∙ gate_at_node k.front k.node k.rest (apart k.front k.node k.rest (subst (λ (l : List Node). NoTwice (ids_in l)) k.split d))
-
-pub line_touches : (nodes : List Node) (notes : List ℕ) (new : Shape) (line x : ℕ) (at : Option ℕ) → line ≡ target_of new → NoTwice (ids_in nodes) → OnLine nodes notes new line at → at ≡ Some x → touches (node_gate x nodes) line ≡ true
-line_touches nodes notes new line x at t d w e = let k = on_now nodes notes new line x at t w e in ap (λ g. touches g line) (on_gate nodes notes new line x d k) ∙ k.on
-
-pub line_more : (nodes : List Node) (old notes : List ℕ) (new : Shape) (line x : ℕ) (at next : Option ℕ) → line ≡ target_of new → NoTwice (ids_in nodes) → OnLine nodes old new line at → at ≡ Some x → Fewer old notes
-    → (noted x notes ≡ 0) ⊎ (paired (node_gate x nodes) new ≡ None) → next ≡ next_in x (ids_in (chain nodes line)) → OnLine nodes notes new line next
-line_more nodes old notes new line x at next t d w e f here en =
-    let k = on_now nodes old new line x at t w e in
-    let g = on_gate nodes old new line x d k in
-    let d2 = subst (λ (l : List Node). NoTwice (ids_in l)) k.split d in
-    record {
-      seen = k.front ++ (k.node ∷ []);
-      left = k.rest;
-      split = k.split ∙ sym (append_assoc k.front (k.node ∷ []) k.rest);
-      at_is = en ∙ ap (λ i. next_in i (ids_in (chain nodes line))) (sym k.is) ∙ ap (λ l. next_in k.node.id (ids_in (chain l line))) k.split ∙ next_on_at k.front k.node k.rest line d2 k.on;
-      apart = apart_append notes (new ∷ []) k.front (k.node ∷ []) (fewer_apart old notes (new ∷ []) k.front f k.apart)
-          (elim here [ inl z ↦ inl (ap (λ i. noted i notes) k.is ∙ z) | inr p ↦ inr (ap (λ h. paired h new) (sym g) ∙ p, tt) ], tt);
-    }
-
-pub line_shorter : (nodes : List Node) (notes : List ℕ) (new : Shape) (line x : ℕ) (at next : Option ℕ) → line ≡ target_of new → NoTwice (ids_in nodes) → OnLine nodes notes new line at → at ≡ Some x → next ≡ next_in x (ids_in (chain nodes line))
-    → length (coming next (chain nodes line)) < length (coming at (chain nodes line))
-line_shorter nodes notes new line x at next t d w e en =
-    let k = on_now nodes notes new line x at t w e in
-    let whole : chain nodes line ≡ chain k.front line ++ (k.node ∷ chain k.rest line) =
-    ap (λ l. chain l line) k.split ∙ filter-append (λ (m : Node). touches m.gate line) k.front (k.node ∷ k.rest)
-    ∙ ap (λ l. chain k.front line ++ l) (cond-true (touches k.node.gate line) (k.node ∷ chain k.rest line) (chain k.rest line) k.on) in
-    let on = ap (live x) whole ∙ ap (λ i. live i (chain k.front line ++ (k.node ∷ chain k.rest line))) (sym k.is) ∙ listed_at (chain k.front line) k.node (chain k.rest line) in
-    shorter_next x (chain nodes line) next at (once_chain line nodes d) on en e
-
-pub line_found : (nodes : List Node) (notes : List ℕ) (new : Shape) (line x b : ℕ) (at : Option ℕ) (n : Node) (xs ys : List Node) → line ≡ target_of new → NoTwice (ids_in nodes) → OnLine nodes notes new line at → at ≡ Some x → x ≡ b
-    → n.id ≡ b → nodes ≡ xs ++ (n ∷ ys) → Apart notes (new ∷ []) xs
-line_found nodes notes new line x b at n xs ys t d w e same i s =
-    let k = on_now nodes notes new line x at t w e in
-    subst (λ (l : List Node). Apart notes (new ∷ []) l) (before_once nodes k.front k.rest k.node n xs ys b d k.split (k.is ∙ same) s i) k.apart
-
-pub line_end : (nodes : List Node) (notes : List ℕ) (new : Shape) (line : ℕ) (at : Option ℕ) (n : Node) (xs ys : List Node) → line ≡ target_of new → OnLine nodes notes new line at → at ≡ None → nodes ≡ xs ++ (n ∷ ys) → Apart notes (new ∷ []) xs
-line_end nodes notes new line at n xs ys t w e s =
-    let off = apart_off notes new w.left (subst (λ (i : ℕ). Untouched i w.left) t (none_on w.left line (sym e ∙ w.at_is))) in
-    apart_first notes (new ∷ []) xs (n ∷ ys) (subst (λ (l : List Node). Apart notes (new ∷ []) l) (sym w.split ∙ s) (apart_append notes (new ∷ []) w.seen w.left w.apart off))
 
 -- ---- so many from a place on
 

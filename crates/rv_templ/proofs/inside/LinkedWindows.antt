@@ -203,20 +203,6 @@ clean_more library gates here place clean e none i lt =
       | inr other ↦ clean i (omega arith)
     ]
 
--- no more gates are to come than there are
-few_from : (a : ℕ) (nodes : List Node) → length (gates_in (from_node a nodes)) ≤ length (gates_in nodes)
-unfolding from_node
-few_from a [] = omega arith
-few_from a (n ∷ rest) =
-    elim (cases_eq a n.id) [
-      | inl here ↦ omega (arith, ap (λ l. length (gates_in l)) (cond-true (eqb a n.id) (n ∷ rest) (from_node a rest) (eq-eqb a n.id here)))
-      | inr other ↦ let le = few_from a rest in omega (arith, le, ap (λ l. length (gates_in l)) (cond-false (eqb a n.id) (n ∷ rest) (from_node a rest) (ne_eqb a n.id other)))
-    ]
-
-pub coming_few : (at : Option ℕ) (nodes : List Node) → length (coming at nodes) ≤ length (gates_in nodes)
-coming_few None nodes = omega arith
-coming_few (Some a) nodes = few_from a nodes
-
 -- the node at a place, and at the next one
 pub head_at : (nodes : List Node) (place a : ℕ) → Some a ≡ head (ids_in (drop place nodes)) → (n : Node) × (n.id ≡ a) × (drop place nodes ≡ n ∷ drop (place + 1) nodes)
 head_at nodes place a e = split_at (drop place nodes) (drop (place + 1) nodes) a e (drop-drop 1 place nodes)

@@ -1,29 +1,33 @@
 -- What look-ups tell of the gates that join with a flip.
 use Rattle.std.proofs.Common.{◌≡◌, ◌≢◌, ℕ, zero, suc, ◌+◌, ◌<◌, ◌≤◌, ◌^◌, true, false, ◌&&◌, eqb, List, [], ◌∷◌, ◌++◌, refl, sym, subst, ◌∙◌, ap, inl, inr, arith, eq-eqb, ne_eqb, append_assoc, Bool}
-use Rattle.std.specs.Prelude.{◌⊎◌, Option, Some, None, bit_or, bit_xor}
+use Rattle.std.specs.Prelude.{◌⊎◌, Option, Some, None, IfSome, bit_or, bit_xor}
+use Rattle.rv_gate.specs.Commuting.{rule}
+use Rattle.rv_gate.specs.declared.circuit.TheConstants.{MOST_GATES}
+use Rattle.rv_links.specs.Doubt.{IsBefore}
 use Rattle.std.proofs.lemmas.Nat.{or_comm, xor_comm}
 use Rattle.std.proofs.lemmas.List.{append-nil}
 use Rattle.std.proofs.lemmas.Option.{none-some, same_Some}
-use Rattle.std.proofs.lemmas.Bool.{cases_Bool, cases_eq, cond-true, cond-false, false≢true, and_parts, and_from, or_left, or_right, or_cases, eqb-true, false_from_ne_true}
+use Rattle.std.proofs.lemmas.Bool.{cases_Bool, cases_eq, cases_lt, cond-true, cond-false, false≢true, and_parts, and_from, or_left, or_right, or_cases, eqb-true, false_from_ne_true}
 use Rattle.rv_gate.specs.Word.{has}
 use Rattle.rv_gate.specs.Gate.{IsGate, controls, is_flip, xor}
 use Rattle.rv_gate.specs.declared.gate.Shape.{Shape}
 use Rattle.rv_gate.specs.declared.gate.Shape.TheVariants.{Flip, Swap, Peres}
 use Rattle.rv_gate.specs.declared.word.TheConstants.{MOST_LINES}
 use Rattle.rv_gate.proofs.LineSets.{same_lines, has-or, has-xor, has-line, has-none, bit_xor-back}
-use Rattle.rv_links.specs.Order.{lists, Rising, NoTwice}
+use Rattle.rv_links.specs.Order.{lists, head, next_in, Rising, NoTwice}
 use Rattle.rv_links.specs.Nodes.{Node, ids_in, live, node_gate, gates_in, noted}
 use Rattle.rv_links.specs.declared.sought.Sought.{Sought}
 use Rattle.rv_links.specs.declared.sought.Sought.TheVariants.{Unknown, Nowhere, At}
 use Rattle.rv_links.specs.Seeking.{Tells, Reaches, Found}
+use Rattle.rv_links.proofs.inside.WindowLemmas.{live_first as live_front}
 use Rattle.rv_templ.specs.Gates.{AreGates}
 use Rattle.rv_templ.specs.Pairs.{lone, apart_on, paired, partner}
 use Rattle.rv_templ.specs.inside.Lookups.{Variant}
-use Rattle.rv_templ.specs.inside.Mates.{NoMate, Candidate, Joinless}
+use Rattle.rv_templ.specs.inside.Mates.{NoMate, Candidate, Joinless, IsStop, numbers_left}
 use Rattle.rv_templ.specs.inside.Notes.{Apart}
 use Rattle.rv_templ.proofs.JoinLaws.{cond_some, lone_is, line_used, third_some}
-use Rattle.rv_templ.proofs.NodeLists.{apart, gate_at_node, Stands, stands, later_than, sooner_than, is_after, Each, each_of}
-use Rattle.rv_templ.proofs.inside.PartnerWalk.{none_among}
+use Rattle.rv_templ.proofs.NodeLists.{apart, gate_at_node, Stands, stands, later_than, sooner_than, is_after, head_least, next_least, next_later, walk_more, live_first, live_last, Each, each_of}
+use Rattle.rv_templ.proofs.inside.PartnerWalk.{none_among, joinless_each, stopped}
 
 -- ---- answers
 
@@ -161,19 +165,6 @@ first_gate nodes a s d =
     ap (λ x. node_gate x nodes) (sym s.is) ∙ ap (node_gate s.node.id) s.split
     ∙ gate_at_node s.before s.node s.after (apart s.before s.node s.after (subst (λ (l : List Node). NoTwice (ids_in l)) s.split d))
 
-live_first : (x : ℕ) (xs ys : List Node) → live x xs ≡ true → live x (xs ++ ys) ≡ true
-live_first x [] ys on = absurd (false≢true on)
-live_first x (m ∷ xs) ys on = elim (or_cases (eqb x m.id) (lists x (ids_in xs)) on) [ inl e ↦ or_left (eqb x m.id) _ e | inr l ↦ or_right (eqb x m.id) _ (live_first x xs ys l) ]
-
-live_last : (x : ℕ) (xs ys : List Node) → live x ys ≡ true → live x (xs ++ ys) ≡ true
-live_last x [] ys on = on
-live_last x (m ∷ xs) ys on = or_right (eqb x m.id) _ (live_last x xs ys on)
-
-joinless_each : (g : Shape) (nodes l : List Node) → Each (λ x h. paired g h ≡ None) l → Joinless g (gates_in l)
-unfolding Each
-joinless_each g nodes [] k = tt
-joinless_each g nodes (n ∷ rest) k = (k.0, joinless_each g nodes rest k.1)
-
 none_or : (o : Option (List Shape)) → ((m : List Shape) → o ≡ Some m → ⊥) → o ≡ None
 none_or None f = refl
 none_or (Some m) f = absurd (f m refl)
@@ -194,7 +185,7 @@ partner_nowhere nodes a g r d on eg none =
       after = s.after;
       split = s.split;
       is = s.is;
-      none = subst (λ (y : Shape). partner y (gates_in s.after) ≡ None) is (none_among g (gates_in s.after) (joinless_each g nodes s.after each));
+      none = subst (λ (y : Shape). partner y (gates_in s.after) ≡ None) is (none_among g (gates_in s.after) (joinless_each g s.after each));
     }
 
 -- the first one that joins
@@ -229,10 +220,127 @@ partner_at nodes a b g h m r d on there late eg eh j least =
       split = split;
       is_first = s.is;
       is_second = t.is;
-      joinless = subst (λ (y : Shape). Joinless y (gates_in t.before)) is (joinless_each g nodes t.before each);
+      joinless = subst (λ (y : Shape). Joinless y (gates_in t.before)) is (joinless_each g t.before each);
       gates = m;
       join = ap (λ y. paired y t.node.gate) (sym is) ∙ ap (paired g) (sym second) ∙ j;
     }
+
+-- ---- the walk along the next nodes
+
+pub stop_as : (nodes : List Node) (g : Shape) (a : ℕ) (stop o : Option ℕ) → stop ≡ o → IsStop nodes g a stop → IsStop nodes g a o
+stop_as nodes g a stop o e s = subst (λ (p : Option ℕ). IsStop nodes g a p) e s
+
+-- so far none joins
+pub record Tried (nodes : List Node) (g : Shape) (a : ℕ) (at : Option ℕ) : Type 0 where
+  pub later : IfSome at (λ b. (live b nodes ≡ true) × (a < b))
+  pub none : (x : ℕ) → live x nodes ≡ true → IsBefore x at → a < x → paired g (node_gate x nodes) ≡ None
+
+pub tried_first : (nodes : List Node) (g : Shape) (a : ℕ) (next : Option ℕ) → Rising (ids_in nodes) → NoTwice (ids_in nodes) → live a nodes ≡ true → next ≡ next_in a (ids_in nodes) → Tried nodes g a next
+tried_first nodes g a next r d on e = record { later = next_later nodes a next r d on e; none = λ x l b lt. absurd (next_least nodes a next r d on e x l lt b) }
+
+tried_at : (nodes : List Node) (g : Shape) (a b : ℕ) (at : Option ℕ) → at ≡ Some b → Tried nodes g a at → Tried nodes g a (Some b)
+tried_at nodes g a b at e t = subst (λ (o : Option ℕ). Tried nodes g a o) e t
+
+pub tried_live : (nodes : List Node) (g : Shape) (a b : ℕ) (at : Option ℕ) → at ≡ Some b → Tried nodes g a at → live b nodes ≡ true
+tried_live nodes g a b at e t = (tried_at nodes g a b at e t).later.0
+
+pub tried_more : (nodes : List Node) (g h : Shape) (a b : ℕ) (at next : Option ℕ) → Rising (ids_in nodes) → NoTwice (ids_in nodes) → at ≡ Some b → Tried nodes g a at → next ≡ next_in b (ids_in nodes) → h ≡ node_gate b nodes
+    → paired g h ≡ None → Tried nodes g a next
+tried_more nodes g h a b at next r d e t en eh j =
+    let w = tried_at nodes g a b at e t in
+    record {
+      later = later_still next (next_later nodes b next r d w.later.0 en) w.later.1;
+      none = λ x on before lt.
+          walk_more (λ y. a < y → paired g (node_gate y nodes) ≡ None) nodes b next (λ y l q p. w.none y l q p) (λ _. ap (paired g) (sym eh) ∙ j)
+          (λ y l q p. absurd (next_least nodes b next r d w.later.0 en y l q p)) x on before lt;
+    }
+  where
+    later_still : (o : Option ℕ) → IfSome o (λ c. (live c nodes ≡ true) × (b < c)) → a < b → IfSome o (λ c. (live c nodes ≡ true) × (a < c))
+    later_still None k lt = tt
+    later_still (Some c) k lt = (k.0, omega (arith, k.1, lt))
+
+pub tried_found : (nodes : List Node) (g h : Shape) (a b : ℕ) (at : Option ℕ) (m : List Shape) → Rising (ids_in nodes) → NoTwice (ids_in nodes) → live a nodes ≡ true → g ≡ node_gate a nodes → at ≡ Some b → Tried nodes g a at
+    → h ≡ node_gate b nodes → paired g h ≡ Some m → Candidate nodes a b
+tried_found nodes g h a b at m r d on eg e t eh j =
+    let w = tried_at nodes g a b at e t in
+    partner_at nodes a b g h m r d on w.later.0 (omega (arith, w.later.1)) eg eh j
+    (λ x l late k some. elim (cases_lt x b) [ inl lt ↦ absurd (none-some k (sym (w.none x l lt (omega (arith, late))) ∙ some)) | inr le ↦ le ])
+
+pub tried_stopped : (nodes : List Node) (g h : Shape) (a b s : ℕ) (at stop : Option ℕ) → Rising (ids_in nodes) → NoTwice (ids_in nodes) → live a nodes ≡ true → g ≡ node_gate a nodes → at ≡ Some b → Tried nodes g a at
+    → h ≡ node_gate b nodes → paired g h ≡ None → stop ≡ Some s → s ≡ b → IsStop nodes (node_gate a nodes) a stop → NoMate nodes a
+tried_stopped nodes g h a b s at stop r d on eg e t eh j es same k =
+    let w = tried_at nodes g a b at e t in
+    let p = (stop_as nodes (node_gate a nodes) a stop (Some b) (es ∙ ap Some same) k).at in
+    stopped nodes a b g r d on w.later.0 w.later.1 eg (λ x l q lt. w.none x l lt q) (ap (paired g) (sym eh) ∙ j) (ap (λ y. rule y (node_gate b nodes)) eg ∙ p.3)
+
+pub tried_all : (nodes : List Node) (g : Shape) (a : ℕ) (at : Option ℕ) → Rising (ids_in nodes) → NoTwice (ids_in nodes) → live a nodes ≡ true → g ≡ node_gate a nodes → at ≡ None → Tried nodes g a at → NoMate nodes a
+tried_all nodes g a at r d on eg e t =
+    let w = subst (λ (o : Option ℕ). Tried nodes g a o) e t in
+    partner_nowhere nodes a g r d on eg (λ x l late m j. none-some m (sym (w.none x l tt (omega (arith, late))) ∙ j))
+
+-- ---- the walk to the stop
+
+-- so far all commute
+pub record Doubt (nodes : List Node) (g : Shape) (a : ℕ) (at : Option ℕ) : Type 0 where
+  pub later : IfSome at (λ b. (live b nodes ≡ true) × (a < b))
+  pub free : (x : ℕ) → live x nodes ≡ true → IsBefore x at → a < x → rule g (node_gate x nodes) ≡ true
+
+pub doubt_at : (nodes : List Node) (g : Shape) (a b : ℕ) (at : Option ℕ) → at ≡ Some b → Doubt nodes g a at → Doubt nodes g a (Some b)
+doubt_at nodes g a b at e k = subst (λ (o : Option ℕ). Doubt nodes g a o) e k
+
+pub doubt_more : (nodes : List Node) (g h : Shape) (a b : ℕ) (at next : Option ℕ) → at ≡ Some b → Doubt nodes g a at → h ≡ node_gate b nodes → rule g h ≡ true
+    → IfSome next (λ c. (live c nodes ≡ true) × (b < c)) → ((x : ℕ) → live x nodes ≡ true → b < x → IsBefore x next → rule g (node_gate x nodes) ≡ true) → Doubt nodes g a next
+doubt_more nodes g h a b at next e k eh r later free =
+    let w = doubt_at nodes g a b at e k in
+    record {
+      later = later_still next later w.later.1;
+      free = λ x on before lt.
+          walk_more (λ y. a < y → rule g (node_gate y nodes) ≡ true) nodes b next (λ y l q p. w.free y l q p) (λ _. ap (rule g) (sym eh) ∙ r) (λ y l q p _. free y l q p) x on before lt;
+    }
+  where
+    later_still : (o : Option ℕ) → IfSome o (λ c. (live c nodes ≡ true) × (b < c)) → a < b → IfSome o (λ c. (live c nodes ≡ true) × (a < c))
+    later_still None k lt = tt
+    later_still (Some c) k lt = (k.0, omega (arith, k.1, lt))
+
+pub doubt_stop : (nodes : List Node) (g h : Shape) (a b : ℕ) (at : Option ℕ) → at ≡ Some b → Doubt nodes g a at → b < MOST_GATES → h ≡ node_gate b nodes → rule g h ≡ false → IsStop nodes g a (Some b)
+doubt_stop nodes g h a b at e k few eh r =
+    let w = doubt_at nodes g a b at e k in
+    record { free = λ x on lt before. w.free x on before lt; at = (w.later.0, w.later.1, few, ap (rule g) (sym eh) ∙ r) }
+
+-- so far all before a node commute
+pub record Before (nodes : List Node) (g : Shape) (at : Option ℕ) : Type 0 where
+  pub on : IfSome at (λ b. live b nodes ≡ true)
+  pub free : (x : ℕ) → live x nodes ≡ true → IsBefore x at → rule g (node_gate x nodes) ≡ true
+
+pub before_first : (nodes : List Node) (g : Shape) (at : Option ℕ) → Rising (ids_in nodes) → at ≡ head (ids_in nodes) → Before nodes g at
+before_first nodes g at r e = record { on = live_front nodes at e; free = λ x l b. absurd (head_least nodes x r l (subst (λ (o : Option ℕ). IsBefore x o) e b)) }
+
+pub before_as : (nodes : List Node) (g : Shape) (at o : Option ℕ) → at ≡ o → Before nodes g at → Before nodes g o
+before_as nodes g at o e k = subst (λ (p : Option ℕ). Before nodes g p) e k
+
+pub before_more : (nodes : List Node) (g h : Shape) (b : ℕ) (at next : Option ℕ) → at ≡ Some b → Before nodes g at → h ≡ node_gate b nodes → rule g h ≡ true
+    → IfSome next (λ c. (live c nodes ≡ true) × (b < c) × (c < MOST_GATES)) → ((x : ℕ) → live x nodes ≡ true → b < x → IsBefore x next → rule g (node_gate x nodes) ≡ true) → Before nodes g next
+before_more nodes g h b at next e k eh r later free =
+    let w = before_as nodes g at (Some b) e k in
+    record {
+      on = still next later;
+      free = walk_more (λ y. rule g (node_gate y nodes) ≡ true) nodes b next (λ y l q. w.free y l q) (ap (rule g) (sym eh) ∙ r) free;
+    }
+  where
+    still : (o : Option ℕ) → IfSome o (λ c. (live c nodes ≡ true) × (b < c) × (c < MOST_GATES)) → IfSome o (λ c. live c nodes ≡ true)
+    still None k = tt
+    still (Some c) k = k.0
+
+pub before_left : (nodes : List Node) (b : ℕ) (at next : Option ℕ) → at ≡ Some b → b < MOST_GATES → IfSome next (λ c. (live c nodes ≡ true) × (b < c) × (c < MOST_GATES)) → numbers_left next < numbers_left at
+before_left nodes b at None e lt k = let q = ap numbers_left e in omega (arith, q, lt)
+before_left nodes b at (Some c) e lt k = let q = ap numbers_left e in omega (arith, q, lt, k.1)
+
+pub doubt_none : (nodes : List Node) (g : Shape) (a : ℕ) (at : Option ℕ) → at ≡ None → Doubt nodes g a at → IsStop nodes g a None
+doubt_none nodes g a at e k = let w = subst (λ (o : Option ℕ). Doubt nodes g a o) e k in record { free = λ x on lt before. w.free x on before lt; at = tt }
+
+pub doubt_left : (nodes : List Node) (b : ℕ) (at next : Option ℕ) → at ≡ Some b → b < MOST_GATES → IfSome next (λ c. (live c nodes ≡ true) × (b < c)) → numbers_left next < numbers_left at
+doubt_left nodes b at None e lt k = let q = ap numbers_left e in omega (arith, q, lt)
+doubt_left nodes b at (Some c) e lt k = let q = ap numbers_left e in omega (arith, q, lt, k.1)
 
 -- ---- notes that go
 

@@ -8,13 +8,13 @@ use Rattle.rv_links.specs.Order.{lists, NoTwice}
 use Rattle.rv_links.specs.Nodes.{Node, ids_in, gates_in, noted, with_gates}
 use Rattle.rv_templ.specs.Pairs.{paired, partner, after_gates, pair_step}
 use Rattle.rv_templ.specs.inside.Mates.{Joinless, passes}
-use Rattle.rv_templ.specs.inside.Notes.{Quiet, Noted, AllNoted, NoneNoted, Fewer, Others, Unnamed, Apart, Kept, node_of, stop_note, sight}
+use Rattle.rv_templ.specs.inside.Notes.{Quiet, Noted, AllNoted, NoneNoted, Fewer, Others, Unnamed, Apart, Kept, node_of}
 use Rattle.rv_templ.proofs.Options.{map_none, after_none}
 use Rattle.rv_gate.proofs.FirstAnswer.{or_none}
 use Rattle.rv_templ.proofs.NodeLists.{listed_at}
 use Rattle.rv_templ.proofs.PairSteps.{partner_none, partner_pass, partner_nil, step_pass, after_twice, after_nothing}
 
-not_joined : (g h : Shape) (rest : List Shape) → partner g (h ∷ rest) ≡ None → paired g h ≡ None
+pub not_joined : (g h : Shape) (rest : List Shape) → partner g (h ∷ rest) ≡ None → paired g h ≡ None
 unfolding partner
 not_joined g h rest e = map_none (λ m. m ++ rest) (paired g h) (after_none [] _ (or_none _ _ e).0)
 
@@ -58,54 +58,6 @@ quiet_front note g (x ∷ xs) y ys zs zero le q = absurd q
 quiet_front note g (x ∷ xs) y ys zs (suc far) le q = (q.0, elim q.1 [ inl s ↦ inl s | inr r ↦ inr (quiet_front note g xs y ys zs far (omega arith) r) ])
 
 -- ---- the note that a search makes
-
-pub stop_quiet : (g : Shape) (l : List Node) → partner g (gates_in l) ≡ None → Quiet (stop_note g l) g l (sight g l)
-unfolding stop_note sight
-stop_quiet g [] e = refl
-stop_quiet g (n ∷ rest) e =
-    let apart = not_joined g n.gate (gates_in rest) e in
-    elim (cases_Bool (rule g n.gate)) [
-      | inl free ↦
-          let later = stop_quiet g rest (after_none (n.gate ∷ []) (partner g (gates_in rest)) (sym (partner_pass g n.gate (gates_in rest) apart free) ∙ e)) in
-          let same : stop_note g (n ∷ rest) ≡ stop_note g rest = cond-true (rule g n.gate) (stop_note g rest) (n.id + 2) free in
-          let far : sight g (n ∷ rest) ≡ suc (sight g rest) = ap suc (cond-true (rule g n.gate) (sight g rest) 0 free) in
-          subst (λ (k : ℕ). Quiet k g (n ∷ rest) (sight g (n ∷ rest))) (sym same) (subst (λ (k : ℕ). Quiet (stop_note g rest) g (n ∷ rest) k) (sym far) (apart, inr later))
-      | inr stop ↦
-          let same : stop_note g (n ∷ rest) ≡ n.id + 2 = cond-false (rule g n.gate) (stop_note g rest) (n.id + 2) stop in
-          let far : sight g (n ∷ rest) ≡ suc 0 = ap suc (cond-false (rule g n.gate) (sight g rest) 0 stop) in
-          subst (λ (k : ℕ). Quiet k g (n ∷ rest) (sight g (n ∷ rest))) (sym same) (subst (λ (k : ℕ). Quiet (n.id + 2) g (n ∷ rest) k) (sym far) (apart, inl (refl, stop)))
-    ]
-
--- step by step
-pub stop_pass : (g : Shape) (n : Node) (rest : List Node) → rule g n.gate ≡ true → (stop_note g (n ∷ rest) ≡ stop_note g rest) × (sight g (n ∷ rest) ≡ suc (sight g rest))
-unfolding stop_note sight
-stop_pass g n rest free = (cond-true (rule g n.gate) (stop_note g rest) (n.id + 2) free, ap suc (cond-true (rule g n.gate) (sight g rest) 0 free))
-
-pub stop_here : (g : Shape) (n : Node) (rest : List Node) → rule g n.gate ≡ false → (stop_note g (n ∷ rest) ≡ n.id + 2) × (sight g (n ∷ rest) ≡ 1)
-unfolding stop_note sight
-stop_here g n rest stop = (cond-false (rule g n.gate) (stop_note g rest) (n.id + 2) stop, ap suc (cond-false (rule g n.gate) (sight g rest) 0 stop))
-
-pub stop_end : (g : Shape) → (stop_note g [] ≡ 1) × (sight g [] ≡ 0)
-unfolding stop_note sight
-stop_end g = (refl, refl)
-
-pub sight_few : (g : Shape) (l : List Node) → sight g l ≤ length l
-sight_few g [] = let z = (stop_end g).1 in omega (arith, z)
-sight_few g (n ∷ rest) =
-    let few = sight_few g rest in
-    elim (cases_Bool (rule g n.gate)) [
-      | inl free ↦ omega (arith, few, (stop_pass g n rest free).1)
-      | inr stop ↦ omega (arith, (stop_here g n rest stop).1)
-    ]
-
-pub stop_some : (g : Shape) (l : List Node) → stop_note g l ≢ 0
-unfolding stop_note
-stop_some g [] e = omega (arith, e)
-stop_some g (n ∷ rest) e =
-    elim (cases_Bool (rule g n.gate)) [
-      | inl free ↦ stop_some g rest (rw free at e)
-      | inr stop ↦ let z : n.id + 2 ≡ 0 = rw stop at e in omega (arith, z)
-    ]
 
 -- the gate commutes with all
 pub free_quiet : (g : Shape) (l : List Node) → partner g (gates_in l) ≡ None → passes g (gates_in l) ≡ true → Quiet 1 g l (length l)
@@ -229,13 +181,6 @@ fewer_kept old new first second gates (n ∷ rest) f k = (
   fewer_kept old new first second gates rest f k.1,
 )
 
-pub fewer_apart : (old new : List ℕ) (gates : List Shape) (l : List Node) → Fewer old new → Apart old gates l → Apart new gates l
-fewer_apart old new gates [] f k = tt
-fewer_apart old new gates (n ∷ rest) f k = (
-  elim (f n.id) [ inl z ↦ inl z | inr same ↦ (elim k.0 [ inl z ↦ inl (same ∙ z) | inr j ↦ inr j ]) ],
-  fewer_apart old new gates rest f k.1,
-)
-
 pub fewer_unknown : (old new : List ℕ) (l : List Node) → Fewer old new → NoneNoted old l → NoneNoted new l
 fewer_unknown old new [] f k = tt
 fewer_unknown old new (n ∷ rest) f k = (elim (f n.id) [ inl z ↦ z | inr same ↦ same ∙ k.0 ], fewer_unknown old new rest f k.1)
@@ -292,14 +237,6 @@ unknown_split notes (x ∷ xs) ys u = let r = unknown_split notes xs ys u.1 in (
 pub unknown_append : (notes : List ℕ) (xs ys : List Node) → NoneNoted notes xs → NoneNoted notes ys → NoneNoted notes (xs ++ ys)
 unknown_append notes [] ys u r = r
 unknown_append notes (x ∷ xs) ys u r = (u.0, unknown_append notes xs ys u.1 r)
-
-pub apart_append : (notes : List ℕ) (gates : List Shape) (xs ys : List Node) → Apart notes gates xs → Apart notes gates ys → Apart notes gates (xs ++ ys)
-apart_append notes gates [] ys k r = r
-apart_append notes gates (x ∷ xs) ys k r = (k.0, apart_append notes gates xs ys k.1 r)
-
-pub apart_first : (notes : List ℕ) (gates : List Shape) (xs ys : List Node) → Apart notes gates (xs ++ ys) → Apart notes gates xs
-apart_first notes gates [] ys k = tt
-apart_first notes gates (x ∷ xs) ys k = (k.0, apart_first notes gates xs ys k.1)
 
 pub apart_nothing : (notes : List ℕ) (l : List Node) → Apart notes [] l
 apart_nothing notes [] = tt

@@ -1,27 +1,29 @@
 -- The notes after a pair was made, and after a window was replaced.
 use Rattle.std.proofs.lemmas.Grind.{common_steps}
-use Rattle.std.proofs.Common.{◌≡◌, ℕ, zero, suc, ◌+◌, ◌-◌, ◌≤◌, true, false, List, [], ◌∷◌, ◌++◌, length, map, take, drop, refl, sym, ◌∙◌, ap, inl, inr, arith, subst, append_assoc, take-append-drop, length-drop}
+use Rattle.std.proofs.Common.{◌≡◌, ℕ, zero, suc, ◌+◌, ◌-◌, ◌<◌, ◌≤◌, true, false, eqb, List, [], ◌∷◌, ◌++◌, length, map, take, drop, refl, sym, ◌∙◌, ap, inl, inr, arith, subst, append_assoc, take-append-drop, length-drop}
 use Rattle.std.specs.Prelude.{◌⊎◌, Option, Some, None, bit_and, bit_xor}
 use Rattle.std.proofs.Math.Seq.{take-add}
 use Rattle.std.proofs.lemmas.Nat.{and_comm, xor_comm}
-use Rattle.std.proofs.lemmas.Bool.{false≢true, and_parts, cases_eq}
+use Rattle.std.proofs.lemmas.Bool.{false≢true, and_parts, or_cases, eqb-true, cases_eq}
 use Rattle.std.proofs.lemmas.List.{drop-drop, append-nil, length-take-le, length-map, take-take}
 use Rattle.rv_gate.specs.declared.gate.Shape.{Shape}
 use Rattle.rv_gate.specs.Gate.{controls, wanted, is_flip}
 use Rattle.rv_gate.specs.Commuting.{meet, opposed, rule}
-use Rattle.rv_links.specs.Order.{head, next_in, NoTwice}
+use Rattle.rv_links.specs.Order.{lists, head, next_in, NoTwice, Rising}
 use Rattle.rv_links.specs.Nodes.{Node, ids_in, gates_in, live, node_gate, noted}
 use Rattle.rv_links.specs.inside.Chains.{nodes_from}
-use Rattle.rv_links.proofs.inside.WindowLemmas.{from_step}
 use Rattle.rv_templ.specs.Pairs.{paired, partner}
-use Rattle.rv_templ.specs.inside.Mates.{Mate, NoMate, passes}
-use Rattle.rv_templ.specs.inside.Notes.{Quiet, Noted, NoneNoted, stop_note, sight, Apart, Kept, node_of, coupled}
+use Rattle.rv_templ.specs.inside.Mates.{Mate, NoMate, IsStop, passes}
+use Rattle.rv_templ.specs.inside.Notes.{Quiet, Noted, NoneNoted, Apart, Kept, node_of, coupled}
 use Rattle.rv_templ.proofs.JoinedLines.{paired_short}
 use Rattle.rv_templ.proofs.inside.LinkedPairs.{first_is, second_is, join_of, before_second}
-use Rattle.rv_templ.proofs.inside.LinkedWindows.{head_at, coming_few}
+use Rattle.rv_templ.proofs.inside.LinkedWindows.{head_at}
 use Rattle.rv_templ.proofs.inside.PairWalk.{node_here}
-use Rattle.rv_templ.proofs.inside.PartnerWalk.{passes_all}
-use Rattle.rv_templ.proofs.inside.NoteLaws.{kept_split, kept_before, noted_last, noted_far, unknown_noted, unknown_split, quiet_more, free_quiet, stop_pass, stop_here, stop_end, sight_few}
+use Rattle.rv_templ.proofs.inside.PartnerWalk.{passes_each}
+use Rattle.rv_templ.proofs.NodeLists.{listed_at, gate_split, later_than, sooner_than, is_after, rising_last, each_of}
+use Rattle.rv_templ.proofs.Options.{after_none}
+use Rattle.rv_templ.proofs.PairSteps.{partner_pass}
+use Rattle.rv_templ.proofs.inside.NoteLaws.{kept_split, kept_before, noted_last, noted_far, unknown_noted, unknown_split, quiet_more, free_quiet, not_joined}
 
 -- ---- gates that commute with all
 
@@ -75,19 +77,22 @@ pair_right nodes notes a b far low m le near z right kept =
           (noted_far notes ps ns m.first (m.between ++ (m.second ∷ m.after)) now far (omega (arith, far_on, length-drop low m.before)) old later)
     ]
 
--- a gate that commutes with that of each node
-free_passes : (nodes xs ys : List Node) (g : Shape) → NoTwice (ids_in nodes) → nodes ≡ xs ++ ys → ((id : ℕ) → live id nodes ≡ true → rule g (node_gate id nodes) ≡ true) → passes g (gates_in xs) ≡ true
-free_passes nodes xs ys g d e all =
-    passes_all g [] xs ys (subst (λ (l : List Node). NoTwice (ids_in l)) e d) (subst (λ (l : List Node). (id : ℕ) → live id l ≡ true → rule g (node_gate id l) ≡ true) e all)
+-- a gate that commutes with that of each node before one
+free_passes : (nodes xs ys : List Node) (n : Node) (b : ℕ) (g : Shape) → Rising (ids_in nodes) → NoTwice (ids_in nodes) → nodes ≡ xs ++ (n ∷ ys) → n.id ≡ b
+    → ((id : ℕ) → live id nodes ≡ true → id < b → rule g (node_gate id nodes) ≡ true) → passes g (gates_in xs) ≡ true
+free_passes nodes xs ys n b g r d e i all =
+    passes_each g xs
+    (each_of (λ x h. rule g h ≡ true) nodes [] xs (n ∷ ys) e d
+    (λ x l on. all x on (let lt = sooner_than xs n ys x (subst (λ (k : List Node). Rising (ids_in k)) e r) l in omega (arith, lt, i))))
 
-pub free_right : (nodes : List Node) (notes : List ℕ) (a b far : ℕ) (m : Mate nodes a b) (g h : Shape) → NoTwice (ids_in nodes) → g ≡ node_gate a nodes → h ≡ node_gate b nodes
-    → ((id : ℕ) → live id nodes ≡ true → rule g (node_gate id nodes) ≡ true) → ((id : ℕ) → live id nodes ≡ true → rule h (node_gate id nodes) ≡ true)
+pub free_right : (nodes : List Node) (notes : List ℕ) (a b far : ℕ) (m : Mate nodes a b) (g h : Shape) → Rising (ids_in nodes) → NoTwice (ids_in nodes) → g ≡ node_gate a nodes → h ≡ node_gate b nodes
+    → ((id : ℕ) → live id nodes ≡ true → id < b → rule g (node_gate id nodes) ≡ true) → ((id : ℕ) → live id nodes ≡ true → id < b → rule h (node_gate id nodes) ≡ true)
     → noted b notes ≡ 0 → Noted notes nodes far → Apart notes m.gates (m.before ++ (m.first ∷ m.between)) → Noted notes (coupled nodes a b m) far
-free_right nodes notes a b far m g h d eg eh p q z right k =
+free_right nodes notes a b far m g h r d eg eh p q z right k =
     let xs : List Node = m.before ++ (m.first ∷ m.between) in
     let s = before_second nodes a b m in
-    let one : passes m.first.gate (gates_in xs) ≡ true = ap (λ y. passes y (gates_in xs)) (sym (eg ∙ first_is nodes a b m d)) ∙ free_passes nodes xs (m.second ∷ m.after) g d s p in
-    let two : passes m.second.gate (gates_in xs) ≡ true = ap (λ y. passes y (gates_in xs)) (sym (eh ∙ second_is nodes a b m d)) ∙ free_passes nodes xs (m.second ∷ m.after) h d s q in
+    let one : passes m.first.gate (gates_in xs) ≡ true = ap (λ y. passes y (gates_in xs)) (sym (eg ∙ first_is nodes a b m d)) ∙ free_passes nodes xs m.after m.second b g r d s m.is_second p in
+    let two : passes m.second.gate (gates_in xs) ≡ true = ap (λ y. passes y (gates_in xs)) (sym (eh ∙ second_is nodes a b m d)) ∙ free_passes nodes xs m.after m.second b h r d s m.is_second q in
     pair_right nodes notes a b far 0 m (omega arith) (inl refl) z right (kept_free notes m.first m.second m.gates xs one two k)
 
 -- what the pair comes to
@@ -99,43 +104,51 @@ gates_are nodes a b m g h o d eg eh j = sym (join_of nodes a b m g h o d eg eh j
 pub mate_none : (nodes : List Node) (a : ℕ) → NoTwice (ids_in nodes) → live a nodes ≡ true → NoMate nodes a → partner (node_gate a nodes) (gates_in (nodes_from (next_in a (ids_in nodes)) nodes)) ≡ None
 mate_none nodes a d on k = grind (arith, node_here, gates_in, nodes_from, next_in, ids_in)
 
-pub quiet_free : (nodes : List Node) (a left : ℕ) (g : Shape) → NoTwice (ids_in nodes) → live a nodes ≡ true → NoMate nodes a → g ≡ node_gate a nodes → ((id : ℕ) → live id nodes ≡ true → rule g (node_gate id nodes) ≡ true)
+-- with all after it it commutes
+pub quiet_end : (nodes : List Node) (a left : ℕ) → Rising (ids_in nodes) → NoTwice (ids_in nodes) → live a nodes ≡ true → NoMate nodes a → ((x : ℕ) → live x nodes ≡ true → a < x → rule (node_gate a nodes) (node_gate x nodes) ≡ true)
     → length (nodes_from (next_in a (ids_in nodes)) nodes) ≤ left → Quiet 1 (node_gate a nodes) (nodes_from (next_in a (ids_in nodes)) nodes) left
-quiet_free nodes a left g d on k eg all le =
+quiet_end nodes a left r d on k all le =
     let h = node_here nodes k.before k.first k.after a d k.split k.is on in
+    let g = node_gate a nodes in
     let rest : List Node = nodes_from (next_in a (ids_in nodes)) nodes in
     let whole : nodes ≡ (k.before ++ (k.first ∷ [])) ++ (k.after ++ []) = k.split ∙ sym (append_assoc k.before (k.first ∷ []) k.after) ∙ ap (λ l. (k.before ++ (k.first ∷ [])) ++ l) (sym (append-nil k.after)) in
-    let free : passes g (gates_in k.after) ≡ true =
-    passes_all g (k.before ++ (k.first ∷ [])) k.after [] (subst (λ (l : List Node). NoTwice (ids_in l)) whole d) (subst (λ (l : List Node). (id : ℕ) → live id l ≡ true → rule g (node_gate id l) ≡ true) whole all) in
-    let all_rest : passes (node_gate a nodes) (gates_in rest) ≡ true = ap (λ l. passes (node_gate a nodes) (gates_in l)) h.1 ∙ ap (λ y. passes y (gates_in k.after)) (sym eg) ∙ free in
-    quiet_more 1 (node_gate a nodes) rest (length rest) left le (free_quiet (node_gate a nodes) rest (mate_none nodes a d on k) all_rest)
+    let r2 : Rising (ids_in (k.before ++ (k.first ∷ k.after))) = subst (λ (l : List Node). Rising (ids_in l)) k.split r in
+    let each = each_of (λ x h. rule g h ≡ true) nodes (k.before ++ (k.first ∷ [])) k.after [] whole d (λ x l o. all x o (let q = later_than k.before k.first k.after x r2 l in omega (arith, q, k.is))) in
+    quiet_more 1 g rest (length rest) left le (free_quiet g rest (mate_none nodes a d on k) (ap (λ l. passes g (gates_in l)) h.1 ∙ passes_each g k.after each))
 
--- ---- the walk that makes a note
+-- up to a node with which it does not commute
+stop_walk : (nodes front rest : List Node) (g : Shape) (s a far : ℕ) → NoTwice (ids_in nodes) → Rising (ids_in rest) → nodes ≡ front ++ rest → partner g (gates_in rest) ≡ None
+    → ((x : ℕ) → live x nodes ≡ true → a < x → x < s → rule g (node_gate x nodes) ≡ true) → live s rest ≡ true → rule g (node_gate s nodes) ≡ false → ((x : ℕ) → live x rest ≡ true → a < x) → s ≤ a + far → Quiet (s + 2) g rest far
+stop_walk nodes front [] g s a far d r e none free on stop late le = absurd (false≢true on)
+stop_walk nodes front (n ∷ rest) g s a zero d r e none free on stop late le = let lt = late s on in absurd (omega (arith, lt, le))
+stop_walk nodes front (n ∷ rest) g s a (suc far) d r e none free on stop late le =
+    let apart = not_joined g n.gate (gates_in rest) none in
+    let is : node_gate n.id nodes ≡ n.gate = gate_split nodes front n rest n.id d e refl in
+    elim (or_cases (eqb s n.id) (lists s (ids_in rest)) on) [
+      | inl same ↦
+          let q = eqb-true s n.id same in
+          (apart, inl (ap (λ k. k + 2) q, ap (rule g) (sym is) ∙ ap (λ k. rule g (node_gate k nodes)) (sym q) ∙ stop))
+      | inr l ↦
+          let first = late n.id (listed_at [] n rest) in
+          let soon = r.0 s l in
+          let pass : rule g n.gate ≡ true = ap (rule g) (sym is) ∙ free n.id (ap (live n.id) e ∙ listed_at front n rest) first soon in
+          let later = after_none (n.gate ∷ []) (partner g (gates_in rest)) (sym (partner_pass g n.gate (gates_in rest) apart pass) ∙ none) in
+          (apart, inr (stop_walk nodes (front ++ (n ∷ [])) rest g s n.id far d r.1 (e ∙ sym (append_assoc front (n ∷ []) rest)) later (λ x o q p. free x o (omega (arith, q, first)) p) l stop r.0 (omega (arith, le, first))))
+    ]
 
-from_live : (nodes : List Node) (x : ℕ) (at : Option ℕ) → NoTwice (ids_in nodes) → live x nodes ≡ true → at ≡ Some x → nodes_from at nodes ≡ node_of x (node_gate x nodes) ∷ nodes_from (next_in x (ids_in nodes)) nodes
-from_live nodes x at d on e = ap (λ q. nodes_from q nodes) e ∙ from_step x nodes d on
-
-pub stop_at : (nodes : List Node) (x : ℕ) (at : Option ℕ) (g h : Shape) → NoTwice (ids_in nodes) → live x nodes ≡ true → at ≡ Some x → h ≡ node_gate x nodes → rule g h ≡ false
-    → (stop_note g (nodes_from at nodes) ≡ x + 2) × (sight g (nodes_from at nodes) ≡ 1)
-stop_at nodes x at g h d on e eh r =
-    let f = from_live nodes x at d on e in
-    let s = stop_here g (node_of x (node_gate x nodes)) (nodes_from (next_in x (ids_in nodes)) nodes) (ap (rule g) (sym eh) ∙ r) in
-    (ap (stop_note g) f ∙ s.0, ap (sight g) f ∙ s.1)
-
-pub pass_at : (nodes : List Node) (x : ℕ) (at next : Option ℕ) (g h : Shape) → NoTwice (ids_in nodes) → live x nodes ≡ true → at ≡ Some x → h ≡ node_gate x nodes → rule g h ≡ true → next ≡ next_in x (ids_in nodes)
-    → (stop_note g (nodes_from at nodes) ≡ stop_note g (nodes_from next nodes)) × (sight g (nodes_from at nodes) ≡ suc (sight g (nodes_from next nodes)))
-pass_at nodes x at next g h d on e eh r en =
-    let f = from_live nodes x at d on e in
-    let s = stop_pass g (node_of x (node_gate x nodes)) (nodes_from (next_in x (ids_in nodes)) nodes) (ap (rule g) (sym eh) ∙ r) in
-    let q = sym en in
-    (ap (stop_note g) f ∙ s.0 ∙ ap (λ o. stop_note g (nodes_from o nodes)) q, ap (sight g) f ∙ s.1 ∙ ap (λ o. suc (sight g (nodes_from o nodes))) q)
-
-pub none_at : (nodes : List Node) (at : Option ℕ) (g : Shape) → at ≡ None → (stop_note g (nodes_from at nodes) ≡ 1) × (sight g (nodes_from at nodes) ≡ 0)
-none_at nodes at g e = let s = stop_end g in (ap (λ o. stop_note g (nodes_from o nodes)) e ∙ s.0, ap (λ o. sight g (nodes_from o nodes)) e ∙ s.1)
-
-pub sight_most : (nodes : List Node) (at : Option ℕ) (g : Shape) → sight g (nodes_from at nodes) ≤ length (gates_in nodes)
-sight_most nodes at g =
-    omega (arith, sight_few g (nodes_from at nodes), coming_few at nodes, length-map (nodes_from at nodes) (λ (n : Node). n.gate))
+pub quiet_stop : (nodes : List Node) (a s far : ℕ) → Rising (ids_in nodes) → NoTwice (ids_in nodes) → live a nodes ≡ true → NoMate nodes a → IsStop nodes (node_gate a nodes) a (Some s) → s ≤ a + far
+    → Quiet (s + 2) (node_gate a nodes) (nodes_from (next_in a (ids_in nodes)) nodes) far
+quiet_stop nodes a s far r d on k stop le =
+    let h = node_here nodes k.before k.first k.after a d k.split k.is on in
+    let front : List Node = k.before ++ (k.first ∷ []) in
+    let whole : nodes ≡ front ++ k.after = k.split ∙ sym (append_assoc k.before (k.first ∷ []) k.after) in
+    let r2 : Rising (ids_in (k.before ++ (k.first ∷ k.after))) = subst (λ (l : List Node). Rising (ids_in l)) k.split r in
+    let at = stop.at in
+    let beyond = is_after k.before k.first k.after s r2 (ap (live s) (sym k.split) ∙ at.0) (omega (arith, at.1, k.is)) in
+    subst (λ (l : List Node). Quiet (s + 2) (node_gate a nodes) l far) (sym h.1)
+    (stop_walk nodes front k.after (node_gate a nodes) s a far d (rising_last front k.after (subst (λ (l : List Node). Rising (ids_in l)) whole r)) whole
+    (ap (λ l. partner (node_gate a nodes) (gates_in l)) (sym h.1) ∙ mate_none nodes a d on k) (λ x o q p. stop.free x o q p) beyond at.3
+    (λ x l. let q = later_than k.before k.first k.after x r2 l in omega (arith, q, k.is)) le)
 
 -- ---- a window is replaced
 

@@ -1,8 +1,10 @@
 -- Pairs of nodes.
-use Rattle.std.specs.Prelude.{◌≡◌, ℕ, Bool, true, ◌&&◌, List, [], ◌∷◌, ◌++◌, length, Some, None}
+use Rattle.std.specs.Prelude.{◌≡◌, ℕ, ◌-◌, ◌<◌, Bool, true, false, ◌&&◌, List, [], ◌∷◌, ◌++◌, length, Option, Some, None, IsTrue, IfSome}
 use Rattle.rv_gate.specs.declared.gate.Shape.{Shape}
+use Rattle.rv_gate.specs.declared.circuit.TheConstants.{MOST_GATES}
 use Rattle.rv_gate.specs.Commuting.{rule}
-use Rattle.rv_links.specs.Nodes.{Node, gates_in}
+use Rattle.rv_links.specs.Doubt.{IsBefore}
+use Rattle.rv_links.specs.Nodes.{Node, live, node_gate, gates_in}
 use Rattle.rv_templ.specs.Pairs.{paired, partner, pair_step}
 
 -- the node a makes no pair with one after it
@@ -51,6 +53,16 @@ pub record Candidate (nodes : List Node) (a b : ℕ) : Type 0 where
   pub joinless : Joinless first.gate (gates_in between)
   pub gates : List Shape
   pub join : paired first.gate second.gate ≡ Some gates
+
+-- the first node after a with whose gate a gate does not commute, if there is one
+pub record IsStop (nodes : List Node) (g : Shape) (a : ℕ) (stop : Option ℕ) : Type 0 where
+  pub free : (x : ℕ) → IsTrue (live x nodes) → a < x → IsBefore x stop → rule g (node_gate x nodes) ≡ true
+  pub at : IfSome stop (λ s. IsTrue (live s nodes) × (a < s) × (s < MOST_GATES) × (rule g (node_gate s nodes) ≡ false))
+
+-- how many numbers are left from one on
+abbrev pub numbers_left : Option ℕ → ℕ
+numbers_left None = 0
+numbers_left (Some x) = MOST_GATES - x
 
 -- the gates after the pair was made
 abbrev pub mated : (nodes : List Node) (a b : ℕ) → Mate nodes a b → List Shape

@@ -61,15 +61,6 @@ node_of a g = record { id = a; gate = g }
 abbrev pub coupled : (nodes : List Node) (a b : ℕ) → Mate nodes a b → List Node
 coupled nodes a b m = m.before ++ (m.between ++ (map (node_of b) m.gates ++ m.after))
 
--- the note of a gate without a partner, and on how many of the nodes after it that depends
-unfoldable pub stop_note : Shape → List Node → ℕ
-stop_note g [] = 1
-stop_note g (n ∷ rest) = if rule g n.gate then stop_note g rest else n.id + 2
-
-unfoldable pub sight : Shape → List Node → ℕ
-sight g [] = 0
-sight g (n ∷ rest) = suc (if rule g n.gate then sight g rest else 0)
-
 -- what is known of a list of nodes
 pub record IsKnown (library : List (List Shape)) (nodes : List Node) (notes : List ℕ) (clean due : Cursor) (far : ℕ) : Type 0 where
   pub windows : Clean library (gates_in nodes) clean.place

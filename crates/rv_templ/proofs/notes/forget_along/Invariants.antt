@@ -1,9 +1,8 @@
 use Rattle.std.proofs.Common.{◌≡◌, length}
 use Rattle.std.specs.Prelude.{IsFalse}
-use Rattle.rv_links.specs.Nodes.{chain}
 use Rattle.rv_templ.specs.inside.Linking.{coming}
 use Rattle.rv_templ.specs.inside.Notes.{Fewer}
-use Rattle.rv_templ.proofs.inside.ForgetWalks.{OnLine}
+use Rattle.rv_templ.proofs.inside.ForgetWalks.{Loosening}
 use Rattle.rv_templ.proofs.notes.forget_along.Given as goal
 
 abbrev pub invariant-loop-at : goal.invariant-loop-at
@@ -12,8 +11,8 @@ invariant-loop-at l = record {
   nodes : l.linked.nodes ≡ l.initial.linked.nodes;
   fewer : Fewer l.initial.linked.notes l.linked.notes;
   same : IsFalse l.gone → l.linked.notes ≡ l.initial.linked.notes;
-  walk : OnLine l.initial.linked.nodes l.linked.notes l.new l.line l.at;
+  loose : Loosening l.initial.linked.nodes l.linked.notes l.new l.at;
 }
 
 abbrev pub decreases-loop-at : goal.decreases-loop-at
-decreases-loop-at l = length (coming l.at (chain l.initial.linked.nodes l.line))
+decreases-loop-at l = length (coming l.at l.initial.linked.nodes)

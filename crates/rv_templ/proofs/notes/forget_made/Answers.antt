@@ -6,9 +6,6 @@ use Rattle.rv_templ.specs.inside.Notes.{Apart}
 use Rattle.rv_templ.proofs.inside.NoteLaws.{apart_nothing}
 use Rattle.rv_templ.proofs.notes.forget_made.Goals as goal
 
-pub forget_joined-requires-clause-fits : goal.forget_joined-requires-clause-fits
-forget_joined-requires-clause-fits c line t = c.requires.fits (c.in-One.new ∷ []) (ap option_of c.in-One.is) 0 c.in-One.new (lit< tt) line t
-
 pub returns-in-Both-clause-apart : goal.returns-in-Both-clause-apart
 returns-in-Both-clause-apart c gates n xs ys eo i s =
     let none : [] ≡ gates = same_Some [] gates (sym (ap option_of c.in-Both.is) ∙ eo) in

@@ -15,19 +15,14 @@ use Rattle.rv_templ.proofs.inside.NoteLaws.{fewer_on, fewer_set, fewer_noted, fe
 use Rattle.rv_templ.proofs.inside.NotesAfter.{pair_right, free_right, gates_are}
 use Rattle.rv_templ.proofs.notes.forget_pair.Goals as goal
 
-pub forget_made-gone-requires-clause-live : goal.forget_made-gone-requires-clause-live
-forget_made-gone-requires-clause-live c = ap (live c.args.pair.now.b) c.set_note.ensures.nodes ∙ second_live c.args.linked.now.nodes c.args.pair.now.a c.args.pair.now.b c.requires.spot.mate
+pub forget_made-gone-requires : goal.forget_made-gone-requires
+forget_made-gone-requires c = ap (live c.args.pair.now.b) c.set_note.ensures.nodes ∙ second_live c.args.linked.now.nodes c.args.pair.now.a c.args.pair.now.b c.requires.spot.mate
+
+pub are_free-free-requires : goal.are_free-free-requires
+are_free-free-requires c = ap (live c.args.pair.now.b) c.set_note.ensures.nodes ∙ second_live c.args.linked.now.nodes c.args.pair.now.a c.args.pair.now.b c.requires.spot.mate
 
 pub set_note-requires : goal.set_note-requires
 set_note-requires c = second_live c.args.linked.now.nodes c.args.pair.now.a c.args.pair.now.b c.requires.spot.mate
-
-pub forget_made-gone-requires-clause-fits : goal.forget_made-gone-requires-clause-fits
-forget_made-gone-requires-clause-fits c gates eo =
-    let m = c.requires.spot.mate in
-    let made = gates_are c.args.linked.now.nodes c.args.pair.now.a c.args.pair.now.b m c.gate-first.result c.gate-second.result _ c.recall_invariant.ensures.once c.gate-first.ensures c.gate-second.ensures c.join-made.ensures in
-    let same : m.gates ≡ gates = same_Some m.gates gates (sym made ∙ eo) in
-    let good = made_good (length c.args.linked.now.frame.names) c.args.linked.now.nodes c.args.pair.now.a c.args.pair.now.b m (linked_gates c.args.linked.now c.recall_invariant.ensures) in
-    subst (λ (l : Cascade). All (λ g. FitsIn g (length l.names)) gates) (sym c.set_note.ensures.frame) (subst (λ (l : List Shape). All (λ g. FitsIn g (length c.args.linked.now.frame.names)) l) same (all_fit _ m.gates good))
 
 pub returns-then-gone-clause-right : goal.returns-then-gone-clause-right
 returns-then-gone-clause-right c s =
@@ -39,7 +34,7 @@ returns-then-gone-clause-right c s =
     let fewer = fewer_on c.args.linked.now.notes c.set_note.new.self.notes c.forget_made-gone.new.linked.notes (fewer_set c.args.linked.now.notes c.set_note.new.self.notes c.args.pair.now.b c.set_note.ensures.here c.set_note.ensures.others) c.forget_made-gone.ensures.fewer in
     let one = rw c.set_note.ensures.nodes at (c.are_free-free.ensures.first c.if-free.true) in
     let two = rw c.set_note.ensures.nodes at (c.are_free-free.ensures.second c.if-free.true) in
-    free_right nodes c.forget_made-gone.new.linked.notes a c.args.pair.now.b c.args.far m c.gate-first.result c.gate-second.result once c.gate-first.ensures c.gate-second.ensures one two
+    free_right nodes c.forget_made-gone.new.linked.notes a c.args.pair.now.b c.args.far m c.gate-first.result c.gate-second.result c.recall_invariant.ensures.rising once c.gate-first.ensures c.gate-second.ensures one two
     (fewer_zero c.set_note.new.self.notes c.forget_made-gone.new.linked.notes c.args.pair.now.b c.forget_made-gone.ensures.fewer c.set_note.ensures.here)
     (fewer_noted c.args.linked.now.notes c.forget_made-gone.new.linked.notes nodes c.args.far fewer c.requires.right)
     (c.forget_made-gone.ensures.apart m.gates m.second (m.before ++ (m.first ∷ m.between)) m.after made m.is_second (c.set_note.ensures.nodes ∙ before_second nodes a c.args.pair.now.b m))
@@ -54,7 +49,7 @@ returns-else-gone-clause-right c s =
     let fewer = fewer_on c.args.linked.now.notes c.set_note.new.self.notes c.forget_made-gone.new.linked.notes (fewer_set c.args.linked.now.notes c.set_note.new.self.notes c.args.pair.now.b c.set_note.ensures.here c.set_note.ensures.others) c.forget_made-gone.ensures.fewer in
     let one = rw c.set_note.ensures.nodes at (c.are_free-free.ensures.first c.if-free.true) in
     let two = rw c.set_note.ensures.nodes at (c.are_free-free.ensures.second c.if-free.true) in
-    free_right nodes c.forget_made-gone.new.linked.notes a c.args.pair.now.b c.args.far m c.gate-first.result c.gate-second.result once c.gate-first.ensures c.gate-second.ensures one two
+    free_right nodes c.forget_made-gone.new.linked.notes a c.args.pair.now.b c.args.far m c.gate-first.result c.gate-second.result c.recall_invariant.ensures.rising once c.gate-first.ensures c.gate-second.ensures one two
     (fewer_zero c.set_note.new.self.notes c.forget_made-gone.new.linked.notes c.args.pair.now.b c.forget_made-gone.ensures.fewer c.set_note.ensures.here)
     (fewer_noted c.args.linked.now.notes c.forget_made-gone.new.linked.notes nodes c.args.far fewer c.requires.right)
     (c.forget_made-gone.ensures.apart m.gates m.second (m.before ++ (m.first ∷ m.between)) m.after made m.is_second (c.set_note.ensures.nodes ∙ before_second nodes a c.args.pair.now.b m))

@@ -1,15 +1,24 @@
-use Rattle.std.proofs.Common.{sym, ◌∙◌}
-use Rattle.rv_templ.proofs.inside.NoteLaws.{stop_quiet, stop_some}
-use Rattle.rv_templ.proofs.inside.NotesAfter.{mate_none, quiet_free}
+use Rattle.std.proofs.Common.{arith}
+use Rattle.std.specs.Prelude.{Some, None}
+use Rattle.rv_links.specs.Nodes.{node_gate}
+use Rattle.rv_templ.proofs.inside.LookupLaws.{stop_as}
+use Rattle.rv_templ.proofs.inside.NotesAfter.{quiet_end, quiet_stop}
 use Rattle.rv_templ.proofs.notes.note_for.Goals as goal
 
-pub returns-then-commutes_with_all-clause-quiet : goal.returns-then-commutes_with_all-clause-quiet
-returns-then-commutes_with_all-clause-quiet c =
-    quiet_free c.args.linked.now.nodes c.args.node c.args.left c.gate.result c.recall_invariant.ensures.once c.requires.live c.requires.none c.gate.ensures (c.commutes_with_all.ensures c.if-commutes_with_all.true) c.requires.left
+pub overflow_add-result : goal.overflow_add-result
+overflow_add-result c =
+    let nodes = c.args.linked.now.nodes in
+    let at = (stop_as nodes (node_gate c.args.node nodes) c.args.node c.args.stop (Some c.in-Some.last) c.in-Some.is c.requires.stop).at in
+    omega (arith, at.2)
 
-pub returns-clause-quiet : goal.returns-clause-quiet
-returns-clause-quiet c =
-    rw (c.stop_note.ensures.note, c.stop_note.ensures.sight) (stop_quiet _ _ (mate_none c.args.linked.now.nodes c.args.node c.recall_invariant.ensures.once c.requires.live c.requires.none))
+pub returns-in-None-clause-quiet : goal.returns-in-None-clause-quiet
+returns-in-None-clause-quiet c =
+    let nodes = c.args.linked.now.nodes in
+    let s = stop_as nodes (node_gate c.args.node nodes) c.args.node c.args.stop None c.in-None.is c.requires.stop in
+    quiet_end nodes c.args.node c.args.left c.recall_invariant.ensures.rising c.recall_invariant.ensures.once c.requires.live c.requires.none (λ x on lt. s.free x on lt tt) c.requires.left
 
-pub returns-clause-some : goal.returns-clause-some
-returns-clause-some c z = stop_some _ _ (sym c.stop_note.ensures.note ∙ z)
+pub returns-in-Some-clause-quiet : goal.returns-in-Some-clause-quiet
+returns-in-Some-clause-quiet c =
+    let nodes = c.args.linked.now.nodes in
+    let s = stop_as nodes (node_gate c.args.node nodes) c.args.node c.args.stop (Some c.in-Some.last) c.in-Some.is c.requires.stop in
+    quiet_stop nodes c.args.node c.in-Some.last _ c.recall_invariant.ensures.rising c.recall_invariant.ensures.once c.requires.live c.requires.none s (omega (arith, c.number.ensures.value))
