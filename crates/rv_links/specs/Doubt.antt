@@ -1,5 +1,5 @@
 -- How far it is known that a gate commutes with those after it.
-use Rattle.std.specs.Prelude.{◌≡◌, ℕ, ◌<◌, ◌≤◌, true, Option, Some, None, IsTrue}
+use Rattle.std.specs.Prelude.{ℕ, ◌<◌, Option, Some, None}
 
 -- a number is before another, or that one is missing
 abbrev pub IsBefore : ℕ → Option ℕ → Type 0

@@ -1,8 +1,8 @@
 -- Linked cascades: nodes in order, each with its gate.
-use Rattle.std.specs.Prelude.{◌≡◌, ℕ, zero, suc, ◌+◌, Bool, IsTrue, ◌==◌, if◌then◌else◌, List, [], ◌∷◌, map, take, filter, count_ones, slice_index_or}
+use Rattle.std.specs.Prelude.{◌≡◌, ℕ, zero, suc, ◌+◌, Bool, IsTrue, ◌==◌, if◌then◌else◌, List, [], ◌∷◌, map, take, count_ones, slice_index_or}
 use Rattle.rv_gate.specs.declared.gate.Shape.{Shape}
 use Rattle.rv_gate.specs.declared.gate.Shape.TheVariants.{Flip}
-use Rattle.rv_gate.specs.Gate.{touches, touched}
+use Rattle.rv_gate.specs.Gate.{touched}
 use Rattle.rv_gate.specs.Circuit.{Cascade, IsCascade}
 use Rattle.rv_links.specs.Order.{lists, NoTwice, Rising}
 

@@ -18,7 +18,9 @@ use std::alloc::{AllocError, Global};
 
 // How many numbers a block of each size has.
 pub const SMALL: u32 = 16;
+
 pub const MIDDLE: u32 = 512;
+
 pub const LARGE: u32 = 16384;
 
 /// The blocks of each size, from number 0 on.
@@ -125,13 +127,7 @@ impl Blocks {
     }
 
     /// A number of the order up to which the gate commutes with all of it from a number on.
-    pub fn first_in_doubt(
-        &self,
-        gates: &[Gate],
-        order: &Ring,
-        gate: Gate,
-        from: u32,
-    ) -> Option<u32>
+    pub fn first_in_doubt(&self, gates: &[Gate], order: &Ring, gate: Gate, from: u32) -> Option<u32>
         requires most { length gates.now ≤ MOST_GATES }
         requires room { order.now.room ≡ length gates.now }
         requires below { (x : ℕ) → IsTrue (lists x order.now.ids) → x < length gates.now }

@@ -200,7 +200,10 @@ impl Linked {
         ensures later { IfSome result (λ b. IsTrue (live b self.now.nodes) × (node < b) × (b < MOST_GATES)) }
         ensures free { (x : ℕ) → IsTrue (live x self.now.nodes) → node < x → IsBefore x result → rule gate (node_gate x self.now.nodes) ≡ true }
     {
-        match self.blocks.first_in_doubt(&self.gates, &self.order, gate, node.id + 1) {
+        match self
+            .blocks
+            .first_in_doubt(&self.gates, &self.order, gate, node.id + 1)
+        {
             Some(id) => Some(NodeId { id }),
             None => None,
         }

@@ -96,7 +96,13 @@ fn if_free(linked: &Linked, a: NodeId, b: NodeId, stop: Option<u32>) -> Option<N
     linked.recall_invariant();
     match stop {
         None => Some(b),
-        Some(last) => { if last < linked.number(b) { None } else { Some(b) } }
+        Some(last) => {
+            if last < linked.number(b) {
+                None
+            } else {
+                Some(b)
+            }
+        }
     }
 }
 

@@ -1,5 +1,5 @@
 -- Blocks of numbers, with the lines that their gates read and change.
-use Rattle.std.proofs.Common.{◌≡◌, ℕ, ◌+◌, ◌<◌, ◌≤◌, ◌/◌, true, List, length, get_or, set, take, drop, ◌++◌, sym, subst, ◌∙◌, ap, inl, inr, arith, length-set, get_or-set_same, get_or-set_other}
+use Rattle.std.proofs.Common.{◌≡◌, ℕ, ◌+◌, ◌<◌, ◌≤◌, ◌/◌, true, List, length, set, take, drop, ◌++◌, sym, subst, ◌∙◌, ap, inl, inr, arith, length-set, get_or-set_same, get_or-set_other}
 use Rattle.std.proofs.lemmas.Bool.{cases_eq, cases_lt}
 use Rattle.std.proofs.lemmas.List.{take_at}
 use Rattle.rv_gate.specs.declared.gate.Shape.{Shape}

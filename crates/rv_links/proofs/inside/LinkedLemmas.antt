@@ -1,16 +1,16 @@
 -- Linked cascades through the numbers of their nodes: what is read, and how a node is erased.
-use Rattle.std.proofs.Common.{◌≡◌, ◌≢◌, ℕ, ◌<◌, Bool, true, false, cond, eqb, List, [], ◌∷◌, ◌++◌, length, get_or, refl, sym, subst, ◌∙◌, ap, inl, inr, arith, eq-eqb, ne_eqb}
-use Rattle.std.specs.Prelude.{Option, Some, None}
+use Rattle.std.proofs.Common.{◌≡◌, ◌≢◌, ℕ, ◌<◌, Bool, true, cond, eqb, List, [], ◌∷◌, length, get_or, refl, sym, ◌∙◌, ap, inl, inr, eq-eqb, ne_eqb}
+use Rattle.std.specs.Prelude.{Option, Some}
 use Rattle.std.proofs.lemmas.List.{get_or_read}
 use Rattle.std.proofs.lemmas.Option.{none-some, same_Some}
-use Rattle.std.proofs.lemmas.Bool.{cases_eq, cases_Bool, cond-true, cond-false, false≢true, false_from_ne_true}
+use Rattle.std.proofs.lemmas.Bool.{cases_eq, cases_Bool, cond-true, cond-false, false≢true}
 use Rattle.rv_gate.specs.declared.gate.Shape.{Shape}
 use Rattle.rv_gate.specs.Circuit.{Cascade}
 use Rattle.rv_links.specs.Order.{lists, head, next_in, prev_in, NoTwice}
 use Rattle.rv_links.specs.inside.Ring.{Order, without, rest_after}
 use Rattle.rv_links.specs.Nodes.{Node, Linkage, ids_in, live, node_gate, noted, erased}
 use Rattle.rv_links.specs.inside.Chains.{blank, gate_at, nodes_of, IsLinked}
-use Rattle.rv_links.proofs.inside.RingLemmas.{lists_here, lists_more, lists_cases, differ_from, lists_without, kept_without, NoTwice-without}
+use Rattle.rv_links.proofs.inside.RingLemmas.{lists_here, lists_more, lists_cases, differ_from, lists_without, NoTwice-without}
 
 pub ids_of_nodes : (gates : List Shape) (ids : List ℕ) → ids_in (nodes_of gates ids) ≡ ids
 ids_of_nodes gates [] = refl

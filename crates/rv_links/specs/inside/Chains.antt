@@ -1,13 +1,13 @@
 -- The order of all nodes.
-use Rattle.std.specs.Prelude.{◌≡◌, ℕ, ◌<◌, ◌≤◌, List, [], length, map, filter, if◌then◌else◌, slice_index_or, Option, Some, None, IsTrue}
+use Rattle.std.specs.Prelude.{◌≡◌, ℕ, ◌<◌, ◌≤◌, List, [], length, map, slice_index_or, Option, Some, None, IsTrue}
 use Rattle.rv_gate.specs.declared.gate.Shape.{Shape}
 use Rattle.rv_gate.specs.declared.gate.Shape.TheVariants.{Flip}
 use Rattle.rv_gate.specs.declared.word.TheConstants.{MOST_LINES}
 use Rattle.rv_gate.specs.declared.circuit.TheConstants.{MOST_GATES}
-use Rattle.rv_gate.specs.Gate.{touches, FitsIn, IsGate}
+use Rattle.rv_gate.specs.Gate.{FitsIn, IsGate}
 use Rattle.rv_links.specs.Order.{lists, NoTwice}
 use Rattle.rv_links.specs.Nodes.{Node, window_set, from_node}
-use Rattle.rv_links.specs.inside.Ring.{Order, without}
+use Rattle.rv_links.specs.inside.Ring.{Order}
 
 abbrev pub blank : Shape
 blank = Flip 0 0 0

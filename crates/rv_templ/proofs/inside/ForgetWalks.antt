@@ -1,26 +1,22 @@
 -- The walks on which notes go.
-use Rattle.std.proofs.Common.{◌≡◌, ◌≢◌, ℕ, ◌+◌, ◌-◌, ◌<◌, ◌≤◌, true, false, eqb, List, [], ◌∷◌, ◌++◌, length, take, drop, refl, sym, ◌∙◌, ap, inl, inr, arith, subst, append_assoc, length-append, take-append-drop, length-drop}
+use Rattle.std.proofs.Common.{◌≡◌, ◌≢◌, ℕ, ◌+◌, ◌-◌, ◌≤◌, true, false, eqb, List, [], ◌∷◌, ◌++◌, length, take, drop, refl, sym, ◌∙◌, ap, inl, inr, arith, subst, append_assoc, length-append, take-append-drop, length-drop}
 use Rattle.std.specs.Prelude.{◌⊎◌, Option, Some, None, IfSome}
 use Rattle.rv_links.specs.Doubt.{IsBefore}
 use Rattle.rv_links.proofs.inside.WindowLemmas.{live_first, live_after}
 use Rattle.std.proofs.Math.Seq.{drop-append_seam, take-add}
-use Rattle.std.proofs.lemmas.Bool.{cond-true, or_parts, or_from}
+use Rattle.std.proofs.lemmas.Bool.{or_parts, or_from}
 use Rattle.std.proofs.lemmas.List.{append-nil, length-take-le, take_all, drop-drop}
-use Rattle.std.proofs.lemmas.List.Elements.{filter-append}
 use Rattle.rv_gate.specs.declared.gate.Shape.{Shape}
-use Rattle.rv_gate.specs.Gate.{touches}
 use Rattle.rv_links.specs.Order.{lists, head, next_in, NoTwice, Rising}
 use Rattle.rv_links.specs.Nodes.{Node, ids_in, live, node_gate, noted}
-use Rattle.rv_templ.specs.Images.{target_of}
 use Rattle.rv_templ.specs.Pairs.{paired}
 use Rattle.rv_templ.specs.declared.joining.Joined.{Joined}
 use Rattle.rv_templ.specs.inside.Joins.{option_of}
-use Rattle.rv_templ.specs.inside.Linking.{coming}
 use Rattle.rv_templ.specs.inside.Mates.{Joinless, IsPairSpot}
-use Rattle.rv_templ.specs.inside.Notes.{Fewer, NoneNoted, Apart, Kept}
+use Rattle.rv_templ.specs.inside.Notes.{Fewer, NoneNoted, Kept}
 use Rattle.rv_templ.proofs.inside.CursorLaws.{all_passed}
-use Rattle.rv_templ.proofs.inside.LinkedWindows.{shorter_next, head_at, node_more}
-use Rattle.rv_templ.proofs.NodeLists.{head_least, next_least, walk_more, apart, listed_at, gate_at_node}
+use Rattle.rv_templ.proofs.inside.LinkedWindows.{head_at, node_more}
+use Rattle.rv_templ.proofs.NodeLists.{head_least, next_least, walk_more, apart}
 use Rattle.rv_templ.proofs.inside.LinkedPairs.{place_is, second_here}
 use Rattle.rv_templ.proofs.inside.NoteLaws.{kept_split, kept_append, fewer_kept, fewer_unknown, unknown_append}
 use Rattle.rv_templ.proofs.inside.NotesAfter.{drop_within}

@@ -7,7 +7,7 @@ use Rattle.rv_links.specs.Doubt.{IsBefore}
 use Rattle.std.proofs.lemmas.Nat.{or_comm, xor_comm}
 use Rattle.std.proofs.lemmas.List.{append-nil}
 use Rattle.std.proofs.lemmas.Option.{none-some, same_Some}
-use Rattle.std.proofs.lemmas.Bool.{cases_Bool, cases_eq, cases_lt, cond-true, cond-false, false≢true, and_parts, and_from, or_left, or_right, or_cases, eqb-true, false_from_ne_true}
+use Rattle.std.proofs.lemmas.Bool.{cases_Bool, cases_eq, cases_lt, cond-true, cond-false, false≢true, and_parts, and_from, or_left, or_cases, eqb-true, false_from_ne_true}
 use Rattle.rv_gate.specs.Word.{has}
 use Rattle.rv_gate.specs.Gate.{IsGate, controls, is_flip, xor}
 use Rattle.rv_gate.specs.declared.gate.Shape.{Shape}

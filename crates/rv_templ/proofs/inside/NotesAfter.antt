@@ -5,7 +5,7 @@ use Rattle.std.specs.Prelude.{◌⊎◌, Option, Some, None, bit_and, bit_xor}
 use Rattle.std.proofs.Math.Seq.{take-add}
 use Rattle.std.proofs.lemmas.Nat.{and_comm, xor_comm}
 use Rattle.std.proofs.lemmas.Bool.{false≢true, and_parts, or_cases, eqb-true, cases_eq}
-use Rattle.std.proofs.lemmas.List.{drop-drop, append-nil, length-take-le, length-map, take-take}
+use Rattle.std.proofs.lemmas.List.{drop-drop, append-nil, length-take-le, take-take}
 use Rattle.rv_gate.specs.declared.gate.Shape.{Shape}
 use Rattle.rv_gate.specs.Gate.{controls, wanted, is_flip}
 use Rattle.rv_gate.specs.Commuting.{meet, opposed, rule}

@@ -1,8 +1,5 @@
-use Rattle.std.proofs.Common.{refl, ap}
-use Rattle.std.specs.Prelude.{bit_or}
-use Rattle.rv_links.specs.declared.used.LineUse.{LineUse}
-use Rattle.rv_links.specs.inside.Blocks.{used_at}
-use Rattle.rv_links.proofs.inside.BlockLemmas.{held_here, held_more, wider, wider_is}
+use Rattle.std.proofs.Common.{refl}
+use Rattle.rv_links.proofs.inside.BlockLemmas.{held_here, held_more, wider_is}
 use Rattle.rv_links.proofs.blocks.widen.Goals as goal
 
 pub returns-then-block-blocks-clause-here : goal.returns-then-block-blocks-clause-here

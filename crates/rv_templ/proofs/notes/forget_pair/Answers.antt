@@ -1,16 +1,10 @@
-use Rattle.std.proofs.Common.{◌≡◌, ℕ, ◌≤◌, ◌++◌, ◌∷◌, List, length, length-append, take, ap, sym, ◌∙◌, inl, inr, arith, subst}
-use Rattle.std.specs.Prelude.{All}
+use Rattle.std.proofs.Common.{ℕ, ◌≤◌, ◌++◌, ◌∷◌, List, length, length-append, take, ap, sym, ◌∙◌, inl, inr, arith, subst}
 use Rattle.std.proofs.lemmas.Bool.{cases_eq}
 use Rattle.std.proofs.lemmas.List.{take-take}
-use Rattle.std.proofs.lemmas.Option.{same_Some}
-use Rattle.rv_gate.specs.declared.gate.Shape.{Shape}
-use Rattle.rv_gate.specs.Gate.{FitsIn}
-use Rattle.rv_gate.specs.Circuit.{Cascade}
 use Rattle.rv_links.specs.Nodes.{Node, live}
 use Rattle.rv_templ.specs.inside.Notes.{AllNoted}
 use Rattle.rv_templ.proofs.inside.ForgetWalks.{second_off}
-use Rattle.rv_templ.proofs.LinkedGates.{linked_gates, all_fit}
-use Rattle.rv_templ.proofs.inside.LinkedPairs.{place_is, before_second, second_live, made_good}
+use Rattle.rv_templ.proofs.inside.LinkedPairs.{place_is, before_second, second_live}
 use Rattle.rv_templ.proofs.inside.NoteLaws.{fewer_on, fewer_set, fewer_noted, fewer_zero, known_first, known_others}
 use Rattle.rv_templ.proofs.inside.NotesAfter.{pair_right, free_right, gates_are}
 use Rattle.rv_templ.proofs.notes.forget_pair.Goals as goal

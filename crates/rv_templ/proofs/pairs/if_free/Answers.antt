@@ -1,4 +1,4 @@
-use Rattle.std.proofs.Common.{arith, ap}
+use Rattle.std.proofs.Common.{arith}
 use Rattle.std.specs.Prelude.{Some, None}
 use Rattle.rv_links.specs.Nodes.{node_gate}
 use Rattle.rv_templ.proofs.inside.PartnerWalk.{candidate_mate, candidate_stopped}

@@ -1,5 +1,4 @@
-use Rattle.std.proofs.Common.{◌≡◌, ℕ, ◌/◌, ◌∙◌, sym, subst, arith}
-use Rattle.rv_links.specs.inside.Blocks.{Held}
+use Rattle.std.proofs.Common.{◌≡◌, ◌/◌, arith}
 use Rattle.rv_links.proofs.blocks.Blocks.passed.Goals as goal
 
 pub returns-then-not-far-clause-free : goal.returns-then-not-far-clause-free

@@ -1,4 +1,4 @@
-use Rattle.std.proofs.Common.{◌≡◌, ap, sym, ◌∙◌}
+use Rattle.std.proofs.Common.{ap, sym, ◌∙◌}
 use Rattle.rv_links.specs.inside.Ring.{Order}
 use Rattle.rv_links.specs.Nodes.{Linkage, erased}
 use Rattle.rv_links.specs.inside.Chains.{nodes_of}
