@@ -26,7 +26,8 @@ pub(crate) fn gather(places: &mut [u8], gate: Gate) -> Moves
     requires table { IsTable places.old }
     requires few { length places.old ≤ MOST_LINES }
     requires fits { FitsIn gate (length places.old) }
-    ensures moves { (row : List ℕ) → Stands row places.old → swaps_by result.items ≡ gathering (touched_positions row gate) }
+    ensures moves { (row : List ℕ) → Stands row places.old
+        → swaps_by result.items ≡ gathering (touched_positions row gate) }
     ensures stands { (row : List ℕ) → Stands row places.old → Stands (swapped (swaps_by result.items) row) places.new }
     ensures within { AreMoves MOST_LINES result.items }
     ensures few_swaps { length (swaps_by result.items) ≤ 2016 }
@@ -41,7 +42,8 @@ pub(crate) fn gather(places: &mut [u8], gate: Gate) -> Moves
 pub(crate) fn go_home(places: &mut [u8]) -> Moves
     requires table { IsTable places.old }
     requires few { length places.old ≤ MOST_LINES }
-    ensures moves { (row : List ℕ) → Stands row places.old → swaps_by result.items ≡ way_home (home (length places.old)) row }
+    ensures moves { (row : List ℕ) → Stands row places.old
+        → swaps_by result.items ≡ way_home (home (length places.old)) row }
     ensures within { AreMoves MOST_LINES result.items }
 {
     let mut moves = Moves::new();

@@ -40,7 +40,8 @@ fn shifted(from: u8, to: u8, place: u8) -> u8
 /// The line at a position moves to another.
 pub(crate) fn shift(places: &mut [u8], from: u8, to: u8)
     requires { (line : ℕ) → line < length places.old → slice_index places.old line < MOST_LINES }
-    ensures { (line : ℕ) → line < length places.old → slice_index places.new line ≡ shifted from to (slice_index places.old line) }
+    ensures { (line : ℕ) → line < length places.old
+        → slice_index places.new line ≡ shifted from to (slice_index places.old line) }
 {
     for line in 0..places.len() {
         places[line] = shifted(from, to, places[line]);
