@@ -16,15 +16,16 @@ use Rattle.rv_check.specs.declared.checking.Verdict.TheVariants.{Same, Lines, Di
 use Rattle.rv_check.specs.declared.checking.CheckFault.{CheckFault}
 use Rattle.rv_check.specs.declared.checking.CheckFault.TheVariants.{CircuitLines, NetLines, TooLarge}
 
--- A vector over so many roots of two, in lowest terms: no divisor of it leaves fewer roots, so those that are left are its least
--- denominator exponent, after Giles and Selinger.
+-- A vector over so many roots of two, in lowest terms: no divisor of it leaves fewer roots, so those that are left are
+-- its least denominator exponent, after Giles and Selinger.
 pub record IsInLowestTerms (roots : ℕ) (whole members : List Cyclotomic) : Type 0 where
   pub divisions : ℕ
   pub whole_is : whole ≡ map (times (power root2 divisions)) members
   pub most : divisions ≤ roots
   pub greatest : (divisions ≡ roots) ⊎ ((further : List Cyclotomic) → members ≢ map (times root2) further)
 
--- The reduced vectors of a network are its vectors in lowest terms: from each word, after so many of the first operations.
+-- The reduced vectors of a network are its vectors in lowest terms: from each word, after so many of the first
+-- operations.
 abbrev pub AreInLowestTerms : Network → Type 0
 AreInLowestTerms net =
     (number place : ℕ)
@@ -35,7 +36,8 @@ AreInLowestTerms net =
 abbrev pub Breaks : List Shape → Network → ℕ → Type 0
 Breaks gates net number =
     (y : List Bool) × (length y ≡ net.lines)
-    × (amplitude net.ops (word_of net.lines number) y ≢ amplitude_of_map net.ops (run gates (word_of net.lines number)) y)
+    × (amplitude net.ops (word_of net.lines number) y
+    ≢ amplitude_of_map net.ops (run gates (word_of net.lines number)) y)
 
 -- the least such word
 pub record IsLeastBreak (gates : List Shape) (net : Network) (number : ℕ) : Type 0 where
@@ -43,7 +45,8 @@ pub record IsLeastBreak (gates : List Shape) (net : Network) (number : ℕ) : Ty
   pub breaks : Breaks gates net number
   pub least : (less : ℕ) → less < number → ¬ Breaks gates net less
 
--- from the word with this number, so many of the first operations leave a coefficient of the reduced vector beyond the limit
+-- from the word with this number, so many of the first operations leave a coefficient of the reduced vector beyond the
+-- limit
 abbrev pub IsLarge : Network → ℕ → ℕ → Type 0
 IsLarge net number place = list_any is_large (reduced_vector (take place net.ops) (word_of net.lines number)) ≡ true
 
@@ -67,10 +70,14 @@ OnSameLines c net = (length c.names ≡ net.lines) × (net.lines ≤ MOST_CHECKE
 pub record IsExact (c : Cascade) (net : Network) (answer : Result Verdict CheckFault) : Type 0 where
   pub circuit_lines : (n : ℕ) → (answer ≡ Err (CircuitLines n)) ↔ ((length c.names ≡ n) × (MOST_CHECKED_LINES < n))
   pub net_lines :
-      (n : ℕ) → (answer ≡ Err (NetLines n)) ↔ ((length c.names ≤ MOST_CHECKED_LINES) × (net.lines ≡ n) × (MOST_CHECKED_LINES < n))
+      (n : ℕ)
+      → (answer ≡ Err (NetLines n)) ↔
+      ((length c.names ≤ MOST_CHECKED_LINES) × (net.lines ≡ n) × (MOST_CHECKED_LINES < n))
   pub lines :
       (n m : ℕ) → (answer ≡ Ok (Lines n m))
       ↔ ((length c.names ≡ n) × (net.lines ≡ m) × (n ≤ MOST_CHECKED_LINES) × (m ≤ MOST_CHECKED_LINES) × (n ≢ m))
-  pub too_large : (word place : ℕ) → (answer ≡ Err (TooLarge word place)) ↔ (OnSameLines c net × IsLeastLarge net word place)
+  pub too_large : (word place : ℕ)
+      → (answer ≡ Err (TooLarge word place)) ↔ (OnSameLines c net × IsLeastLarge net word place)
   pub same : (answer ≡ Ok Same) ↔ (OnSameLines c net × NoneLarge net × Denotes net.lines net.ops (run c.gates))
-  pub differs : (word : ℕ) → (answer ≡ Ok (Differs word)) ↔ (OnSameLines c net × NoneLarge net × IsLeastBreak c.gates net word)
+  pub differs : (word : ℕ)
+      → (answer ≡ Ok (Differs word)) ↔ (OnSameLines c net × NoneLarge net × IsLeastBreak c.gates net word)

@@ -21,7 +21,8 @@ half z = int_div z (pos 2)
 
 -- a multiple of the root of two, divided by it: half of the product with it
 unfoldable pub quotient : Cyclotomic → Cyclotomic
-quotient u = let twice = times root2 u in record { a = half twice.a; b = half twice.b; c = half twice.c; d = half twice.d }
+quotient u =
+    let twice = times root2 u in record { a = half twice.a; b = half twice.b; c = half twice.c; d = half twice.d }
 
 -- the words of n bits, in the order of their numbers
 unfoldable pub words : ℕ → List (List Bool)
@@ -32,8 +33,8 @@ words (suc n) = map (λ v. false ∷ v) (words n) ++ map (λ v. true ∷ v) (wor
 abbrev pub vector : List Op → List Bool → List Cyclotomic
 vector ops x = map (λ y. amplitude ops x y) (words (length x))
 
--- A vector over so many roots of two, in lowest terms: divided by the root of two as often as all its members are multiples
--- of it, and at most as often as there are roots. The roots that are left are the least denominator exponent.
+-- A vector over so many roots of two, in lowest terms: divided by the root of two as often as all its members are
+-- multiples of it, and at most as often as there are roots. The roots that are left are the least denominator exponent.
 unfoldable pub reduced : ℕ → List Cyclotomic → List Cyclotomic
 reduced zero members = members
 reduced (suc roots) members = if list_all is_multiple members then reduced roots (map quotient members) else members

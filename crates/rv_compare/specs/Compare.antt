@@ -56,11 +56,13 @@ pub record IsLeastFailing (count : ℕ) (P : ℕ → Type 0) (number : ℕ) : Ty
 
 -- what an answer says of two functions of these sizes, which agree or don't at each input word
 abbrev pub IsAnswer : Size → Size → (List Bool → Type 0) → Comparison → Type 0
-IsAnswer a b Agree Same = (a.inputs ≡ b.inputs) × (a.outputs ≡ b.outputs) × ((x : List Bool) → length x ≡ a.inputs → Agree x)
+IsAnswer a b Agree Same =
+    (a.inputs ≡ b.inputs) × (a.outputs ≡ b.outputs) × ((x : List Bool) → length x ≡ a.inputs → Agree x)
 IsAnswer a b Agree (Inputs n m) = (a.inputs ≡ n) × (b.inputs ≡ m) × (n ≢ m)
 IsAnswer a b Agree (Outputs n m) = (a.inputs ≡ b.inputs) × (a.outputs ≡ n) × (b.outputs ≡ m) × (n ≢ m)
 IsAnswer a b Agree (Differs number) =
-    (a.inputs ≡ b.inputs) × (a.outputs ≡ b.outputs) × IsLeastFailing (2 ^ a.inputs) (λ k. Agree (word_of a.inputs k)) number
+    (a.inputs ≡ b.inputs) × (a.outputs ≡ b.outputs)
+    × IsLeastFailing (2 ^ a.inputs) (λ k. Agree (word_of a.inputs k)) number
 
 -- ---- the answer computed
 

@@ -50,7 +50,8 @@ wants_one Dash = false
 
 -- the cube with another symbol at one input
 abbrev pub with_symbol : Cube → ℕ → Symbol → Cube
-with_symbol cube input s = record cube { care = put cube.care input (cares s); want = put cube.want input (wants_one s) }
+with_symbol cube input s =
+    record cube { care = put cube.care input (cares s); want = put cube.want input (wants_one s) }
 
 -- the cube a with the third of its symbol and b's at one input
 unfoldable pub with_third : Cube → Cube → ℕ → Cube

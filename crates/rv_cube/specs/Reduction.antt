@@ -78,7 +78,8 @@ merge_at test cubes a b = if test (at cubes a) (at cubes b) then Some (Merge a b
 abbrev pub first_merge : (Cube → Cube → Bool) → List Cube → Option Step
 first_merge test cubes = first_pair (merge_at test cubes) cubes
 
--- x comes to a and y to b, and then `cube`, that of these at `place`, and the cube at c become one, where c is another place
+-- x comes to a and y to b, and then `cube`, that of these at `place`, and the cube at c become one, where c is another
+-- place
 abbrev pub partner_at : ℕ → List Cube → ℕ → ℕ → Cube → Cube → ℕ → Cube → ℕ → Option Step
 partner_at n cubes a b x y place cube c =
     if not (c == a) && not (c == b) && can_merge n cube (at cubes c) then Some (Exorlink a b x y place c) else None
@@ -96,13 +97,15 @@ abbrev pub exorlink_at_by : List ℕ → ℕ → List Cube → ℕ → ℕ → O
 exorlink_at_by (p ∷ q ∷ []) n cubes a b =
     let x = at cubes a in
     let y = at cubes b in
-    option_or (form n cubes a b (with_third x y p) (with_third y x q)) (form n cubes a b (with_third y x p) (with_third x y q))
+    option_or (form n cubes a b (with_third x y p) (with_third y x q))
+    (form n cubes a b (with_third y x p) (with_third x y q))
 exorlink_at_by _ n cubes a b = None
 
 -- a form in place of the two, which have the same outputs
 abbrev pub exorlink_at : ℕ → List Cube → ℕ → ℕ → Option Step
 exorlink_at n cubes a b =
-    if (at cubes a).outs == (at cubes b).outs then exorlink_at_by (differing n (at cubes a) (at cubes b)) n cubes a b else None
+    if (at cubes a).outs == (at cubes b).outs then exorlink_at_by (differing n (at cubes a) (at cubes b)) n cubes a b
+    else None
 
 abbrev pub first_exorlink : ℕ → List Cube → Option Step
 first_exorlink n cubes = first_pair (exorlink_at n cubes) cubes
@@ -112,7 +115,8 @@ first_exorlink n cubes = first_pair (exorlink_at n cubes) cubes
 -- the first step that applies: cubes with the same inputs, then adjacent ones, then an exorlink
 unfoldable pub found_step : ℕ → List Cube → Option Step
 found_step n cubes =
-    option_or (first_merge (have_same_inputs n) cubes) (option_or (first_merge (are_adjacent n) cubes) (first_exorlink n cubes))
+    option_or (first_merge (have_same_inputs n) cubes)
+    (option_or (first_merge (are_adjacent n) cubes) (first_exorlink n cubes))
 
 -- the list after it
 abbrev pub first_step : ℕ → List Cube → Option (List Cube)

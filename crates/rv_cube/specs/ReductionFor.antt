@@ -20,7 +20,8 @@ IsRight pla cubes = (word : List Bool) → length word ≡ pla.inputs → IsAllo
 
 -- the entry of an output is free at the input word with a number, where the cube matches it
 abbrev pub free_where : TwoLevel → Cube → ℕ → ℕ → Bool
-free_where pla cube output x = not (matches cube (word_of pla.inputs x)) || is_dont_care (entry pla (word_of pla.inputs x) output)
+free_where pla cube output x =
+    not (matches cube (word_of pla.inputs x)) || is_dont_care (entry pla (word_of pla.inputs x) output)
 
 -- the cube carries the output, whose entry is free at every input word that the cube matches
 unfoldable pub is_idle : TwoLevel → Cube → ℕ → Bool

@@ -43,8 +43,8 @@ pub record ArePlaces (cubes : List Cube) (a b : ℕ) : Type 0 where
   pub second : b < length cubes
   pub two : a ≢ b
 
--- Two cubes with the same outputs that differ in two inputs, at either of which one of them takes the third symbol: so an exorlink
--- exchanges them for two others. It leads on where one of these merges with a third cube.
+-- Two cubes with the same outputs that differ in two inputs, at either of which one of them takes the third symbol: so
+-- an exorlink exchanges them for two others. It leads on where one of these merges with a third cube.
 pub record LeadsOn (n : ℕ) (cubes : List Cube) (a b p q c : ℕ) : Type 0 where
   pub places : ArePlaces cubes a b
   pub outputs : (at cubes a).outs ≡ (at cubes b).outs
@@ -66,7 +66,8 @@ pub record IsIrreducible (n : ℕ) (cubes : List Cube) : Type 0 where
 pub record IsIdle (pla : TwoLevel) (cube : Cube) (output : ℕ) : Type 0 where
   pub output_in : output < pla.outputs
   pub carried : has cube.outs output ≡ true
-  pub free : (word : List Bool) → length word ≡ pla.inputs → matches cube word ≡ true → is_dont_care (entry pla word output) ≡ true
+  pub free : (word : List Bool) → length word ≡ pla.inputs → matches cube word ≡ true
+      → is_dont_care (entry pla word output) ≡ true
 
 -- and no cube carries one that only concerns free entries
 pub record IsIrreducibleFor (pla : TwoLevel) (cubes : List Cube) : Type 0 where

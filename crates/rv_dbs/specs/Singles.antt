@@ -25,7 +25,8 @@ values_of n f = table_by n (λ x. if f x then 1 else 0)
 abbrev pub flips_of : ℕ → List Cube → List Shape
 flips_of target cubes = map (λ cube. flip_of cube target) cubes
 
--- the single-target gate of bit k, line n - 1 - k, with this control function: the flips of its reduced Reed-Muller list
+-- the single-target gate of bit k, line n - 1 - k, with this control function: the flips of its reduced Reed-Muller
+-- list
 unfoldable pub single : ℕ → ℕ → (ℕ → Bool) → List Shape
 single n k f = flips_of (n - 1 - k) (reduced n (reed_muller n (values_of n f)))
 
@@ -52,7 +53,8 @@ is_changed images x = xor (has (slice_index images x) 0) (has x 0)
 unfoldable pub singles_from : ℕ → ℕ → List ℕ → List Shape
 singles_from n zero images = single n 0 (is_changed images)
 singles_from n (suc k) images =
-    single n (suc k) (left n (suc k) images) ++ singles_from n k (between n (suc k) images) ++ single n (suc k) (right n (suc k) images)
+    single n (suc k) (left n (suc k) images) ++ singles_from n k (between n (suc k) images)
+    ++ single n (suc k) (right n (suc k) images)
 
 abbrev pub singles : ℕ → List ℕ → List Shape
 singles n images = singles_from n (n - 1) images

@@ -12,18 +12,21 @@ use Rattle.std.specs.Fn.{iterate}
 use Rattle.rv_dbs.specs.Walk.{other, next}
 use Rattle.rv_dbs.specs.Singles.{single, between_by, is_changed, KeepsAbove}
 
--- The word's pair has no bit yet when the word's turn comes: no lesser word's walk meets it. (A walk gives a bit to each
--- pair that it meets, and ends where it began. So a lesser word had its bit from a walk over the same pairs as its own.)
+-- The word's pair has no bit yet when the word's turn comes: no lesser word's walk meets it. (A walk gives a bit to
+-- each pair that it meets, and ends where it began. So a lesser word had its bit from a walk over the same pairs as its
+-- own.)
 abbrev pub IsFirst : ℕ → List ℕ → ℕ → Type 0
 IsFirst k images x = (y m : ℕ) → y < x → (iterate (next k images) m y ≢ x) × (iterate (next k images) m y ≢ other k x)
 
--- Each pair has its bit: `l` gives those of the words' pairs, `r` those of the images' pairs. A word's bit k, the bit of its
--- pair, its image's bit k and the bit of that one's pair give 0 by exclusive or, so each of the four comes from the others.
+-- Each pair has its bit: `l` gives those of the words' pairs, `r` those of the images' pairs. A word's bit k, the bit
+-- of its pair, its image's bit k and the bit of that one's pair give 0 by exclusive or, so each of the four comes from
+-- the others.
 pub record AreWalked (n k : ℕ) (images : List ℕ) (l r : ℕ → Bool) : Type 0 where
   pub input_pairs : (x : ℕ) → x < 2 ^ n → l (other k x) ≡ l x
   pub output_pairs : (y : ℕ) → y < 2 ^ n → r (other k y) ≡ r y
   pub first : (x : ℕ) → x < 2 ^ n → IsFirst k images x → l x ≡ false
-  pub through : (x : ℕ) → x < 2 ^ n → r (slice_index images x) ≡ xor (xor (has x k) (l x)) (has (slice_index images x) k)
+  pub through : (x : ℕ) → x < 2 ^ n
+      → r (slice_index images x) ≡ xor (xor (has x k) (l x)) (has (slice_index images x) k)
 
 -- the control functions of the line's left and right gate, and the permutation that is left between these gates
 pub record AreControls (n k : ℕ) (images : List ℕ) (l r : ℕ → Bool) : Type 0 where
@@ -43,4 +46,5 @@ AreStepped n zero images gates =
 AreStepped n (suc k) images gates =
     KeepsAbove n (suc k) images
     × ((l : ℕ → Bool) × (r : ℕ → Bool) × (rest : List Shape) × AreControls n (suc k) images l r
-    × (gates ≡ single n (suc k) l ++ rest ++ single n (suc k) r) × AreStepped n k (between_by n (suc k) l r images) rest)
+    × (gates ≡ single n (suc k) l ++ rest ++ single n (suc k) r)
+    × AreStepped n k (between_by n (suc k) l r images) rest)

@@ -33,6 +33,7 @@ side n k images x = nat_lt (least_on_walk n k images (other k x)) (least_on_walk
 abbrev pub left : ℕ → ℕ → List ℕ → ℕ → Bool
 left n k images x = xor (has x k) (side n k images x)
 
--- the control function of the right gate, the bit of an image's pair: 1 where bit k of the image is not the side of its word
+-- the control function of the right gate, the bit of an image's pair: 1 where bit k of the image is not the side of its
+-- word
 abbrev pub right : ℕ → ℕ → List ℕ → ℕ → Bool
 right n k images y = xor (has y k) (side n k images (preimage_of images y))

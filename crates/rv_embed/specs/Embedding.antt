@@ -35,7 +35,8 @@ first_inputs n i = map (λ x. x * 2 ^ (n - i)) (range_with_len 0 (2 ^ i))
 
 -- and to which word it goes: its output word followed by its rank
 abbrev pub first_outputs : ℕ → ℕ → List ℕ → List ℕ
-first_outputs n o outputs = map (λ x. slice_index outputs x * 2 ^ (n - o) + rank outputs x) (range_with_len 0 (length outputs))
+first_outputs n o outputs =
+    map (λ x. slice_index outputs x * 2 ^ (n - o) + rank outputs x) (range_with_len 0 (length outputs))
 
 -- the images where each number goes from its place in one list to the number at this place of another
 unfoldable pub images_between : ℕ → List ℕ → List ℕ → List ℕ

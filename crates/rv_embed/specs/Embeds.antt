@@ -8,8 +8,8 @@ use Rattle.rv_embed.specs.Classes.{largest_class}
 use Rattle.rv_embed.specs.Filled.{filled}
 use Rattle.rv_embed.specs.Least.{IsEmbedding, NoCircuitHasFewer, NoneHasFewer}
 
--- A permutation with marks that gives what the PLA asks. Where no entry is free, no permutation and no circuit does so on fewer
--- lines. The largest class of input words with one output word is no larger than with 0 at each free entry.
+-- A permutation with marks that gives what the PLA asks. Where no entry is free, no permutation and no circuit does so
+-- on fewer lines. The largest class of input words with one output word is no larger than with 0 at each free entry.
 pub record Embeds (pla : TwoLevel) (spec : Marked) : Type 0 where
   pub embeds : IsEmbedding pla spec
   pub least : HasNoFree pla → NoneHasFewer pla spec.table.lines

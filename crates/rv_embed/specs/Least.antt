@@ -21,7 +21,8 @@ abbrev pub NoneHasFewer : TwoLevel → ℕ → Type 0
 NoneHasFewer pla n = (m : Marked) → IsEmbedding pla m → n ≤ m.table.lines
 
 -- gates on any number of lines, with any constants and garbage, that give what the PLA asks
-pub record IsCircuitFor (pla : TwoLevel) (lines : ℕ) (gates : List Shape) (constants : List Mark) (garbage : List Bool) : Type 0 where
+pub record IsCircuitFor (pla : TwoLevel) (lines : ℕ) (gates : List Shape) (constants : List Mark)
+    (garbage : List Bool) : Type 0 where
   pub valid : All IsGate gates
   pub fitting : All (λ gate. FitsIn gate lines) gates
   pub each_constant : length constants ≡ lines
@@ -31,4 +32,5 @@ pub record IsCircuitFor (pla : TwoLevel) (lines : ℕ) (gates : List Shape) (con
 -- every circuit that gives it has so many lines, or more
 abbrev pub NoCircuitHasFewer : TwoLevel → ℕ → Type 0
 NoCircuitHasFewer pla n =
-    (lines : ℕ) (gates : List Shape) (constants : List Mark) (garbage : List Bool) → IsCircuitFor pla lines gates constants garbage → n ≤ lines
+    (lines : ℕ) (gates : List Shape) (constants : List Mark) (garbage : List Bool)
+    → IsCircuitFor pla lines gates constants garbage → n ≤ lines

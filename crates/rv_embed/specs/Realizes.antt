@@ -12,7 +12,9 @@ pub record Meets (pla : TwoLevel) (x y : List Bool) : Type 0 where
   pub allowed : IsAllowed pla x (bit_of y)
 
 -- the map gives, at each input word, what the PLA asks
-pub record Realizes (pla : TwoLevel) (word_after : List Bool → List Bool) (constants : List Mark) (garbage : List Bool) : Type 0 where
+pub record Realizes (pla : TwoLevel) (word_after : List Bool → List Bool) (constants : List Mark)
+    (garbage : List Bool) : Type 0 where
   pub inputs : input_count constants ≡ pla.inputs
   pub outputs : output_count garbage ≡ pla.outputs
-  pub gives : (x : List Bool) → length x ≡ pla.inputs → Meets pla x (without_garbage garbage (word_after (with_constants constants x)))
+  pub gives : (x : List Bool) → length x ≡ pla.inputs
+      → Meets pla x (without_garbage garbage (word_after (with_constants constants x)))

@@ -55,7 +55,8 @@ pub fn embed(alloc: Global, pla: &Pla) -> Result<Embedded, EmbedFault>
     // The least number of lines is told exactly where it is too great.
     ensures too_many { (n : ℕ) → IsErrOf result (TooManyLines n) → (n ≡ least_lines pla.now) × (MOST_PERM_LINES < n) }
     ensures needed { HasNoFree pla.now → (n : ℕ) → IsErrOf result (TooManyLines n) → NoneHasFewer pla.now n }
-    ensures no_circuit_needs { HasNoFree pla.now → (n : ℕ) → IsErrOf result (TooManyLines n) → NoCircuitHasFewer pla.now n }
+    ensures no_circuit_needs { HasNoFree pla.now → (n : ℕ) → IsErrOf result (TooManyLines n)
+        → NoCircuitHasFewer pla.now n }
 {
     let Filling { outputs, classes } = filled(alloc, pla)?;
     let lines = pla

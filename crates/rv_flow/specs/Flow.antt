@@ -35,7 +35,8 @@ circuit_for synthesis simplify spec = simplified_if simplify (synthesized synthe
 abbrev pub network_by : Aux → Cascade → Result Network FlowFault
 network_by aux c =
     if nat_lt MOST_GATES (gate_count aux c) then Err (Gates (gate_count aux c))
-    else (if nat_lt MOST_OPS (operation_count (decomposed aux c).gates) then Err (Ops (operation_count (decomposed aux c).gates))
+    else (if nat_lt MOST_OPS (operation_count (decomposed aux c).gates)
+    then Err (Ops (operation_count (decomposed aux c).gates))
     else Ok (expanded (decomposed aux c)))
 
 -- the network of a permutation

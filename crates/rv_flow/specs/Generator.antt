@@ -7,7 +7,8 @@ use Rattle.rv_perm.specs.Perm.{Table}
 abbrev pub drawn : ℕ → ℕ
 drawn state = (75 * state + 74) % 65537
 
--- for each place i from this one down to 1: what stands there, and at the place that is the draw modulo i + 1, is exchanged
+-- for each place i from this one down to 1: what stands there, and at the place that is the draw modulo i + 1, is
+-- exchanged
 unfoldable pub shuffled : ℕ → ℕ → List ℕ → List ℕ
 shuffled zero state numbers = numbers
 shuffled (suc i) state numbers = shuffled i (drawn state) (swap numbers (suc i) (drawn state % (suc i + 1)))

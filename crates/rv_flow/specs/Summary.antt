@@ -31,7 +31,8 @@ summary_by lines seed found simpler cost =
 -- of a circuit
 abbrev pub summary_from : ℕ → ℕ → Cascade → Summary
 summary_from lines seed found =
-    summary_by lines seed found (simplified_if true found) (net_cost (expanded (decomposed Borrowed (simplified_if true found))))
+    summary_by lines seed found (simplified_if true found)
+    (net_cost (expanded (decomposed Borrowed (simplified_if true found))))
 
 -- of the generated permutation's circuit
 abbrev pub summary_of : ℕ → ℕ → Summary

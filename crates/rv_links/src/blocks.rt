@@ -1,7 +1,7 @@
 //! Blocks of numbers that follow one another, with the lines that their gates read and change.
 //!
-//! A gate that commutes with all that reads and changes only such lines is carried past a block at once. The sets of a block
-//! only grow, so a gate that goes or changes costs time at most.
+//! A gate that commutes with all that reads and changes only such lines is carried past a block at once. The sets of a
+//! block only grow, so a gate that goes or changes costs time at most.
 ghost use Rattle.std.specs.Prelude.{◌≡◌, ℕ, ◌+◌, ◌*◌, ◌/◌, ◌<◌, ◌≤◌, length, true, IsTrue, IfOk, IfSome};
 ghost use Rattle.rv_gate.specs.declared.circuit.TheConstants.{MOST_GATES};
 ghost use Rattle.rv_gate.specs.declared.gate.Shape.{Shape};
@@ -79,7 +79,9 @@ impl Blocks {
     /// The blocks of the gates. Fails only for want of memory.
     pub fn new(alloc: Global, gates: &[Gate]) -> Result<Blocks, AllocError>
         requires most { length gates.now ≤ MOST_GATES }
-        ensures { IfOk result (λ b. (id : ℕ) → id < length gates.now → InBlocks b.small.items b.middle.items b.large.items id (gate_at gates.now id)) }
+        ensures { IfOk result (λ b.
+            (id : ℕ) → id < length gates.now
+            → InBlocks b.small.items b.middle.items b.large.items id (gate_at gates.now id)) }
     {
         let small = cover(alloc, gates, SMALL)?;
         let middle = cover(alloc, gates, MIDDLE)?;
@@ -95,7 +97,9 @@ impl Blocks {
     /// A number gets a gate.
     pub fn enter(&mut self, id: u32, gate: Gate)
         ensures here { InBlocks self.new.small.items self.new.middle.items self.new.large.items id gate }
-        ensures others { (x : ℕ) (g : Shape) → InBlocks self.old.small.items self.old.middle.items self.old.large.items x g → InBlocks self.new.small.items self.new.middle.items self.new.large.items x g }
+        ensures others { (x : ℕ) (g : Shape)
+            → InBlocks self.old.small.items self.old.middle.items self.old.large.items x g
+            → InBlocks self.new.small.items self.new.middle.items self.new.large.items x g }
     {
         widen(&mut self.small, (id / SMALL) as usize, gate);
         widen(&mut self.middle, (id / MIDDLE) as usize, gate);
@@ -106,7 +110,9 @@ impl Blocks {
     fn passed(&self, gate: Gate, at: u32) -> u32
         requires few { at < MOST_GATES }
         ensures late { at ≤ result }
-        ensures free { (x : ℕ) (other : Shape) → at ≤ x → x < result → InBlocks self.now.small.items self.now.middle.items self.now.large.items x other → rule gate other ≡ true }
+        ensures free { (x : ℕ) (other : Shape) → at ≤ x → x < result
+            → InBlocks self.now.small.items self.now.middle.items self.now.large.items x other
+            → rule gate other ≡ true }
     {
         if at % SMALL != 0 {
             return at;
@@ -131,9 +137,11 @@ impl Blocks {
         requires most { length gates.now ≤ MOST_GATES }
         requires room { order.now.room ≡ length gates.now }
         requires below { (x : ℕ) → IsTrue (lists x order.now.ids) → x < length gates.now }
-        requires covered { IsCovered self.now.small.items self.now.middle.items self.now.large.items gates.now order.now.ids }
+        requires covered { IsCovered self.now.small.items self.now.middle.items self.now.large.items gates.now
+            order.now.ids }
         ensures late { IfSome result (λ b. IsTrue (lists b order.now.ids) × (from ≤ b)) }
-        ensures free { (x : ℕ) → IsTrue (lists x order.now.ids) → from ≤ x → IsBefore x result → rule gate (gate_at gates.now x) ≡ true }
+        ensures free { (x : ℕ) → IsTrue (lists x order.now.ids) → from ≤ x → IsBefore x result
+            → rule gate (gate_at gates.now x) ≡ true }
     {
         let room = gates.len() as u32;
         let mut at = from;

@@ -1,8 +1,8 @@
 //! Where a gate stands, by a hash of the whole gate.
 //!
-//! A number is written into the first empty slot of those that are asked for its gate, one after the other, and stays there.
-//! What a slot has is tested where it is read, so gates go and change without a word to the slots. A look-up that comes to
-//! an empty slot has seen all numbers of its gate.
+//! A number is written into the first empty slot of those that are asked for its gate, one after the other, and stays
+//! there. What a slot has is tested where it is read, so gates go and change without a word to the slots. A look-up
+//! that comes to an empty slot has seen all numbers of its gate.
 ghost use Rattle.std.specs.Prelude.{◌≡◌, ◌≢◌, ℕ, ◌+◌, ◌-◌, ◌<◌, ◌≤◌, ◌^◌, length, IsTrue, IfSome};
 ghost use Rattle.rv_gate.specs.declared.gate.Shape.{Shape};
 ghost use Rattle.rv_gate.specs.declared.circuit.TheConstants.{MOST_GATES};
@@ -95,8 +95,8 @@ pub fn renew(slots: &mut [u32], gates: &[Gate], order: &Ring)
     }
 }
 
-/// Keeps a number that got another gate, where the others are kept; now and then anew, so that half of the slots stay empty
-/// or nearly so. `entered` tells how many came since. Answers how many came now.
+/// Keeps a number that got another gate, where the others are kept; now and then anew, so that half of the slots stay
+/// empty or nearly so. `entered` tells how many came since. Answers how many came now.
 pub fn keep(slots: &mut [u32], entered: u32, gates: &[Gate], order: &Ring, id: u32) -> u32
     requires some { 0 < length slots.old }
     requires most { length gates.now ≤ MOST_GATES }
@@ -119,7 +119,8 @@ pub fn keep(slots: &mut [u32], entered: u32, gates: &[Gate], order: &Ring, id: u
 fn is_here(gates: &[Gate], order: &Ring, gate: Gate, id: u32) -> bool
     requires room { order.now.room ≡ length gates.now }
     ensures here { IsTrue result → IsTrue (lists id order.now.ids) × (gate_at gates.now id ≡ gate) }
-    ensures not { IsTrue (lists id order.now.ids) → id < length gates.now → gate_at gates.now id ≡ gate → IsTrue result }
+    ensures not { IsTrue (lists id order.now.ids) → id < length gates.now → gate_at gates.now id ≡ gate
+        → IsTrue result }
 {
     if id as usize >= gates.len() {
         return false;

@@ -1,4 +1,5 @@
-ghost use Rattle.std.specs.Prelude.{◌≡◌, ◌≢◌, ℕ, ◌+◌, ◌-◌, ◌*◌, ◌^◌, ◌<◌, ◌≤◌, [], ◌∷◌, ◌++◌, length, drop, suc, ◌↔◌, All, IfSome, IfOk, true, IsTrue, IsFalse};
+ghost use Rattle.std.specs.Prelude.{◌≡◌, ◌≢◌, ℕ, ◌+◌, ◌-◌, ◌*◌, ◌^◌, ◌<◌, ◌≤◌, [], ◌∷◌, ◌++◌, length, drop, suc, ◌↔◌};
+ghost use Rattle.std.specs.Prelude.{All, IfSome, IfOk, true, IsTrue, IsFalse};
 ghost use Rattle.std.specs.List.{range_with_len};
 ghost use Rattle.rv_gate.specs.Word.{has};
 ghost use Rattle.rv_gate.specs.Gate.{controls, is_flip, FitsIn, IsGate};
@@ -7,7 +8,8 @@ ghost use Rattle.rv_gate.specs.declared.circuit.TheConstants.{MOST_GATES};
 ghost use Rattle.rv_links.specs.Order.{head, lists, next_in, prev_in};
 ghost use Rattle.rv_links.specs.Seeking.{Tells};
 ghost use Rattle.rv_links.specs.Doubt.{IsBefore};
-ghost use Rattle.rv_links.specs.Nodes.{IsLinkage, circuit_of, ids_in, gates_in, live, node_gate, noted, Stays, erased, regated, window_set, incidences, window_gates, window_ids};
+ghost use Rattle.rv_links.specs.Nodes.{IsLinkage, circuit_of, ids_in, gates_in, live, node_gate, noted, Stays, erased};
+ghost use Rattle.rv_links.specs.Nodes.{regated, window_set, incidences, window_gates, window_ids};
 ghost use Rattle.rv_links.specs.inside.Chains.{gate_at, finish};
 
 use crate::blocks::Blocks;
@@ -52,7 +54,10 @@ impl Model for Linked {
 
     ghost view = { λ l. record { frame = l.frame; nodes = nodes_of l.gates.items l.order.ids; notes = l.notes.items } };
 
-    ghost invariant = { λ l. IsLinked (length l.frame.names) l.gates.items l.order × UsesAll l.read l.changed l.gates.items × (length l.notes.items ≡ length l.gates.items) × IsSearchable l.slots.items l.gates.items l.order.ids × IsCovered l.blocks.small.items l.blocks.middle.items l.blocks.large.items l.gates.items l.order.ids };
+    ghost invariant = { λ l.
+        IsLinked (length l.frame.names) l.gates.items l.order × UsesAll l.read l.changed l.gates.items
+        × (length l.notes.items ≡ length l.gates.items) × IsSearchable l.slots.items l.gates.items l.order.ids
+        × IsCovered l.blocks.small.items l.blocks.middle.items l.blocks.large.items l.gates.items l.order.ids };
 }
 
 impl Linked {
@@ -184,21 +189,23 @@ impl Linked {
         self.notes[node.id as usize] = note;
     }
 
-    /// Whether it is known at once that the gate commutes with every gate: it is a flip, no gate so far has read its target,
-    /// and none has changed a line that it reads. (A gate that is no flip reads all lines that it touches.) If not, it may
-    /// commute all the same.
+    /// Whether it is known at once that the gate commutes with every gate: it is a flip, no gate so far has read its
+    /// target, and none has changed a line that it reads. (A gate that is no flip reads all lines that it touches.) If
+    /// not, it may commute all the same.
     pub fn commutes_with_all(&self, gate: Gate) -> bool
-        ensures { IsTrue result → (id : ℕ) → IsTrue (live id self.now.nodes) → rule gate (node_gate id self.now.nodes) ≡ true }
+        ensures { IsTrue result → (id : ℕ) → IsTrue (live id self.now.nodes)
+            → rule gate (node_gate id self.now.nodes) ≡ true }
     {
         is_free(gate, self.read, self.changed)
     }
 
-    /// A later place, such that the gate commutes with all between; `None` where it commutes with all after the place. Many
-    /// gates are passed at once, where none of them reads or changes what would matter.
+    /// A later place, such that the gate commutes with all between; `None` where it commutes with all after the place.
+    /// Many gates are passed at once, where none of them reads or changes what would matter.
     pub fn next_in_doubt(&self, gate: Gate, node: NodeId) -> Option<NodeId>
         requires { IsTrue (live node self.now.nodes) }
         ensures later { IfSome result (λ b. IsTrue (live b self.now.nodes) × (node < b) × (b < MOST_GATES)) }
-        ensures free { (x : ℕ) → IsTrue (live x self.now.nodes) → node < x → IsBefore x result → rule gate (node_gate x self.now.nodes) ≡ true }
+        ensures free { (x : ℕ) → IsTrue (live x self.now.nodes) → node < x → IsBefore x result
+            → rule gate (node_gate x self.now.nodes) ≡ true }
     {
         match self
             .blocks
@@ -211,7 +218,8 @@ impl Linked {
 
     /// The lines that gates have read so far, and so all controls of flips.
     pub fn read_lines(&self) -> LineSet
-        ensures { (id line : ℕ) → IsTrue (live id self.now.nodes) → is_flip (node_gate id self.now.nodes) ≡ true → has (controls (node_gate id self.now.nodes)) line ≡ true → has result line ≡ true }
+        ensures { (id line : ℕ) → IsTrue (live id self.now.nodes) → is_flip (node_gate id self.now.nodes) ≡ true
+            → has (controls (node_gate id self.now.nodes)) line ≡ true → has result line ≡ true }
     {
         self.read
     }
@@ -228,7 +236,8 @@ impl Linked {
         requires { IsTrue (live node self.old.nodes) }
         ensures list { self.new ≡ record self.old { nodes = erased node self.old.nodes } }
         // Every other gate stays at its place.
-        ensures others { (id : ℕ) → id ≢ node → IsTrue (live id self.old.nodes) → Stays id self.old.nodes self.new.nodes }
+        ensures others { (id : ℕ) → id ≢ node → IsTrue (live id self.old.nodes)
+            → Stays id self.old.nodes self.new.nodes }
     {
         self.order.remove(node.id);
     }
@@ -261,11 +270,15 @@ impl Linked {
     pub fn replace_window(&mut self, first: NodeId, count: u32, gates: &[Gate]) -> bool
         requires live { IsTrue (live first self.old.nodes) }
         requires fits { All (λ g. FitsIn g (length self.old.frame.names)) gates.now }
-        ensures answer { IsTrue result ↔ ((length gates.now ≤ length (window_gates first count self.old.nodes)) × (incidences gates.now ≤ incidences (window_gates first count self.old.nodes))) }
-        ensures done { IsTrue result → self.new ≡ record self.old { nodes = window_set first count gates.now self.old.nodes } }
+        ensures answer { IsTrue result ↔
+            ((length gates.now ≤ length (window_gates first count self.old.nodes))
+            × (incidences gates.now ≤ incidences (window_gates first count self.old.nodes))) }
+        ensures done { IsTrue result
+            → self.new ≡ record self.old { nodes = window_set first count gates.now self.old.nodes } }
         ensures kept { IsFalse result → self.new ≡ self.old }
         // Every gate outside the window stays at its place.
-        ensures others { (id : ℕ) → IsTrue (live id self.old.nodes) → IsFalse (lists id (window_ids first count self.old.nodes)) → Stays id self.old.nodes self.new.nodes }
+        ensures others { (id : ℕ) → IsTrue (live id self.old.nodes)
+            → IsFalse (lists id (window_ids first count self.old.nodes)) → Stays id self.old.nodes self.new.nodes }
     {
         let (len, lines) = self.window_size(first, count);
         if gates.len() > len as usize {
@@ -281,8 +294,8 @@ impl Linked {
         true
     }
 
-    /// The circuit with the names, labels and marks of the first one, and the gates that are linked, in their order. Fails
-    /// only for want of memory.
+    /// The circuit with the names, labels and marks of the first one, and the gates that are linked, in their order.
+    /// Fails only for want of memory.
     pub fn to_circuit(&self, alloc: Global) -> Result<Circuit, AllocError>
         ensures { IfOk result (λ c. c ≡ circuit_of self.now) }
     {
@@ -314,7 +327,9 @@ impl Linked {
         ensures live { IfSome result (λ a. IsTrue (live a self.new.nodes)) }
         ensures frame { self.new.frame ≡ self.old.frame }
         ensures notes { self.new.notes ≡ self.old.notes }
-        ensures same { (c : ℕ) → finish at (suc c) (drop i gates.now) self.old.nodes ≡ finish result c (drop (i + 1) gates.now) self.new.nodes }
+        ensures same { (c : ℕ)
+            → finish at (suc c) (drop i gates.now) self.old.nodes
+            ≡ finish result c (drop (i + 1) gates.now) self.new.nodes }
     {
         match at {
             None => None,

@@ -7,8 +7,8 @@ use std::marker::Model;
 
 /// Numbers below `room` in an order, each at most once: a doubly linked list by indices.
 ///
-/// Of each number the one after it and the one before it are kept, in 8 bytes. `room` itself stands before the first and
-/// after the last, so no step has a case for an end. A number that isn't there has itself after it.
+/// Of each number the one after it and the one before it are kept, in 8 bytes. `room` itself stands before the first
+/// and after the last, so no step has a case for an end. A number that isn't there has itself after it.
 #[derive(Drop)]
 pub struct Ring {
     next: Vec<u32>,

@@ -20,7 +20,8 @@ impl Sought {
     pub fn sooner(self, other: Sought) -> Sought
         ensures first { (x : ℕ) → Reaches self x → Reaches result x }
         ensures second { (x : ℕ) → Reaches other x → Reaches result x }
-        ensures found { (nodes : List Node) (from : ℕ) → Found nodes from self → Found nodes from other → Found nodes from result }
+        ensures found { (nodes : List Node) (from : ℕ) → Found nodes from self → Found nodes from other
+            → Found nodes from result }
     {
         match self {
             Sought::Unknown => self,

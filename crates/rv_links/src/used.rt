@@ -43,8 +43,8 @@ fn apart(a: LineSet, b: LineSet) -> bool
     a & b == 0
 }
 
-/// Whether the gate is a flip that commutes with each gate that reads and changes only lines of these sets: its target is
-/// not read, and its controls are not changed.
+/// Whether the gate is a flip that commutes with each gate that reads and changes only lines of these sets: its target
+/// is not read, and its controls are not changed.
 pub fn is_free(gate: Gate, read: LineSet, changed: LineSet) -> bool
     ensures { IsTrue result → (other : Shape) → Uses read changed other → rule gate other ≡ true }
 {

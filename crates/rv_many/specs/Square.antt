@@ -5,7 +5,9 @@ use Rattle.rv_gate.specs.Word.{has}
 
 -- the place from which a bit comes, where each place in a mask exchanges its bit with the one some places above it
 abbrev pub came_from : ℕ → ℕ → ℕ → ℕ
-came_from mask apart place = if has mask place then place + apart else (if nat_le apart place && has mask (place - apart) then place - apart else place)
+came_from mask apart place =
+    if has mask place then place + apart
+    else (if nat_le apart place && has mask (place - apart) then place - apart else place)
 
 -- no place of 64 is exchanged with two others
 abbrev pub is_apart : ℕ → ℕ → Bool

@@ -1,4 +1,5 @@
--- The network of a circuit of flips with at most two controls, in which CNOT joins neighbours where a flip's lines are a row.
+-- The network of a circuit of flips with at most two controls, in which CNOT joins neighbours where a flip's lines are
+-- a row.
 use Rattle.std.specs.Prelude.{◌≡◌, ◌≤◌, ℕ, ◌+◌, ◌==◌, ◌&&◌, ◌||◌, ◌⊎◌, Bool, List, [], ◌∷◌, ◌++◌, All, if◌then◌else◌, length}
 use Rattle.std.specs.List.{flat_map}
 use Rattle.rv_gate.specs.Circuit.{Cascade}
@@ -23,7 +24,8 @@ is_row a b c = ((a + 1 == b) && (b + 1 == c)) || ((c + 1 == b) && (b + 1 == a))
 -- a flip of t, one of the lines p, q and r, under the two others: CNOT joins p and q, and q and r
 unfoldable pub row_block : ℕ → ℕ → ℕ → ℕ → List Op
 row_block p q r t =
-    H t ∷ T p ∷ T q ∷ T r ∷ Cx p q ∷ Tdg q ∷ Cx q r ∷ T r ∷ Cx p q ∷ Cx q r ∷ Tdg r ∷ Cx p q ∷ Cx q r ∷ Tdg r ∷ Cx p q ∷ Cx q r ∷ H t ∷ []
+    H t ∷ T p ∷ T q ∷ T r ∷ Cx p q ∷ Tdg q ∷ Cx q r ∷ T r ∷ Cx p q ∷ Cx q r ∷ Tdg r ∷ Cx p q ∷ Cx q r ∷ Tdg r ∷ Cx p q
+    ∷ Cx q r ∷ H t ∷ []
 
 -- a flip of c under a and b, by the line that stands between the two others, if one does
 abbrev pub near_block : ℕ → ℕ → ℕ → List Op
@@ -70,8 +72,8 @@ IsRouted (Peres a b c) = ⊥
 
 -- A network on the lines of the decomposed circuit. If each gate of that circuit touches consecutive lines, each
 -- operation is on neighbours; and so it is if each gate of the given circuit is as `route` leaves it. For each word and
--- whatever the helper lines may hold, its exact amplitudes are those of the circuit's permutation, which gives the helper
--- lines back, times the root of two for each H; no phase is free.
+-- whatever the helper lines may hold, its exact amplitudes are those of the circuit's permutation, which gives the
+-- helper lines back, times the root of two for each H; no phase is free.
 pub record MapsNear (aux : Aux) (c : Cascade) (net : Network) : Type 0 where
   pub valid : IsNetwork net
   pub lines : net.lines ≡ lines_with_helpers aux c

@@ -1,4 +1,5 @@
--- Linear nearest neighbour: lines on a row of positions. A placement (layout) is the list of the lines by their positions.
+-- Linear nearest neighbour: lines on a row of positions. A placement (layout) is the list of the lines by their
+-- positions.
 use Rattle.std.specs.Prelude.{ℕ, ◌≤◌, Bool, List, map, ◌==◌, IsTrue}
 use Rattle.std.specs.List.{position_or_len, range_with_len}
 use Rattle.rv_gate.specs.Word.{has, bit_of, ones_of}

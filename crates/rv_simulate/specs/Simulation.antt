@@ -38,7 +38,8 @@ garbage_asked c all = if all then replicate (length c.names) false else c.garbag
 abbrev pub answer_text : Cascade → Bool → List Bool → List ℕ
 answer_text c all word = map bit_byte (without_garbage (garbage_asked c all) word) ++ line_feed ∷ []
 
--- the answer to the bits of a line, if it isn't wrong; a line without bits is skipped, and a word has a bit for each line that takes one
+-- the answer to the bits of a line, if it isn't wrong; a line without bits is skipped, and a word has a bit for each
+-- line that takes one
 abbrev pub answer_to_bits : Cascade → Bool → Option (List Bool) → Option (List ℕ)
 answer_to_bits c all None = None
 answer_to_bits c all (Some []) = Some []
@@ -64,9 +65,11 @@ answers_to answer (line ∷ lines) = answer_and_rest (answer line) (answers_to a
 -- the number of the first wrong line, if lines are counted from `number`
 abbrev pub wrong_line : (List ℕ → Option (List ℕ)) → ℕ → List (List ℕ) → Option ℕ
 wrong_line answer number [] = None
-wrong_line answer number (line ∷ lines) = if is_none (answer line) then Some number else wrong_line answer (number + 1) lines
+wrong_line answer number (line ∷ lines) =
+    if is_none (answer line) then Some number else wrong_line answer (number + 1) lines
 
--- the lines that are looked at: those that end within the limit, and of a text within the limit a last one that lacks its line feed
+-- the lines that are looked at: those that end within the limit, and of a text within the limit a last one that lacks
+-- its line feed
 abbrev pub lines_within : List ℕ → List (List ℕ)
 lines_within text = if nat_lt MOST_BYTES (length text) then ended_after [] (take MOST_BYTES text) else lines_of text
 
@@ -81,7 +84,9 @@ first_wrong c all text = wrong_line (answer_to c all) 1 (lines_within text)
 -- a line is wrong: a byte of it is no bit, or it has bits, but not as many as are asked for
 abbrev pub IsWrong : Cascade → Bool → List ℕ → Type 0
 IsWrong c all line =
-    (line_bits line ≡ None) ⊎ ((bits : List Bool) × (line_bits line ≡ Some bits) × (1 ≤ length bits) × (length bits ≢ input_count (marks_asked c all)))
+    (line_bits line ≡ None)
+    ⊎ ((bits : List Bool) × (line_bits line ≡ Some bits) × (1 ≤ length bits)
+    × (length bits ≢ input_count (marks_asked c all)))
 
 -- of lines that are counted from 1 the one of this number is wrong, and none before it is
 pub record IsFirstWrong (c : Cascade) (all : Bool) (lines : List (List ℕ)) (number : ℕ) : Type 0 where

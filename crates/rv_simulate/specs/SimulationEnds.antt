@@ -17,7 +17,8 @@ pub record HasContent (files : FilesView) (name : List ℕ) (P : List ℕ → Ty
   pub fact : P bytes
 
 -- the text is within the limit, no line is wrong, and all answers were sent
-pub record AnswersAll (c : Cascade) (all : Bool) (from : SinkView) (place : ℕ) (to : SinkView) (text : List ℕ) : Type 0 where
+pub record AnswersAll (c : Cascade) (all : Bool) (from : SinkView) (place : ℕ) (to : SinkView)
+    (text : List ℕ) : Type 0 where
   pub whole : place ≡ length text
   pub limited : length text ≤ MOST_BYTES
   pub right : first_wrong c all text ≡ None
@@ -29,9 +30,10 @@ pub record EndsDone (c : Cascade) (all : Bool) (name : List ℕ) (old new : File
   pub place : new.place ≤ MOST_BYTES
   pub content : HasContent old name (AnswersAll c all from new.place to)
 
--- This line is the first wrong one, and the answers before it were sent. The text was read as far: the line ended before the place, or
--- the text ends there.
-pub record AnswersToWrong (c : Cascade) (all : Bool) (from : SinkView) (line place : ℕ) (to : SinkView) (text : List ℕ) : Type 0 where
+-- This line is the first wrong one, and the answers before it were sent. The text was read as far: the line ended
+-- before the place, or the text ends there.
+pub record AnswersToWrong (c : Cascade) (all : Bool) (from : SinkView) (line place : ℕ) (to : SinkView)
+    (text : List ℕ) : Type 0 where
   pub first : first_wrong c all text ≡ Some line
   pub is : IsFirstWrong c all (lines_within text) line
   pub within : place ≤ length text
@@ -39,19 +41,22 @@ pub record AnswersToWrong (c : Cascade) (all : Bool) (from : SinkView) (line pla
   pub sent : to.sent ≡ grown from.sent (answers_of c all text)
 
 -- A line is wrong.
-pub record EndsWrong (c : Cascade) (all : Bool) (name : List ℕ) (old new : FilesView) (from to : SinkView) (line : ℕ) : Type 0 where
+pub record EndsWrong (c : Cascade) (all : Bool) (name : List ℕ) (old new : FilesView) (from to : SinkView)
+    (line : ℕ) : Type 0 where
   pub started : new.is_started ≡ true
   pub place : new.place ≤ MOST_BYTES
   pub content : HasContent old name (AnswersToWrong c all from line new.place to)
 
 -- no line that ended before the place is wrong, and the answers to these lines were sent
-pub record AnswersToPlace (c : Cascade) (all : Bool) (from : SinkView) (place : ℕ) (to : SinkView) (text : List ℕ) : Type 0 where
+pub record AnswersToPlace (c : Cascade) (all : Bool) (from : SinkView) (place : ℕ) (to : SinkView)
+    (text : List ℕ) : Type 0 where
   pub within : place ≤ length text
   pub right : wrong_line (answer_to c all) 1 (ended_after [] (take place text)) ≡ None
   pub sent : to.sent ≡ grown from.sent (answers_to (answer_to c all) (ended_after [] (take place text)))
 
 -- A call of the files failed, or the name isn't held.
-pub record EndsUnread (c : Cascade) (all : Bool) (name : List ℕ) (old new : FilesView) (from to : SinkView) : Type 0 where
+pub record EndsUnread (c : Cascade) (all : Bool) (name : List ℕ) (old new : FilesView)
+    (from to : SinkView) : Type 0 where
   pub cause : IsFaulty old name new
   pub unstarted : new.is_started ≡ false → to ≡ from
   pub place : new.is_started ≡ true → new.place ≤ MOST_BYTES
@@ -64,13 +69,15 @@ pub record AnswersToLimit (c : Cascade) (all : Bool) (from to : SinkView) (text 
   pub sent : to.sent ≡ grown from.sent (answers_of c all text)
 
 -- One byte more than the limit was read.
-pub record EndsTooLong (c : Cascade) (all : Bool) (name : List ℕ) (old new : FilesView) (from to : SinkView) : Type 0 where
+pub record EndsTooLong (c : Cascade) (all : Bool) (name : List ℕ) (old new : FilesView)
+    (from to : SinkView) : Type 0 where
   pub started : new.is_started ≡ true
   pub place : new.place ≡ MOST_BYTES + 1
   pub content : HasContent old name (AnswersToLimit c all from to)
 
 -- A call of the sink failed, and a prefix of the answers was sent.
-pub record EndsUnsent (c : Cascade) (all : Bool) (name : List ℕ) (old new : FilesView) (from to : SinkView) : Type 0 where
+pub record EndsUnsent (c : Cascade) (all : Bool) (name : List ℕ) (old new : FilesView)
+    (from to : SinkView) : Type 0 where
   pub rose : Rose from.faults to.faults
   pub started : new.is_started ≡ true
   pub place : new.place ≤ MOST_BYTES

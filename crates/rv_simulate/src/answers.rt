@@ -31,7 +31,8 @@ pub(crate) fn end_line<O: Sink>(
 ) -> Result<(), u32>
     requires { All (λ word. length word ≡ length circuit.now.names) words.old }
     ensures lines { All (λ word. length word ≡ length circuit.now.names) words.new }
-    ensures ends { EndsLine circuit.now all line.now words.old writer.old (O.view out.old) result words.new writer.new (O.view out.new) }
+    ensures ends { EndsLine circuit.now all line.now words.old writer.old (O.view out.old) result words.new writer.new
+        (O.view out.new) }
 
     // No line takes more bits than a state of a line holds.
     ensures few { input_count (marks_asked circuit.now all) ≤ MOST_LINES }
@@ -58,7 +59,8 @@ fn wait<O: Sink>(
     requires lines { All (λ word. length word ≡ length circuit.now.names) words.old }
     requires line { length word ≡ length circuit.now.names }
     ensures lines { All (λ word. length word ≡ length circuit.now.names) words.new }
-    ensures gives { AreGiven circuit.now all (answers_to_words circuit.now all words.old ++ answer_text circuit.now all (run circuit.now.gates word))
+    ensures gives { AreGiven circuit.now all (answers_to_words circuit.now all words.old
+        ++ answer_text circuit.now all (run circuit.now.gates word))
         writer.old (O.view out.old) words.new writer.new (O.view out.new) }
 {
     if words.is_full() {
@@ -77,7 +79,8 @@ pub(crate) fn put_answers<O: Sink>(
 )
     requires { All (λ word. length word ≡ length circuit.now.names) words.old }
     ensures none { words.new ≡ [] }
-    ensures adds { Adds writer.old (O.view out.old) (answers_to_words circuit.now all words.old) writer.new (O.view out.new) }
+    ensures adds { Adds writer.old (O.view out.old) (answers_to_words circuit.now all words.old) writer.new
+        (O.view out.new) }
 {
     words.run(circuit);
     let mut text = [b'0'; ROOM];
@@ -96,7 +99,8 @@ fn make_room<O: Sink>(text: &[u8], len: usize, writer: &mut Writer, out: &mut O)
     requires whole { length text.now ≡ ROOM }
     requires within { len ≤ ROOM }
     ensures room { result + MOST_ANSWER ≤ ROOM }
-    ensures gives { ArePartGiven (take len text.now) writer.old (O.view out.old) (take result text.now) writer.new (O.view out.new) }
+    ensures gives { ArePartGiven (take len text.now) writer.old (O.view out.old) (take result text.now) writer.new
+        (O.view out.new) }
 {
     if text.len() - len >= MOST_ANSWER {
         return len;

@@ -1,4 +1,5 @@
-ghost use Rattle.std.specs.Prelude.{◌≡◌, ◌+◌, ◌<◌, ◌≤◌, ◌^◌, ◌&&◌, ◌∷◌, ℕ, List, [], true, not, length, All, OnOk, Ok, Err};
+ghost use Rattle.std.specs.Prelude.{◌≡◌, ◌+◌, ◌<◌, ◌≤◌, ◌^◌, ◌&&◌, ◌∷◌, ℕ, List, [], true, not, length, All, OnOk, Ok};
+ghost use Rattle.std.specs.Prelude.{Err};
 ghost use Rattle.std.specs.List.{list_all};
 ghost use Rattle.rv_gate.specs.Marks.{takes_input};
 ghost use Rattle.rv_io.specs.Files.{Keeps};
@@ -70,9 +71,11 @@ pub fn simulate_words<F: Files, O: Sink>(
     ensures unflushed { StaysUnflushed (O.view out.old) (O.view out.new) }
 
     // What is started at the end is this name.
-    ensures named { (F.view files.old).tells ≡ true → (F.view files.new).is_started ≡ true → (F.view files.new).is_opened name.now ≡ true }
+    ensures named { (F.view files.old).tells ≡ true → (F.view files.new).is_started ≡ true
+        → (F.view files.new).is_opened name.now ≡ true }
     ensures uncounted { EndsUncounted result (F.view files.old) (F.view files.new) (O.view out.old) (O.view out.new) }
-    ensures ends { Simulates circuit.now all name.now (F.view files.old) (F.view files.new) (O.view out.old) (O.view out.new) result }
+    ensures ends { Simulates circuit.now all name.now (F.view files.old) (F.view files.new) (O.view out.old)
+        (O.view out.new) result }
 {
     if files.start(name) == Started::Failed {
         return WordsEnd::Read;
@@ -119,7 +122,8 @@ fn answer_piece<O: Sink>(
 ) -> Result<(), Stop>
     requires { line.old.number + length piece.now < 2 ^ 32 }
     ensures counted { OnOk result (line.new.number ≤ line.old.number + length piece.now) }
-    ensures answers { AnswersPiece (answer_to circuit.now all) piece.now line.old (O.view out.old) result line.new (O.view out.new) }
+    ensures answers { AnswersPiece (answer_to circuit.now all) piece.now line.old (O.view out.old) result line.new
+        (O.view out.new) }
 {
     let mut writer = Writer::new();
     let found = give_answers(circuit, all, line, piece, &mut writer, out);
@@ -171,7 +175,8 @@ fn give_answers<O: Sink>(
 ) -> Result<(), u32>
     requires { line.old.number + length piece.now < 2 ^ 32 }
     ensures counted { OnOk result (line.new.number ≤ line.old.number + length piece.now) }
-    ensures gives { GivesLines (answer_to circuit.now all) piece.now line.old writer.old (O.view out.old) result line.new writer.new (O.view out.new) }
+    ensures gives { GivesLines (answer_to circuit.now all) piece.now line.old writer.old (O.view out.old) result
+        line.new writer.new (O.view out.new) }
 {
     let every = asks_all(circuit, all);
     let mut words = Waiting::new();
@@ -195,7 +200,8 @@ fn collect<O: Sink>(
     requires none { words.old ≡ [] }
     ensures counted { OnOk result (line.new.number ≤ line.old.number + length piece.now) }
     ensures lines { All (λ word. length word ≡ length circuit.now.names) words.new }
-    ensures collects { Collects circuit.now all piece.now line.old writer.old (O.view out.old) result line.new words.new writer.new (O.view out.new) }
+    ensures collects { Collects circuit.now all piece.now line.old writer.old (O.view out.old) result line.new words.new
+        writer.new (O.view out.new) }
 {
     let mut at = 0;
     while at < piece.len() {

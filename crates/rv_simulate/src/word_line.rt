@@ -1,4 +1,5 @@
-ghost use Rattle.std.specs.Prelude.{◌≡◌, ◌+◌, ◌-◌, ◌<◌, ◌≤◌, ◌^◌, ◌++◌, map, true, length, slice_get, take, Some, IfOk, IfSome};
+ghost use Rattle.std.specs.Prelude.{◌≡◌, ◌+◌, ◌-◌, ◌<◌, ◌≤◌, ◌^◌, ◌++◌, map, true, length, slice_get, take, Some, IfOk};
+ghost use Rattle.std.specs.Prelude.{IfSome};
 ghost use Rattle.std.specs.List.{list_all};
 ghost use Rattle.std.specs.Option.{SomeIff};
 ghost use Rattle.rv_gate.specs.Marks.{input_count, with_constants};
@@ -6,7 +7,8 @@ ghost use Rattle.rv_gate.specs.Word.{word_of};
 ghost use Rattle.rv_gate.specs.declared.word.TheConstants.{MOST_LINES};
 ghost use Rattle.rv_simulate.specs.Simulation.{answer_to_bits, is_bit, marks_asked};
 ghost use Rattle.rv_simulate.specs.inside.Answering.{GivesWord};
-ghost use Rattle.rv_simulate.specs.inside.WordLine.{IsOctet, after_byte, after_bytes, bits_in, is_one, unread, with_bit};
+ghost use Rattle.rv_simulate.specs.inside.WordLine.{IsOctet, after_byte, after_bytes, bits_in, is_one, unread};
+ghost use Rattle.rv_simulate.specs.inside.WordLine.{with_bit};
 
 use rv_gate::{Circuit, MOST_LINES, Mark, Word, has};
 use std::marker::Model;
@@ -30,7 +32,8 @@ impl Model for WordLine {
 
     ghost Value = { WordLine };
 
-    ghost view = { λ s. record { number = s.number; bits = word_of s.count s.bits; in_comment = s.in_comment; is_wrong = s.is_wrong } };
+    ghost view = { λ s.
+        record { number = s.number; bits = word_of s.count s.bits; in_comment = s.in_comment; is_wrong = s.is_wrong } };
 
     ghost invariant = { λ s. (s.count ≤ MOST_LINES) × (s.bits < 2 ^ s.count) };
 }
@@ -109,7 +112,8 @@ impl WordLine {
     /// The word that the line gives, which is at its end, or none if it has no bits. An error is the
     /// number of the line, which is wrong.
     pub fn word(&self, circuit: &Circuit, all: bool) -> Result<Option<Word>, u32>
-        ensures gives { GivesWord circuit.now all (answer_to_bits circuit.now all (bits_in self.now)) self.now.number result }
+        ensures gives { GivesWord circuit.now all (answer_to_bits circuit.now all (bits_in self.now)) self.now.number
+            result }
         ensures lines { IfOk result (λ word. IfSome word (λ word. length word ≡ length circuit.now.names)) }
 
         // No line takes more bits than fit here.
@@ -178,7 +182,8 @@ fn with_bits(number: u64, count: u8, bytes: &[u8]) -> (u64, u8)
 fn filled(circuit: &Circuit, all: bool, count: u8, bits: u64) -> Option<Word>
     requires few { count ≤ MOST_LINES }
     requires small { bits < 2 ^ count }
-    ensures { SomeIff result (count ≡ input_count (marks_asked circuit.now all)) (with_constants (marks_asked circuit.now all) (word_of count bits)) }
+    ensures { SomeIff result (count ≡ input_count (marks_asked circuit.now all))
+        (with_constants (marks_asked circuit.now all) (word_of count bits)) }
 {
     if all {
         whole(circuit, count, bits)
@@ -191,7 +196,8 @@ fn filled(circuit: &Circuit, all: bool, count: u8, bits: u64) -> Option<Word>
 fn whole(circuit: &Circuit, count: u8, bits: u64) -> Option<Word>
     requires few { count ≤ MOST_LINES }
     requires small { bits < 2 ^ count }
-    ensures { SomeIff result (count ≡ input_count (marks_asked circuit.now true)) (with_constants (marks_asked circuit.now true) (word_of count bits)) }
+    ensures { SomeIff result (count ≡ input_count (marks_asked circuit.now true))
+        (with_constants (marks_asked circuit.now true) (word_of count bits)) }
 {
     if count == circuit.line_count() {
         Word::new(count, bits)
@@ -203,7 +209,8 @@ fn whole(circuit: &Circuit, count: u8, bits: u64) -> Option<Word>
 // The word that bits make with the constants of the circuit, if they are as many as the other lines.
 fn among_constants(circuit: &Circuit, count: u8, bits: u64) -> Option<Word>
     requires few { count ≤ MOST_LINES }
-    ensures { SomeIff result (count ≡ input_count circuit.now.constants) (with_constants circuit.now.constants (word_of count bits)) }
+    ensures { SomeIff result (count ≡ input_count circuit.now.constants)
+        (with_constants circuit.now.constants (word_of count bits)) }
 {
     let lines = circuit.line_count();
     let mut number = 0u64;

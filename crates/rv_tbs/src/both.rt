@@ -61,7 +61,8 @@ fn inward_step(table: &mut Perm, k: u32, gates: &mut Vec<Gate>) -> Result<(), Al
     requires fixed { FixedBelow k table.old.images }
     ensures lines { table.new.lines ≡ table.old.lines }
     ensures images { OnOk result
-        (table.new.images ≡ applied_in (in_step_gates table.old.lines k table.old.images) table.old.lines table.old.images) }
+        (table.new.images
+        ≡ applied_in (in_step_gates table.old.lines k table.old.images) table.old.lines table.old.images) }
     ensures gates { OnOk result (gates.new.items
         ≡ gates.old.items ++ in_step_gates table.old.lines k table.old.images) }
 {

@@ -22,4 +22,5 @@ exchanges =
 -- the first and the second control set have 0 and 0, 0 and 1, 0 and 2, 1 and 0, 1 and 1, 2 and 0 lines: those of the
 -- first come first, then those of the second
 abbrev pub built_in : List (List Shape)
-built_in = crossed 0 0 0 ∷ crossed 0 1 1 ∷ crossed 0 3 2 ∷ crossed 1 0 1 ∷ crossed 1 2 2 ∷ crossed 3 0 2 ∷ exchanges ∷ []
+built_in =
+    crossed 0 0 0 ∷ crossed 0 1 1 ∷ crossed 0 3 2 ∷ crossed 1 0 1 ∷ crossed 1 2 2 ∷ crossed 3 0 2 ∷ exchanges ∷ []

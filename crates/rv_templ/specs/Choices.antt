@@ -7,8 +7,8 @@ use Rattle.rv_gate.specs.FirstAnswer.{first}
 use Rattle.rv_templ.specs.Folds.{least}
 use Rattle.rv_templ.specs.Images.{allowed, turned, replacement}
 
--- A window: its number of gates, the place of a template in the library, the gate with which the template begins, and the
--- lines that its lines become.
+-- A window: its number of gates, the place of a template in the library, the gate with which the template begins, and
+-- the lines that its lines become.
 pub record Found : Type 0 where
   pub count : ℕ
   pub template : ℕ
@@ -26,13 +26,20 @@ template_in library t = slice_index_or library t []
 -- a window of a template that begins with its gate r
 abbrev pub at_turn : List Shape → List Shape → ℕ → ℕ → Option Found
 at_turn window template t r =
-    option_map (λ to. record { count = length window; template = t; turn = r; lines = to }) (renaming window (turned r template))
+    option_map (λ to. record {
+      count =
+          length window;
+      template = t;
+      turn = r;
+      lines = to;
+    }) (renaming window (turned r template))
 
 -- the least r; a window has more than half of the template's gates
 unfoldable pub at_template : List Shape → List (List Shape) → ℕ → Option Found
 at_template window library t =
     let m = length (template_in library t) in
-    if nat_le (length window) m && nat_lt m (2 * length window) then first (at_turn window (template_in library t) t) 0 m else None
+    if nat_le (length window) m && nat_lt m (2 * length window)
+    then first (at_turn window (template_in library t) t) 0 m else None
 
 -- the least template
 unfoldable pub at_count : List Shape → List (List Shape) → ℕ → Option Found
@@ -50,4 +57,5 @@ window_at gates library = at_most gates library (length gates)
 -- the list after its first gates were replaced
 abbrev pub after : List Shape → List (List Shape) → Found → List Shape
 after gates library found =
-    replacement (take found.count gates) (turned found.turn (template_in library found.template)) found.lines ++ drop found.count gates
+    replacement (take found.count gates) (turned found.turn (template_in library found.template)) found.lines
+    ++ drop found.count gates

@@ -38,7 +38,8 @@ difference a b = bit_xor a (bit_and a b)
 
 -- a flip of the template, renamed, with fresh controls
 abbrev pub image_of : List ℕ → ℕ → ℕ → Shape → Shape
-image_of to care want g = Flip (bit_or (renamed to (controls g)) care) (bit_or (renamed to (wanted g)) want) (new_line to (target_of g))
+image_of to care want g =
+    Flip (bit_or (renamed to (controls g)) care) (bit_or (renamed to (wanted g)) want) (new_line to (target_of g))
 
 -- the image of gates
 abbrev pub image : List ℕ → ℕ → ℕ → List Shape → List Shape
@@ -53,7 +54,8 @@ fresh_want window own to = difference (wanted (gate_in window 0)) (renamed to ow
 
 -- no two lines of own become one
 unfoldable pub distinct : ℕ → List ℕ → Bool
-distinct own to = all_below (λ i. all_below (λ j. not (has own i && has own j && (new_line to i == new_line to j))) i) TEMPLATE_LINES
+distinct own to =
+    all_below (λ i. all_below (λ j. not (has own i && has own j && (new_line to i == new_line to j))) i) TEMPLATE_LINES
 
 -- at lines that are not in own stands 0
 unfoldable pub zero_elsewhere : ℕ → List ℕ → Bool

@@ -18,7 +18,8 @@ lone set (suc n) = if set == 2 ^ n then Some n else lone set n
 unfoldable pub with_line : ℕ → ℕ → Bool → ℕ
 with_line set line b = if b then bit_or set (2 ^ line) else if has set line then bit_xor set (2 ^ line) else set
 
--- the lines that are not to one flip what they are to the other: a control that wants 0, a control that wants 1, no control
+-- the lines that are not to one flip what they are to the other: a control that wants 0, a control that wants 1, no
+-- control
 abbrev pub apart_on : ℕ → ℕ → ℕ → ℕ → ℕ
 apart_on care want care2 want2 = bit_or (bit_xor care care2) (bit_xor want want2)
 
@@ -36,10 +37,12 @@ third_at care want care2 want2 target (Some line) = Some (third_flip care want c
 unfoldable pub paired : Shape → Shape → Option (List Shape)
 paired (Flip care want target) (Flip care2 want2 target2) =
     if target == target2
-    then if (care == care2) && (want == want2) then Some [] else third_at care want care2 want2 target (lone (apart_on care want care2 want2) MOST_LINES)
+    then if (care == care2) && (want == want2) then Some []
+    else third_at care want care2 want2 target (lone (apart_on care want care2 want2) MOST_LINES)
     else None
 paired (Swap care want a b) (Swap care2 want2 a2 b2) =
-    if (care == care2) && (want == want2) && (((a == a2) && (b == b2)) || ((a == b2) && (b == a2))) then Some [] else None
+    if (care == care2) && (want == want2) && (((a == a2) && (b == b2)) || ((a == b2) && (b == a2))) then Some []
+    else None
 paired (Flip _ _ _) (Swap _ _ _ _) = None
 paired (Flip _ _ _) (Peres _ _ _) = None
 paired (Swap _ _ _ _) (Flip _ _ _) = None
@@ -55,7 +58,8 @@ after_gates before (Some gates) = Some (before ++ gates)
 unfoldable pub partner : Shape → List Shape → Option (List Shape)
 partner g [] = None
 partner g (h ∷ rest) =
-    option_or (after_gates [] (option_map (λ m. m ++ rest) (paired g h))) (if rule g h then after_gates (h ∷ []) (partner g rest) else None)
+    option_or (after_gates [] (option_map (λ m. m ++ rest) (paired g h)))
+    (if rule g h then after_gates (h ∷ []) (partner g rest) else None)
 
 -- a list after the pair with the least first place, then the least second place
 unfoldable pub pair_step : List Shape → Option (List Shape)

@@ -10,7 +10,8 @@ use Rattle.rv_templ.specs.Windows.{NoWindow}
 unfoldable pub window_step : List (List Shape) → List Shape → Option (List Shape)
 window_step library [] = None
 window_step library (g ∷ rest) =
-    option_or (option_map (after (g ∷ rest) library) (window_at (g ∷ rest) library)) (after_gates (g ∷ []) (window_step library rest))
+    option_or (option_map (after (g ∷ rest) library) (window_at (g ∷ rest) library))
+    (after_gates (g ∷ []) (window_step library rest))
 
 -- the list after the chosen step: a pair comes before any window
 abbrev pub step : List (List Shape) → List Shape → Option (List Shape)

@@ -42,4 +42,5 @@ template_fault c =
     if nat_lt TEMPLATE_LINES (length c.names) then Some (TooWide (length c.names))
     else if nat_lt TEMPLATE_GATES (length c.gates) then Some (TooLong (length c.gates))
     else option_or (option_map NotToffoli (first_other c.gates))
-    (option_map (λ x. NotIdentity x (run_on_number c.gates (length c.names) x)) (first_changed (length c.names) c.gates))
+    (option_map (λ x. NotIdentity x (run_on_number c.gates (length c.names) x))
+    (first_changed (length c.names) c.gates))

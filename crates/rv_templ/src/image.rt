@@ -66,8 +66,8 @@ pub fn difference(a: LineSet, b: LineSet) -> LineSet
     a ^ (a & b)
 }
 
-/// The target of a flip, the first target of a swap, and the line `a` of a Peres gate, which is its control: a Peres gate
-/// makes no pair and stands in no template.
+/// The target of a flip, the first target of a swap, and the line `a` of a Peres gate, which is its control: a Peres
+/// gate makes no pair and stands in no template.
 pub fn target_of(gate: Gate) -> u8
     ensures value { result ≡ target_of gate }
     ensures below { result < MOST_LINES }

@@ -1,11 +1,11 @@
 //! Circuits are simplified by pairs and templates.
 //!
 //! Two gates are a pair if the first one commutes with all between and both together come to nothing, or to one flip. A
-//! template is a short list of flips that changes no word ([`Library`]). Gates side by side are a window if they are more
-//! than half of it, with other lines and with further controls, and the rest of it touches only lines that they touch, and
-//! no more lines in sum; the rest takes their place, in reverse. [`simplify_linked`] goes on until there is neither.
-//! Contracts see a library as the list of its templates, and say that the gates end exactly as the written rules have it
-//! (`simplified`).
+//! template is a short list of flips that changes no word ([`Library`]). Gates side by side are a window if they are
+//! more than half of it, with other lines and with further controls, and the rest of it touches only lines that they
+//! touch, and no more lines in sum; the rest takes their place, in reverse. [`simplify_linked`] goes on until there is
+//! neither. Contracts see a library as the list of its templates, and say that the gates end exactly as the written
+//! rules have it (`simplified`).
 #![tactic(auto)]
 
 mod along;

@@ -1,4 +1,5 @@
-ghost use Rattle.std.specs.Prelude.{◌≡◌, ℕ, ◌+◌, ◌^◌, ◌<◌, ◌≤◌, ◌↔◌, List, [], ◌∷◌, ◌++◌, length, Some, None, option_map, IfSome, IfOk, OnOk, OnErr};
+ghost use Rattle.std.specs.Prelude.{◌≡◌, ℕ, ◌+◌, ◌^◌, ◌<◌, ◌≤◌, ◌↔◌, List, [], ◌∷◌, ◌++◌, length, Some, None};
+ghost use Rattle.std.specs.Prelude.{option_map, IfSome, IfOk, OnOk, OnErr};
 ghost use Rattle.rv_templ.specs.declared.image.TheConstants.{TEMPLATE_GATES, TEMPLATE_LINES};
 ghost use Rattle.rv_gate.specs.Gate.{is_flip, run_on_number};
 ghost use Rattle.rv_templ.specs.BuiltIn.{built_in};
@@ -51,10 +52,16 @@ impl Library {
         ensures ok { OnOk result (self.new ≡ self.old ++ circuit.now.gates ∷ []) }
         ensures template { OnOk result (IsTemplate circuit.now.gates) }
         ensures err { OnErr result (self.new ≡ self.old) }
-        ensures too_wide { (n : ℕ) → (result ≡ Err (LibFault.TooWide n)) ↔ (template_fault circuit.now ≡ Some (LibFault.TooWide n)) }
-        ensures too_long { (n : ℕ) → (result ≡ Err (LibFault.TooLong n)) ↔ (template_fault circuit.now ≡ Some (LibFault.TooLong n)) }
-        ensures not_toffoli { (place : ℕ) → (result ≡ Err (LibFault.NotToffoli place)) ↔ (template_fault circuit.now ≡ Some (LibFault.NotToffoli place)) }
-        ensures not_identity { (word image : ℕ) → (result ≡ Err (LibFault.NotIdentity word image)) ↔ (template_fault circuit.now ≡ Some (LibFault.NotIdentity word image)) }
+        ensures too_wide { (n : ℕ)
+            → (result ≡ Err (LibFault.TooWide n)) ↔ (template_fault circuit.now ≡ Some (LibFault.TooWide n)) }
+        ensures too_long { (n : ℕ)
+            → (result ≡ Err (LibFault.TooLong n)) ↔ (template_fault circuit.now ≡ Some (LibFault.TooLong n)) }
+        ensures not_toffoli { (place : ℕ)
+            → (result ≡ Err (LibFault.NotToffoli place)) ↔
+            (template_fault circuit.now ≡ Some (LibFault.NotToffoli place)) }
+        ensures not_identity { (word image : ℕ)
+            → (result ≡ Err (LibFault.NotIdentity word image)) ↔
+            (template_fault circuit.now ≡ Some (LibFault.NotIdentity word image)) }
     {
         circuit.recall_invariant();
         if let Some(fault) = template_fault(circuit) {

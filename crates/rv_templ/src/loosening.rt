@@ -83,7 +83,8 @@ fn loosen_flip(
     ensures nodes { linked.new.nodes ≡ linked.old.nodes }
     ensures fewer { Fewer linked.old.notes linked.new.notes }
     ensures same { IsFalse result.gone → IsFalse so_far.gone × (linked.new.notes ≡ linked.old.notes) }
-    ensures all { IsTrue result.all → IsTrue so_far.all × Loose linked.new.notes linked.old.nodes b (Shape.Flip care want target) }
+    ensures all { IsTrue result.all
+        → IsTrue so_far.all × Loose linked.new.notes linked.old.nodes b (Shape.Flip care want target) }
 {
     linked.recall_invariant();
     match Gate::flip(care, want, target) {
@@ -110,7 +111,8 @@ fn loosen_on(
     ensures fewer { Fewer linked.old.notes linked.new.notes }
     ensures same { IsFalse result.gone → IsFalse so_far.gone × (linked.new.notes ≡ linked.old.notes) }
     ensures before { IsTrue result.all → IsTrue so_far.all }
-    ensures all { IsTrue result.all → has used line ≡ true → LooseOn linked.new.notes linked.old.nodes b care want target line }
+    ensures all { IsTrue result.all → has used line ≡ true
+        → LooseOn linked.new.notes linked.old.nodes b care want target line }
 {
     if !has(used, line) {
         return so_far;

@@ -1,12 +1,15 @@
 //! Whether a window is one of an image of a template, and may be replaced.
-ghost use Rattle.std.specs.Prelude.{◌≡◌, ℕ, ◌+◌, ◌-◌, ◌*◌, ◌^◌, ◌<◌, ◌≤◌, Bool, true, false, not, ◌&&◌, ◌||◌, ◌==◌, List, length, IsTrue, IsFalse};
+ghost use Rattle.std.specs.Prelude.{◌≡◌, ℕ, ◌+◌, ◌-◌, ◌*◌, ◌^◌, ◌<◌, ◌≤◌, Bool, true, false, not, ◌&&◌, ◌||◌, ◌==◌};
+ghost use Rattle.std.specs.Prelude.{List, length, IsTrue, IsFalse};
 ghost use Rattle.rv_templ.specs.declared.image.TheConstants.{TEMPLATE_LINES};
 ghost use Rattle.rv_gate.specs.declared.word.TheConstants.{MOST_LINES};
 ghost use Rattle.rv_gate.specs.Word.{has};
 ghost use Rattle.rv_gate.specs.Gate.{controls, wanted, touched, all_below};
 ghost use Rattle.rv_links.specs.Nodes.{incidences};
 ghost use Rattle.rv_templ.specs.Gates.{gate_in};
-ghost use Rattle.rv_templ.specs.Images.{target_of, span, turned, new_line, renamed, difference, image_of, fresh_care, fresh_want, distinct, zero_elsewhere, same_gate, fits_window, others, within, allowed};
+ghost use Rattle.rv_templ.specs.Images.{target_of, span, turned, new_line, renamed, difference, image_of, fresh_care};
+ghost use Rattle.rv_templ.specs.Images.{fresh_want, distinct, zero_elsewhere, same_gate, fits_window, others, within};
+ghost use Rattle.rv_templ.specs.Images.{allowed};
 ghost use Rattle.rv_templ.specs.Templates.{IsTemplate};
 
 use crate::image::{

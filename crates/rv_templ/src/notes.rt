@@ -1,8 +1,9 @@
 //! What is noted of gates that make no pair, until it may be so no longer.
 //!
-//! The note of a gate is 0 where nothing is known. It is 1 if the gate makes no pair with any after it, and a node's number
-//! and 2 if it makes none with any up to that node, with which it does not commute.
-ghost use Rattle.std.specs.Prelude.{◌≡◌, ◌≢◌, ◌⊎◌, ℕ, ◌+◌, ◌<◌, ◌≤◌, List, [], ◌∷◌, ◌++◌, length, take, drop, true, All, IsTrue, IsFalse, Some, None};
+//! The note of a gate is 0 where nothing is known. It is 1 if the gate makes no pair with any after it, and a node's
+//! number and 2 if it makes none with any up to that node, with which it does not commute.
+ghost use Rattle.std.specs.Prelude.{◌≡◌, ◌≢◌, ◌⊎◌, ℕ, ◌+◌, ◌<◌, ◌≤◌, List, [], ◌∷◌, ◌++◌, length, take, drop, true};
+ghost use Rattle.std.specs.Prelude.{All, IsTrue, IsFalse, Some, None};
 ghost use Rattle.rv_gate.specs.declared.circuit.TheConstants.{MOST_GATES};
 ghost use Rattle.rv_gate.specs.declared.gate.Shape.{Shape};
 ghost use Rattle.rv_gate.specs.Gate.{FitsIn};
@@ -32,7 +33,8 @@ fn note_for(linked: &Linked, node: NodeId, stop: Option<u32>, left: usize) -> (u
     requires none { NoMate linked.now.nodes node }
     requires stop { IsStop linked.now.nodes (node_gate node linked.now.nodes) node stop }
     requires left { length (nodes_from (next_in node (ids_in linked.now.nodes)) linked.now.nodes) ≤ left }
-    ensures quiet { Quiet result.0 (node_gate node linked.now.nodes) (nodes_from (next_in node (ids_in linked.now.nodes)) linked.now.nodes) result.1 }
+    ensures quiet { Quiet result.0 (node_gate node linked.now.nodes)
+        (nodes_from (next_in node (ids_in linked.now.nodes)) linked.now.nodes) result.1 }
     ensures some { result.0 ≢ 0 }
 {
     linked.recall_invariant();
@@ -42,8 +44,8 @@ fn note_for(linked: &Linked, node: NodeId, stop: Option<u32>, left: usize) -> (u
     }
 }
 
-/// Notes that the node makes no pair, with its stop, where at most `left` gates are after it. Answers on how many gates after it a note
-/// depends at most.
+/// Notes that the node makes no pair, with its stop, where at most `left` gates are after it. Answers on how many gates
+/// after it a note depends at most.
 pub fn note_quiet(
     linked: &mut Linked,
     node: NodeId,
@@ -75,7 +77,8 @@ pub fn forget(linked: &mut Linked, low: &Cursor, count: usize)
     ensures nodes { linked.new.nodes ≡ linked.old.nodes }
     ensures fewer { Fewer linked.old.notes linked.new.notes }
     ensures here { NoneNoted linked.new.notes (take count (drop low.now.place linked.old.nodes)) }
-    ensures before { AllNoted linked.old.notes (take low.now.place linked.old.nodes) → AllNoted linked.new.notes (take low.now.place linked.old.nodes) }
+    ensures before { AllNoted linked.old.notes (take low.now.place linked.old.nodes)
+        → AllNoted linked.new.notes (take low.now.place linked.old.nodes) }
 {
     linked.recall_invariant();
     let start = *low;
@@ -136,7 +139,10 @@ fn forget_if_changed(linked: &mut Linked, node: NodeId, a: NodeId, b: NodeId, ma
     ensures nodes { linked.new.nodes ≡ linked.old.nodes }
     ensures fewer { Fewer linked.old.notes linked.new.notes }
     ensures others { Others node linked.old.notes linked.new.notes }
-    ensures here { (gates : List Shape) → option_of made.now ≡ Some gates → (noted node linked.new.notes ≡ 0) ⊎ ((noted node linked.new.notes ≢ a + 2) × (noted node linked.new.notes ≢ b + 2) × Joinless (node_gate node linked.old.nodes) gates) }
+    ensures here { (gates : List Shape) → option_of made.now ≡ Some gates
+        → (noted node linked.new.notes ≡ 0)
+        ⊎ ((noted node linked.new.notes ≢ a + 2) × (noted node linked.new.notes ≢ b + 2)
+        × Joinless (node_gate node linked.old.nodes) gates) }
 {
     let named = names(linked.note(node), linked.number(a), linked.number(b));
     if named {
@@ -149,8 +155,8 @@ fn forget_if_changed(linked: &mut Linked, node: NodeId, a: NodeId, b: NodeId, ma
     }
 }
 
-// Forgets the notes of nodes from a place on and before `b` that may be wrong after the nodes `a` and `b`, which come to
-// `made`, were made a pair.
+// Forgets the notes of nodes from a place on and before `b` that may be wrong after the nodes `a` and `b`, which come
+// to `made`, were made a pair.
 fn forget_near(linked: &mut Linked, low: &Cursor, a: NodeId, b: NodeId, made: &Joined)
     requires first { IsTrue (live a linked.old.nodes) }
     requires second { IsTrue (live b linked.old.nodes) }
@@ -158,8 +164,11 @@ fn forget_near(linked: &mut Linked, low: &Cursor, a: NodeId, b: NodeId, made: &J
     ensures frame { linked.new.frame ≡ linked.old.frame }
     ensures nodes { linked.new.nodes ≡ linked.old.nodes }
     ensures fewer { Fewer linked.old.notes linked.new.notes }
-    ensures before { AllNoted linked.old.notes (take low.now.place linked.old.nodes) → AllNoted linked.new.notes (take low.now.place linked.old.nodes) }
-    ensures kept { (gates : List Shape) (first second : Node) (xs ys : List Node) → option_of made.now ≡ Some gates → first.id ≡ a → second.id ≡ b → low.now.place ≤ length xs → linked.old.nodes ≡ xs ++ (second ∷ ys) → Kept linked.new.notes first second gates (drop low.now.place xs) }
+    ensures before { AllNoted linked.old.notes (take low.now.place linked.old.nodes)
+        → AllNoted linked.new.notes (take low.now.place linked.old.nodes) }
+    ensures kept { (gates : List Shape) (first second : Node) (xs ys : List Node) → option_of made.now ≡ Some gates
+        → first.id ≡ a → second.id ≡ b → low.now.place ≤ length xs → linked.old.nodes ≡ xs ++ (second ∷ ys)
+        → Kept linked.new.notes first second gates (drop low.now.place xs) }
 {
     linked.recall_invariant();
     let start = *low;
@@ -228,7 +237,8 @@ fn forget_joined(linked: &mut Linked, b: NodeId, new: Gate) -> bool
     ensures nodes { linked.new.nodes ≡ linked.old.nodes }
     ensures fewer { Fewer linked.old.notes linked.new.notes }
     ensures same { IsFalse result → linked.new.notes ≡ linked.old.notes }
-    ensures apart { (n : Node) (xs ys : List Node) → n.id ≡ b → linked.old.nodes ≡ xs ++ (n ∷ ys) → Apart linked.new.notes (new ∷ []) xs }
+    ensures apart { (n : Node) (xs ys : List Node) → n.id ≡ b → linked.old.nodes ≡ xs ++ (n ∷ ys)
+        → Apart linked.new.notes (new ∷ []) xs }
 {
     linked.recall_invariant();
     let went = loosen_joined(linked, b, new);
@@ -246,7 +256,8 @@ fn forget_made(linked: &mut Linked, b: NodeId, made: &Joined) -> bool
     ensures nodes { linked.new.nodes ≡ linked.old.nodes }
     ensures fewer { Fewer linked.old.notes linked.new.notes }
     ensures same { IsFalse result → linked.new.notes ≡ linked.old.notes }
-    ensures apart { (gates : List Shape) (n : Node) (xs ys : List Node) → option_of made.now ≡ Some gates → n.id ≡ b → linked.old.nodes ≡ xs ++ (n ∷ ys) → Apart linked.new.notes gates xs }
+    ensures apart { (gates : List Shape) (n : Node) (xs ys : List Node) → option_of made.now ≡ Some gates → n.id ≡ b
+        → linked.old.nodes ≡ xs ++ (n ∷ ys) → Apart linked.new.notes gates xs }
 {
     match *made {
         Joined::Apart => false,
@@ -258,8 +269,10 @@ fn forget_made(linked: &mut Linked, b: NodeId, made: &Joined) -> bool
 // Whether both gates commute with every gate before a node.
 fn are_free(linked: &Linked, first: Gate, second: Gate, b: NodeId) -> bool
     requires { IsTrue (live b linked.now.nodes) }
-    ensures first { IsTrue result → (id : ℕ) → IsTrue (live id linked.now.nodes) → id < b → rule first (node_gate id linked.now.nodes) ≡ true }
-    ensures second { IsTrue result → (id : ℕ) → IsTrue (live id linked.now.nodes) → id < b → rule second (node_gate id linked.now.nodes) ≡ true }
+    ensures first { IsTrue result → (id : ℕ) → IsTrue (live id linked.now.nodes) → id < b
+        → rule first (node_gate id linked.now.nodes) ≡ true }
+    ensures second { IsTrue result → (id : ℕ) → IsTrue (live id linked.now.nodes) → id < b
+        → rule second (node_gate id linked.now.nodes) ≡ true }
 {
     if !commutes_before(linked, first, b) {
         return false;
@@ -267,8 +280,8 @@ fn are_free(linked: &Linked, first: Gate, second: Gate, b: NodeId) -> bool
     commutes_before(linked, second, b)
 }
 
-/// Forgets what may be wrong after the pair is made, where `here` is its place and all gates before it have a note. Answers
-/// a place before which they still have one.
+/// Forgets what may be wrong after the pair is made, where `here` is its place and all gates before it have a note.
+/// Answers a place before which they still have one.
 pub fn forget_pair(linked: &mut Linked, pair: &Pair, here: Cursor, far: usize) -> Cursor
     requires spot { IsPairSpot linked.old.nodes pair.now.place pair.now.a pair.now.b }
     requires place { here.place ≡ pair.now.place }
@@ -277,7 +290,8 @@ pub fn forget_pair(linked: &mut Linked, pair: &Pair, here: Cursor, far: usize) -
     requires known { AllNoted linked.old.notes (take here.place linked.old.nodes) }
     ensures frame { linked.new.frame ≡ linked.old.frame }
     ensures nodes { linked.new.nodes ≡ linked.old.nodes }
-    ensures right { (s : IsPairSpot linked.old.nodes pair.now.place pair.now.a pair.now.b) → Noted linked.new.notes (coupled linked.old.nodes pair.now.a pair.now.b s.mate) far }
+    ensures right { (s : IsPairSpot linked.old.nodes pair.now.place pair.now.a pair.now.b)
+        → Noted linked.new.notes (coupled linked.old.nodes pair.now.a pair.now.b s.mate) far }
     ensures most { result.place ≤ here.place }
     ensures cursor { IsCursor linked.old.nodes result.place result.before }
     ensures known { AllNoted linked.new.notes (take result.place linked.old.nodes) }

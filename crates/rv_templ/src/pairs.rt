@@ -1,5 +1,6 @@
 //! Pairs of linked gates.
-ghost use Rattle.std.specs.Prelude.{◌≡◌, ◌≢◌, ℕ, ◌+◌, ◌<◌, ◌≤◌, min, List, [], ◌∷◌, length, take, IsTrue, IsFalse, IfSome, IfNone, Some, None, MatchOption};
+ghost use Rattle.std.specs.Prelude.{◌≡◌, ◌≢◌, ℕ, ◌+◌, ◌<◌, ◌≤◌, min, List, [], ◌∷◌, length, take, IsTrue, IsFalse};
+ghost use Rattle.std.specs.Prelude.{IfSome, IfNone, Some, None, MatchOption};
 ghost use Rattle.rv_links.specs.Order.{next_in};
 ghost use Rattle.rv_links.specs.Nodes.{live, node_gate, noted, ids_in, gates_in};
 ghost use Rattle.rv_links.specs.inside.Chains.{nodes_from};
@@ -141,8 +142,8 @@ pub fn make_pair(linked: &mut Linked, a: NodeId, b: NodeId)
     }
 }
 
-// The nearest node with which the node is a pair. Where there is none, that is noted; at most `left` gates are after the
-// node. Answers too on how many gates after it a note depends at most.
+// The nearest node with which the node is a pair. Where there is none, that is noted; at most `left` gates are after
+// the node. Answers too on how many gates after it a note depends at most.
 fn mate_or_note(
     linked: &mut Linked,
     node: NodeId,
@@ -177,8 +178,8 @@ pub struct Looked {
     pub far: usize,
 }
 
-/// Looks for the first pair, where the gates before the place `from` have notes. Then those before the pair have, or all.
-/// There are at most `most` gates.
+/// Looks for the first pair, where the gates before the place `from` have notes. Then those before the pair have, or
+/// all. There are at most `most` gates.
 pub fn first_pair(linked: &mut Linked, from: Cursor, far: usize, most: usize) -> Looked
     requires most { length linked.old.nodes ≤ most }
     requires cursor { IsCursor linked.old.nodes from.place from.before }
@@ -187,8 +188,10 @@ pub fn first_pair(linked: &mut Linked, from: Cursor, far: usize, most: usize) ->
     ensures frame { linked.new.frame ≡ linked.old.frame }
     ensures nodes { linked.new.nodes ≡ linked.old.nodes }
     ensures right { Noted linked.new.notes linked.old.nodes result.far }
-    ensures known { MatchOption result.pair (AllNoted linked.new.notes linked.old.nodes) (λ p. AllNoted linked.new.notes (take p.place linked.old.nodes)) }
-    ensures pair { MatchOption result.pair (pair_step (gates_in linked.old.nodes) ≡ None) (λ p. IsPairSpot linked.old.nodes p.place p.a p.b) }
+    ensures known { MatchOption result.pair (AllNoted linked.new.notes linked.old.nodes) (λ p.
+        AllNoted linked.new.notes (take p.place linked.old.nodes)) }
+    ensures pair { MatchOption result.pair (pair_step (gates_in linked.old.nodes) ≡ None) (λ p.
+        IsPairSpot linked.old.nodes p.place p.a p.b) }
 {
     linked.recall_invariant();
     let mut far = far;

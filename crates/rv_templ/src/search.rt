@@ -1,5 +1,6 @@
 //! The search for the window that is taken at a place.
-ghost use Rattle.std.specs.Prelude.{◌≡◌, ◌≢◌, ℕ, ◌+◌, ◌-◌, ◌*◌, ◌^◌, ◌<◌, ◌≤◌, Bool, true, false, not, ◌&&◌, ◌||◌, ◌==◌, List, [], ◌∷◌, ◌++◌, length, take, drop, IsTrue, IsFalse, IfSome, IfNone};
+ghost use Rattle.std.specs.Prelude.{◌≡◌, ◌≢◌, ℕ, ◌+◌, ◌-◌, ◌*◌, ◌^◌, ◌<◌, ◌≤◌, Bool, true, false, not, ◌&&◌, ◌||◌};
+ghost use Rattle.std.specs.Prelude.{◌==◌, List, [], ◌∷◌, ◌++◌, length, take, drop, IsTrue, IsFalse, IfSome, IfNone};
 ghost use Rattle.rv_templ.specs.declared.image.TheConstants.{TEMPLATE_GATES, TEMPLATE_LINES};
 ghost use Rattle.rv_gate.specs.declared.word.TheConstants.{MOST_LINES};
 ghost use Rattle.rv_gate.specs.Word.{has};
@@ -52,8 +53,11 @@ fn same_roles(window: &[Gate], template: &[Gate], r: usize, i: u8, v: u8) -> boo
     requires room { length window.now ≤ length template.now }
     requires old { i < TEMPLATE_LINES }
     requires new { v < MOST_LINES }
-    ensures differs { IsFalse result → (j : ℕ) × (j < length window.now) × (same_role (gate_in window.now j) v (gate_in (turned r template.now) j) i ≡ false) }
-    ensures roles { IsTrue result → (j : ℕ) → j < length window.now → same_role (gate_in window.now j) v (gate_in (turned r template.now) j) i ≡ true }
+    ensures differs { IsFalse result
+        → (j : ℕ) × (j < length window.now)
+        × (same_role (gate_in window.now j) v (gate_in (turned r template.now) j) i ≡ false) }
+    ensures roles { IsTrue result → (j : ℕ) → j < length window.now
+        → same_role (gate_in window.now j) v (gate_in (turned r template.now) j) i ≡ true }
 {
     for j in 0..window.len() {
         let gate = turned_gate(template, r, j);
@@ -180,8 +184,8 @@ fn explore(
     None
 }
 
-// Whether the targets of the window's gates are alike where those of the template's are, and not more lines vary. This is
-// only there to be quick.
+// Whether the targets of the window's gates are alike where those of the template's are, and not more lines vary. This
+// is only there to be quick.
 fn may_match(window: &[Gate], template: &[Gate], r: usize, vary: LineSet) -> bool
     requires template { IsTemplate template.now }
     requires turn { r < length template.now }
@@ -240,8 +244,8 @@ impl Found {
     }
 }
 
-// The window of a template with the least turn and renaming. A template that touches fewer lines than vary in the window
-// is passed over at once.
+// The window of a template with the least turn and renaming. A template that touches fewer lines than vary in the
+// window is passed over at once.
 fn at_template(window: &[Gate], templates: &[Vec<Gate>], t: usize, vary: LineSet) -> Option<Found>
     requires templates { AreTemplates (templates_in templates.now) }
     requires some { 0 < length window.now }
@@ -292,7 +296,8 @@ fn at_count(window: &[Gate], templates: &[Vec<Gate>]) -> Option<Found>
     requires templates { AreTemplates (templates_in templates.now) }
     requires some { 0 < length window.now }
     requires few { length window.now ≤ TEMPLATE_GATES }
-    ensures { result ≡ first (at_template window.now (templates_in templates.now)) 0 (length (templates_in templates.now)) }
+    ensures { result
+        ≡ first (at_template window.now (templates_in templates.now)) 0 (length (templates_in templates.now)) }
 {
     let vary = varied(window);
     for t in 0..templates.len() {
@@ -308,8 +313,14 @@ pub fn find_window(gates: &[Gate], templates: &[Vec<Gate>]) -> Option<Found>
     requires templates { AreTemplates (templates_in templates.now) }
     requires few { length gates.now ≤ TEMPLATE_GATES }
     ensures exact { result ≡ window_at gates.now (templates_in templates.now) }
-    ensures window { IfSome result (λ found. (n : ℕ) → n ≤ MOST_LINES → AreGates n gates.now → IsWindow gates.now (templates_in templates.now) found (care_found gates.now (templates_in templates.now) found) (want_found gates.now (templates_in templates.now) found)) }
-    ensures keeps { IfSome result (λ found. (n : ℕ) → n ≤ MOST_LINES → AreGates n gates.now → Improves n gates.now (after gates.now (templates_in templates.now) found)) }
+    ensures window { IfSome result (λ found.
+        (n : ℕ) → n ≤ MOST_LINES → AreGates n gates.now
+        → IsWindow gates.now (templates_in templates.now) found
+        (care_found gates.now (templates_in templates.now) found)
+        (want_found gates.now (templates_in templates.now) found)) }
+    ensures keeps { IfSome result (λ found.
+        (n : ℕ) → n ≤ MOST_LINES → AreGates n gates.now
+        → Improves n gates.now (after gates.now (templates_in templates.now) found)) }
     ensures none { IfNone result (NoWindow gates.now (templates_in templates.now)) }
 {
     search(gates, templates)

@@ -50,7 +50,8 @@ fn still_clean(linked: &Linked, clean: Cursor, here: &Cursor, most: usize) -> Cu
     back(linked, here, last)
 }
 
-// Makes the first pair, where all gates before it have notes. Answers what is known then, from what is known of windows.
+// Makes the first pair, where all gates before it have notes. Answers what is known then, from what is known of
+// windows.
 fn step_pair(linked: &mut Linked, pair: &Pair, clean: Cursor, far: usize, most: usize) -> Known
     requires spot { IsPairSpot linked.old.nodes pair.now.place pair.now.a pair.now.b }
     requires clean { IsCursor linked.old.nodes clean.place clean.before }
@@ -58,7 +59,9 @@ fn step_pair(linked: &mut Linked, pair: &Pair, clean: Cursor, far: usize, most: 
     requires known { AllNoted linked.old.notes (take pair.now.place linked.old.nodes) }
     ensures frame { linked.new.frame ≡ linked.old.frame }
     ensures step { pair_step (gates_in linked.old.nodes) ≡ Some (gates_in linked.new.nodes) }
-    ensures known { (library : List (List Shape)) → Short most library → Clean library (gates_in linked.old.nodes) clean.place → IsKnown library linked.new.nodes linked.new.notes result.clean result.due result.far }
+    ensures known { (library : List (List Shape)) → Short most library
+        → Clean library (gates_in linked.old.nodes) clean.place
+        → IsKnown library linked.new.nodes linked.new.notes result.clean result.due result.far }
 {
     linked.recall_invariant();
     let here = cursor_at(linked, pair.place, pair.a);
@@ -83,8 +86,10 @@ fn step_window(
     requires right { Noted linked.old.notes linked.old.nodes far }
     requires known { AllNoted linked.old.notes linked.old.nodes }
     ensures frame { linked.new.frame ≡ linked.old.frame }
-    ensures step { window_step (templates_in templates.now) (gates_in linked.old.nodes) ≡ Some (gates_in linked.new.nodes) }
-    ensures known { IsKnown (templates_in templates.now) linked.new.nodes linked.new.notes result.clean result.due result.far }
+    ensures step { window_step (templates_in templates.now) (gates_in linked.old.nodes)
+        ≡ Some (gates_in linked.new.nodes) }
+    ensures known { IsKnown (templates_in templates.now) linked.new.nodes linked.new.notes result.clean result.due
+        result.far }
 {
     linked.recall_invariant();
     let here = cursor_at(linked, spot.place, spot.node);
@@ -107,9 +112,12 @@ fn make_step(
     requires templates { AreTemplates (templates_in templates.now) }
     requires sizes { AreSizes sizes.most sizes.least sizes.wide (templates_in templates.now) }
     requires count { length linked.old.nodes ≤ count }
-    requires known { IsKnown (templates_in templates.now) linked.old.nodes linked.old.notes known.clean known.due known.far }
-    ensures stepped { IfSome result (λ next. step (templates_in templates.now) (gates_in linked.old.nodes) ≡ Some (gates_in linked.new.nodes)) }
-    ensures known { IfSome result (λ next. IsKnown (templates_in templates.now) linked.new.nodes linked.new.notes next.clean next.due next.far) }
+    requires known { IsKnown (templates_in templates.now) linked.old.nodes linked.old.notes known.clean known.due
+        known.far }
+    ensures stepped { IfSome result (λ next.
+        step (templates_in templates.now) (gates_in linked.old.nodes) ≡ Some (gates_in linked.new.nodes)) }
+    ensures known { IfSome result (λ next.
+        IsKnown (templates_in templates.now) linked.new.nodes linked.new.notes next.clean next.due next.far) }
     ensures settled { IfNone result (step (templates_in templates.now) (gates_in linked.old.nodes) ≡ None) }
     ensures kept { IfNone result (linked.new.nodes ≡ linked.old.nodes) }
     ensures frame { linked.new.frame ≡ linked.old.frame }

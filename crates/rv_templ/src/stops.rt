@@ -16,7 +16,8 @@ const MOST_ASKED: u32 = 16;
 fn next_to_ask(linked: &Linked, gate: Gate, node: NodeId, asked: u32) -> Option<NodeId>
     requires { IsTrue (live node linked.now.nodes) }
     ensures later { IfSome result (λ b. IsTrue (live b linked.now.nodes) × (node < b)) }
-    ensures free { (x : ℕ) → IsTrue (live x linked.now.nodes) → node < x → IsBefore x result → rule gate (node_gate x linked.now.nodes) ≡ true }
+    ensures free { (x : ℕ) → IsTrue (live x linked.now.nodes) → node < x → IsBefore x result
+        → rule gate (node_gate x linked.now.nodes) ≡ true }
 {
     linked.recall_invariant();
     if asked < MOST_ASKED {
@@ -51,7 +52,8 @@ pub fn stop_of(linked: &Linked, node: NodeId) -> Option<u32>
 /// Whether the gate commutes with all before a node.
 pub fn commutes_before(linked: &Linked, gate: Gate, b: NodeId) -> bool
     requires { IsTrue (live b linked.now.nodes) }
-    ensures { IsTrue result → (id : ℕ) → IsTrue (live id linked.now.nodes) → id < b → rule gate (node_gate id linked.now.nodes) ≡ true }
+    ensures { IsTrue result → (id : ℕ) → IsTrue (live id linked.now.nodes) → id < b
+        → rule gate (node_gate id linked.now.nodes) ≡ true }
 {
     linked.recall_invariant();
     if linked.commutes_with_all(gate) {

@@ -1,5 +1,6 @@
 //! Windows of linked gates.
-ghost use Rattle.std.specs.Prelude.{◌≡◌, ℕ, ◌+◌, ◌-◌, ◌*◌, ◌^◌, ◌<◌, ◌≤◌, List, [], ◌∷◌, ◌++◌, length, take, drop, IsTrue, IsFalse, Some, None, IfSome, MatchOption, count_ones};
+ghost use Rattle.std.specs.Prelude.{◌≡◌, ℕ, ◌+◌, ◌-◌, ◌*◌, ◌^◌, ◌<◌, ◌≤◌, List, [], ◌∷◌, ◌++◌, length, take, drop};
+ghost use Rattle.std.specs.Prelude.{IsTrue, IsFalse, Some, None, IfSome, MatchOption, count_ones};
 ghost use Rattle.rv_templ.specs.declared.image.TheConstants.{TEMPLATE_GATES, TEMPLATE_LINES};
 ghost use Rattle.rv_gate.specs.declared.word.TheConstants.{MOST_LINES};
 ghost use Rattle.rv_links.specs.Nodes.{live, gates_in};
@@ -54,11 +55,13 @@ fn copy_from(linked: &Linked, node: NodeId, room: &mut [Gate], most: usize) -> u
     most
 }
 
-// How many gates from a node on a window can have at most: a longer one has more lines that vary than a template touches.
+// How many gates from a node on a window can have at most: a longer one has more lines that vary than a template
+// touches.
 fn reach(linked: &Linked, node: NodeId, most: usize, wide: u32) -> usize
     requires live { IsTrue (live node linked.now.nodes) }
     ensures small { result ≤ most }
-    ensures beyond { (k : ℕ) → result < k → k ≤ most → k ≤ length (coming (Some node) linked.now.nodes) → wide < count_ones (varied (coming (Some node) linked.now.nodes) k) }
+    ensures beyond { (k : ℕ) → result < k → k ≤ most → k ≤ length (coming (Some node) linked.now.nodes)
+        → wide < count_ones (varied (coming (Some node) linked.now.nodes) k) }
 {
     linked.recall_invariant();
     let first = linked.gate(node);
@@ -106,7 +109,8 @@ pub fn first_window(
     requires sizes { AreSizes sizes.most sizes.least sizes.wide (templates_in templates.now) }
     requires cursor { IsCursor linked.now.nodes clean.place clean.before }
     requires clean { Clean (templates_in templates.now) (gates_in linked.now.nodes) clean.place }
-    ensures { MatchOption result (window_step (templates_in templates.now) (gates_in linked.now.nodes) ≡ None) (λ s. IsSpot (templates_in templates.now) linked.now.nodes s.place s.node s.found) }
+    ensures { MatchOption result (window_step (templates_in templates.now) (gates_in linked.now.nodes) ≡ None) (λ s.
+        IsSpot (templates_in templates.now) linked.now.nodes s.place s.node s.found) }
 {
     linked.recall_invariant();
     let mut place = clean.place;
@@ -124,11 +128,17 @@ pub fn first_window(
 // Writes the gates that stand in the place of the window that was found.
 fn fill_found(window: &[Gate], templates: &[Vec<Gate>], found: Found, room: &mut [Gate]) -> usize
     requires place { found.template < length templates.now }
-    requires window { Replaced window.now (template_in (templates_in templates.now) found.template) found.turn found.lines }
+    requires window { Replaced window.now (template_in (templates_in templates.now) found.template) found.turn
+        found.lines }
     requires lines { (i : ℕ) → i < TEMPLATE_LINES → new_line found.lines i < MOST_LINES }
     requires full { TEMPLATE_GATES ≤ length room.old }
-    ensures count { result ≡ length (replacement window.now (turned found.turn (template_in (templates_in templates.now) found.template)) found.lines) }
-    ensures gates { take result room.new ≡ replacement window.now (turned found.turn (template_in (templates_in templates.now) found.template)) found.lines }
+    ensures count { result
+        ≡ length
+        (replacement window.now (turned found.turn (template_in (templates_in templates.now) found.template))
+        found.lines) }
+    ensures gates { take result room.new
+        ≡ replacement window.now (turned found.turn (template_in (templates_in templates.now) found.template))
+        found.lines }
 {
     let template = templates[found.template].as_slice();
     fill(window, template, found.turn, found.lines, room)
@@ -139,10 +149,14 @@ pub fn replace(linked: &mut Linked, spot: Spot, templates: &[Vec<Gate>])
     requires templates { AreTemplates (templates_in templates.now) }
     requires spot { IsSpot (templates_in templates.now) linked.old.nodes spot.place spot.node spot.found }
     ensures frame { linked.new.frame ≡ linked.old.frame }
-    ensures gates { gates_in linked.new.nodes ≡ take spot.place (gates_in linked.old.nodes) ++ after (drop spot.place (gates_in linked.old.nodes)) (templates_in templates.now) spot.found }
+    ensures gates { gates_in linked.new.nodes
+        ≡ take spot.place (gates_in linked.old.nodes)
+        ++ after (drop spot.place (gates_in linked.old.nodes)) (templates_in templates.now) spot.found }
     ensures front { take spot.place linked.new.nodes ≡ take spot.place linked.old.nodes }
     ensures notes { linked.new.notes ≡ linked.old.notes }
-    ensures right { (far : ℕ) → NoneNoted linked.old.notes (take spot.found.count (drop spot.place linked.old.nodes)) → Noted linked.old.notes (drop spot.place linked.old.nodes) far → Noted linked.old.notes (drop spot.place linked.new.nodes) far }
+    ensures right { (far : ℕ) → NoneNoted linked.old.notes (take spot.found.count (drop spot.place linked.old.nodes))
+        → Noted linked.old.notes (drop spot.place linked.old.nodes) far
+        → Noted linked.old.notes (drop spot.place linked.new.nodes) far }
 {
     linked.recall_invariant();
     let first = linked.gate(spot.node);

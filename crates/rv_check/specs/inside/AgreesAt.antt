@@ -9,4 +9,5 @@ use Rattle.rv_check.specs.Check.{agrees, large_at}
 -- no coefficient is beyond the limit, and the amplitudes are those of the circuit or not
 abbrev pub AgreesAt : List Shape → Network → ℕ → Bool → Type 0
 AgreesAt gates net number agreed =
-    (large_at net number ≡ None) × (agreed ≡ agrees net.ops (word_of net.lines number) (run gates (word_of net.lines number)))
+    (large_at net number ≡ None)
+    × (agreed ≡ agrees net.ops (word_of net.lines number) (run gates (word_of net.lines number)))

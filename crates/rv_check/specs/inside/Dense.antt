@@ -82,7 +82,8 @@ pub record ShowsAt (ops : List Op) (x : List Bool) (place : ℕ) (values : List 
   pub shows : Shows (length x) values exponent kept
 
 -- the same, where it may still be divided
-pub record ShowsOverAt (ops : List Op) (x : List Bool) (place : ℕ) (values : List Cyclotomic) (exponent : ℕ) : Type 0 where
+pub record ShowsOverAt (ops : List Op) (x : List Bool) (place : ℕ) (values : List Cyclotomic)
+    (exponent : ℕ) : Type 0 where
   pub kept : Kept
   pub stands : StandsOver (take place ops) x kept
   pub shows : Shows (length x) values exponent kept

@@ -17,7 +17,8 @@ is_image image m = same_word m.word image && are_same m.value unity
 
 -- the vector is the image alone
 unfoldable pub is_only : List Bool → List Member → Bool
-is_only image members = list_all (λ m. not (is_present m) || is_image image m) members && list_any (is_image image) members
+is_only image members =
+    list_all (λ m. not (is_present m) || is_image image m) members && list_any (is_image image) members
 
 -- a coefficient beyond the limit comes first
 abbrev pub answer : Option ℕ → Bool → Followed

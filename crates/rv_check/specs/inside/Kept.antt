@@ -1,4 +1,5 @@
--- The vector that the code keeps, in lowest terms: the words that it has, each with a coefficient, and its least denominator exponent.
+-- The vector that the code keeps, in lowest terms: the words that it has, each with a coefficient, and its least
+-- denominator exponent.
 use Rattle.std.specs.Prelude.{◌≡◌, ℕ, zero, suc, Bool, true, false, not, List, [], ◌∷◌, map, if◌then◌else◌, slice_set, take}
 use Rattle.std.specs.List.{list_all, list_any, fold, filter}
 use Rattle.rv_gate.specs.Word.{bit_of}

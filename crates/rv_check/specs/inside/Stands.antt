@@ -1,5 +1,5 @@
--- What binds the kept vector and the whole one after each operation: the whole one is the kept one times the root of two,
--- so many times, and the kept one can't be divided further.
+-- What binds the kept vector and the whole one after each operation: the whole one is the kept one times the root of
+-- two, so many times, and the kept one can't be divided further.
 use Rattle.std.specs.Prelude.{◌≡◌, ◌≢◌, ◌+◌, ◌⊎◌, ℕ, zero, suc, Bool, false, List, [], ◌∷◌, All, length, if◌then◌else◌}
 use Rattle.std.specs.List.{list_all}
 use Rattle.rv_net.specs.Amplitude.{amplitude, count_h, same_word}

@@ -22,5 +22,6 @@ one_less count = if count == 1 then 0 else count
 -- where 0 is counted no inputs lead to a slot, and where 1 is no two do
 pub record IsFiltered (counts : List ℕ) (find : ℕ × ℕ → Option ℕ) : Type 0 where
   pub none : (key : ℕ × ℕ) → count_at counts (filter_place key) ≡ 0 → find key ≡ None
-  pub one : (key other : ℕ × ℕ) (i j : ℕ) → filter_place key ≡ filter_place other → count_at counts (filter_place key) ≡ 1
+  pub one : (key other : ℕ × ℕ) (i j : ℕ) → filter_place key ≡ filter_place other
+      → count_at counts (filter_place key) ≡ 1
       → find key ≡ Some i → find other ≡ Some j → key ≡ other

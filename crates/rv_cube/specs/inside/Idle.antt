@@ -10,7 +10,8 @@ use Rattle.rv_cube.specs.ReductionFor.{is_idle}
 
 -- the set of the outputs that are free at a word, and these sets by the numbers of the words
 abbrev pub free_at : TwoLevel → ℕ → ℕ
-free_at pla x = ones_of (map (λ output. is_dont_care (entry pla (word_of pla.inputs x) output)) (range_with_len 0 pla.outputs))
+free_at pla x =
+    ones_of (map (λ output. is_dont_care (entry pla (word_of pla.inputs x) output)) (range_with_len 0 pla.outputs))
 
 abbrev pub free_sets : TwoLevel → List ℕ
 free_sets pla = map (free_at pla) (range_with_len 0 (2 ^ pla.inputs))

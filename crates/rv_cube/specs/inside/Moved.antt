@@ -22,7 +22,8 @@ moved_as cube from to =
 
 -- the slot has the inputs of the cube, changed as `from` differs from `one` or from `other`
 abbrev pub IsMovedEither : List Cube → Cube → Cube → Cube → Cube → ℕ → Type 0
-IsMovedEither slots cube from one other b = IsAlike slots (moved_as cube from one) b ⊎ IsAlike slots (moved_as cube from other) b
+IsMovedEither slots cube from one other b =
+    IsAlike slots (moved_as cube from one) b ⊎ IsAlike slots (moved_as cube from other) b
 
 -- the cube with its symbol at an input turned so often
 abbrev pub turned_by : Cube → ℕ → Turns → Cube

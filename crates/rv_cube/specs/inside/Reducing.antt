@@ -19,13 +19,15 @@ pub record ExorlinksWith (n : ℕ) (slots : List Cube) (a : ℕ) (step : Step) (
 
 -- the first exorlink of slot a, or none
 abbrev pub ExorlinksFirst : ℕ → List Cube → ℕ → Option Step → Type 0
-ExorlinksFirst n slots a found = MatchOption found (ExorlinksNone n slots a) (λ step. (b : ℕ) × ExorlinksWith n slots a step b)
+ExorlinksFirst n slots a found =
+    MatchOption found (ExorlinksNone n slots a) (λ step. (b : ℕ) × ExorlinksWith n slots a step b)
 
 -- the step that is the first of the list
 abbrev pub IsNext : ℕ → List Cube → Step → Type 0
 IsNext n slots (Merge a b) = IsFirstMerge n slots a b
 IsNext n slots (Exorlink a b f s place partner) =
-    ((i : ℕ) → MergesNone n slots i) × ((i : ℕ) × (j : ℕ) × IsFirstExorlink n slots i j (Exorlink a b f s place partner))
+    ((i : ℕ) → MergesNone n slots i)
+    × ((i : ℕ) × (j : ℕ) × IsFirstExorlink n slots i j (Exorlink a b f s place partner))
 
 -- what a list keeps while it is reduced
 pub record IsReduction (n : ℕ) (slots : List Cube) (merging exorlinking : List Bool) : Type 0 where

@@ -42,12 +42,14 @@ is_alike x y = key_eq (key_of x) (key_of y)
 
 -- no two full slots have the same inputs
 abbrev pub IsKeyed : List Cube → Type 0
-IsKeyed slots = (i j : ℕ) → full slots i ≡ true → full slots j ≡ true → is_alike (at slots i) (at slots j) ≡ true → i ≡ j
+IsKeyed slots =
+    (i j : ℕ) → full slots i ≡ true → full slots j ≡ true → is_alike (at slots i) (at slots j) ≡ true → i ≡ j
 
 -- the first of m slots from k on that is full and has the inputs of the cube
 unfoldable pub slot_from : List Cube → Cube → ℕ → ℕ → Option ℕ
 slot_from slots cube k zero = None
-slot_from slots cube k (suc m) = if full slots k && is_alike (at slots k) cube then Some k else slot_from slots cube (k + 1) m
+slot_from slots cube k (suc m) =
+    if full slots k && is_alike (at slots k) cube then Some k else slot_from slots cube (k + 1) m
 
 abbrev pub slot_of : List Cube → Cube → Option ℕ
 slot_of slots cube = slot_from slots cube 0 (length slots)
@@ -77,7 +79,8 @@ moved n slots (Exorlink a b f s place partner) = merged_in_any n (slice_set (sli
 -- the step on the list
 abbrev pub ranked : List Cube → Step → Step
 ranked slots (Merge a b) = Merge (list_place slots a) (list_place slots b)
-ranked slots (Exorlink a b f s place partner) = Exorlink (list_place slots a) (list_place slots b) f s (list_place slots place) (list_place slots partner)
+ranked slots (Exorlink a b f s place partner) =
+    Exorlink (list_place slots a) (list_place slots b) f s (list_place slots place) (list_place slots partner)
 
 -- a cube put into slot i; where a full slot has its inputs, the two become one
 abbrev pub settled_by : Option ℕ → ℕ → List Cube → ℕ → Cube → List Cube
@@ -118,11 +121,13 @@ exorlink_in_by _ n slots a b = None
 
 abbrev pub exorlink_in : ℕ → List Cube → ℕ → ℕ → Option Step
 exorlink_in n slots a b =
-    if (at slots a).outs == (at slots b).outs then exorlink_in_by (differing n (at slots a) (at slots b)) n slots a b else None
+    if (at slots a).outs == (at slots b).outs then exorlink_in_by (differing n (at slots a) (at slots b)) n slots a b
+    else None
 
 -- no later slot becomes one with slot a by its outputs
 abbrev pub MergesNone : ℕ → List Cube → ℕ → Type 0
-MergesNone n slots a = (b : ℕ) → a < b → full slots a ≡ true → full slots b ≡ true → are_adjacent n (at slots a) (at slots b) ≡ false
+MergesNone n slots a =
+    (b : ℕ) → a < b → full slots a ≡ true → full slots b ≡ true → are_adjacent n (at slots a) (at slots b) ≡ false
 
 -- slot a makes an exorlink with no later slot
 abbrev pub ExorlinksNone : ℕ → List Cube → ℕ → Type 0

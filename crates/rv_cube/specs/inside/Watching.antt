@@ -45,7 +45,8 @@ abbrev pub IsThirdBy : List ℕ → ℕ → List Cube → ℕ → ℕ → ℕ �
 IsThirdBy (p ∷ []) n slots k e row = IsLinkFrom slots e p n row
 IsThirdBy (p ∷ q ∷ []) n slots k e row =
     ((at slots k).outs ≡ (at slots e).outs)
-    × (IsLinkAcross slots e (with_third (at slots e) (at slots k) p) n row ⊎ IsLinkAcross slots e (with_third (at slots e) (at slots k) q) n row)
+    × (IsLinkAcross slots e (with_third (at slots e) (at slots k) p) n row
+    ⊎ IsLinkAcross slots e (with_third (at slots e) (at slots k) q) n row)
 IsThirdBy _ n slots k e row = ⊥
 
 abbrev pub IsThird : ℕ → List Cube → ℕ → ℕ → ℕ → Type 0
@@ -65,7 +66,8 @@ IsMerging n slots cube row = (k : ℕ) × (slot_of slots cube ≡ Some k) × IsL
 
 -- which may bring an exorlink to a listed slot
 abbrev pub IsExorlinking : ℕ → List Cube → Cube → List ℕ → ℕ → Type 0
-IsExorlinking n slots cube near row = (k : ℕ) × (slot_of slots cube ≡ Some k) × IsListed n slots k near (length near) row
+IsExorlinking n slots cube near row =
+    (k : ℕ) × (slot_of slots cube ≡ Some k) × IsListed n slots k near (length near) row
 
 -- ---- the slots near a cube
 

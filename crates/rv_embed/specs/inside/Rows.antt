@@ -20,7 +20,8 @@ is_set e = not (is_dont_care e)
 
 -- the outputs whose entries aren't free, those that are 1, and those that are free
 abbrev pub entries_row : (ℕ → Entry) → ℕ → Row
-entries_row entries n = record { care = bits_by is_set entries n; want = bits_by bit_for entries n; free = bits_by is_dont_care entries n }
+entries_row entries n =
+    record { care = bits_by is_set entries n; want = bits_by bit_for entries n; free = bits_by is_dont_care entries n }
 
 -- the row is that of some entries
 abbrev pub IsRow : ℕ → Row → Type 0

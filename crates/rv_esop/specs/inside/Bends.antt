@@ -12,7 +12,8 @@ bend from to = Flip (2 ^ from) (2 ^ from) to
 -- a list gives to a word so bent what another gives to the word
 abbrev pub GivesBent : ℕ → ℕ → Esop → Esop → Type 0
 GivesBent from to old new =
-    (word : List Bool) → length word ≡ old.inputs → esop_value new.cubes (act (bend from to) word) ≡ esop_value old.cubes word
+    (word : List Bool) → length word ≡ old.inputs
+    → esop_value new.cubes (act (bend from to) word) ≡ esop_value old.cubes word
 
 -- such a list on as many inputs and outputs
 pub record IsBend (old : Esop) (from to : ℕ) (new : Esop) : Type 0 where

@@ -22,4 +22,5 @@ pub record InBlocks (small middle large : List LineUse) (x : ℕ) (g : Shape) : 
 
 -- those of each number of an order have the lines of its gate
 abbrev pub IsCovered : List LineUse → List LineUse → List LineUse → List Shape → List ℕ → Type 0
-IsCovered small middle large gates ids = (x : ℕ) → IsTrue (lists x ids) → InBlocks small middle large x (gate_at gates x)
+IsCovered small middle large gates ids =
+    (x : ℕ) → IsTrue (lists x ids) → InBlocks small middle large x (gate_at gates x)

@@ -10,7 +10,9 @@ use Rattle.rv_links.specs.inside.Chains.{gate_at}
 
 unfoldable pub mixed : ℕ → ℕ → ℕ → ℕ
 mixed care want lines =
-    let sum = bit_xor (bit_xor ((care * 11400714819323198485) % 2 ^ 64) ((want * 14029467366897019727) % 2 ^ 64)) ((lines * 1609587929392839161) % 2 ^ 64) in
+    let sum =
+    bit_xor (bit_xor ((care * 11400714819323198485) % 2 ^ 64) ((want * 14029467366897019727) % 2 ^ 64))
+    ((lines * 1609587929392839161) % 2 ^ 64) in
     (bit_xor sum (sum / 2 ^ 32) * 15474767899986725843) % 2 ^ 64
 
 abbrev pub hash_of : Shape → ℕ
@@ -26,7 +28,8 @@ asked slots gate i = slice_index_or slots (slot_of (hash_of gate) i (length slot
 
 -- where a slot is empty that is asked for the gate, the number has one that is asked before
 abbrev pub Kept : List ℕ → Shape → ℕ → Type 0
-Kept slots gate id = (i : ℕ) → i < MOST_ASKED → asked slots gate i ≡ 0 → (j : ℕ) × (j < i) × (asked slots gate j ≡ id + 1)
+Kept slots gate id =
+    (i : ℕ) → i < MOST_ASKED → asked slots gate i ≡ 0 → (j : ℕ) × (j < i) × (asked slots gate j ≡ id + 1)
 
 -- each number is kept for its gate
 abbrev pub IsIndexed : List ℕ → List Shape → List ℕ → Type 0

@@ -35,7 +35,8 @@ IsSwap n p = p + 1 < n
 abbrev pub shifted : ℕ → ℕ → ℕ → ℕ
 shifted from to p =
     if p == from then to
-    else (if nat_lt from p && not (nat_lt to p) then p - 1 else (if not (nat_lt p to) && nat_lt p from then p + 1 else p))
+    else (if nat_lt from p && not (nat_lt to p) then p - 1
+    else (if not (nat_lt p to) && nat_lt p from then p + 1 else p))
 
 -- the swaps of a move: up or down, and one of these lists is empty
 abbrev pub swaps_of : ℕ → ℕ → List ℕ

@@ -1,4 +1,5 @@
--- How the lines of words that end in a piece are answered: which answers were given to a writer, which words wait, and which line is wrong.
+-- How the lines of words that end in a piece are answered: which answers were given to a writer, which words wait, and
+-- which line is wrong.
 use Rattle.std.specs.Prelude.{◌≡◌, ℕ, ◌+◌, Bool, List, [], ◌∷◌, ◌++◌, length, Option, Some, None, Result, Ok, Err, IfErr, OnOk}
 use Rattle.std.specs.List.{flat_map}
 use Rattle.rv_gate.specs.Circuit.{Cascade}
@@ -30,7 +31,8 @@ abbrev pub answers_to_words : Cascade → Bool → List (List Bool) → List ℕ
 answers_to_words c all words = flat_map (λ word. answer_text c all (run c.gates word)) words
 
 -- Of the answers, some were given to a writer, and the others are held back.
-pub record ArePartGiven (answers : List ℕ) (old : Writer) (before : SinkView) (held : List ℕ) (new : Writer) (now : SinkView) : Type 0 where
+pub record ArePartGiven (answers : List ℕ) (old : Writer) (before : SinkView) (held : List ℕ) (new : Writer)
+    (now : SinkView) : Type 0 where
   pub given : List ℕ
   pub adds : Adds old before given new now
   pub parts : answers ≡ given ++ held
@@ -39,11 +41,15 @@ pub record ArePartGiven (answers : List ℕ) (old : Writer) (before : SinkView) 
 abbrev pub AreGiven : Cascade → Bool → List ℕ → Writer → SinkView → List (List Bool) → Writer → SinkView → Type 0
 AreGiven c all answers old before words new now = ArePartGiven answers old before (answers_to_words c all words) new now
 
--- A line that is at its end was answered: its answer was given to a writer or its word waits, if it has them. Of a wrong line nothing is given.
-pub record EndsLine (c : Cascade) (all : Bool) (line : WordLine) (before : List (List Bool)) (old : Writer) (from : SinkView) (found : Result (Unit {0}) ℕ) (words : List (List Bool)) (new : Writer) (to : SinkView) : Type 0 where
+-- A line that is at its end was answered: its answer was given to a writer or its word waits, if it has them. Of a
+-- wrong line nothing is given.
+pub record EndsLine (c : Cascade) (all : Bool) (line : WordLine) (before : List (List Bool)) (old : Writer)
+    (from : SinkView) (found : Result (Unit {0}) ℕ) (words : List (List Bool)) (new : Writer)
+    (to : SinkView) : Type 0 where
   pub answer : List ℕ
   pub right : OnOk found (answer_to_bits c all (bits_in line) ≡ Some answer)
-  pub wrong : IfErr found (λ number. (number ≡ line.number) × (answer_to_bits c all (bits_in line) ≡ None) × (answer ≡ []))
+  pub wrong : IfErr found (λ number.
+      (number ≡ line.number) × (answer_to_bits c all (bits_in line) ≡ None) × (answer ≡ []))
   pub given : AreGiven c all (answers_to_words c all before ++ answer) old from words new to
 
 -- the number of a wrong line, if one was found
@@ -51,8 +57,10 @@ abbrev pub wrong_in : Result (Unit {0}) ℕ → Option ℕ
 wrong_in (Ok _) = None
 wrong_in (Err line) = Some line
 
--- the lines that end in a piece, after bytes of a line that was begun: the first wrong one, the answers before it, and what is begun after the piece
-pub record HasLines (answer : Answering) (first : WordLine) (begun piece : List ℕ) (found : Result (Unit {0}) ℕ) (answers : List ℕ) (last : WordLine) : Type 0 where
+-- the lines that end in a piece, after bytes of a line that was begun: the first wrong one, the answers before it, and
+-- what is begun after the piece
+pub record HasLines (answer : Answering) (first : WordLine) (begun piece : List ℕ) (found : Result (Unit {0}) ℕ)
+    (answers : List ℕ) (last : WordLine) : Type 0 where
   pub wrong : wrong_line answer first.number (ended_after begun piece) ≡ wrong_in found
   pub asked : answers ≡ answers_to answer (ended_after begun piece)
   pub stands : OnOk found (StandsForLine last (begun_after begun piece))
@@ -60,16 +68,20 @@ pub record HasLines (answer : Answering) (first : WordLine) (begun piece : List 
 
 -- the same, whatever the bytes are that the first state of the line stands for
 abbrev pub AnswersLines : Answering → WordLine → List ℕ → Result (Unit {0}) ℕ → List ℕ → WordLine → Type 0
-AnswersLines answer first piece found answers last = (begun : List ℕ) → StandsForLine first begun → HasLines answer first begun piece found answers last
+AnswersLines answer first piece found answers last =
+    (begun : List ℕ) → StandsForLine first begun → HasLines answer first begun piece found answers last
 
 -- the lines that end in a piece were answered, but for words that wait
-pub record Collects (c : Cascade) (all : Bool) (piece : List ℕ) (first : WordLine) (old : Writer) (before : SinkView) (found : Result (Unit {0}) ℕ) (last : WordLine) (words : List (List Bool)) (new : Writer) (now : SinkView) : Type 0 where
+pub record Collects (c : Cascade) (all : Bool) (piece : List ℕ) (first : WordLine) (old : Writer) (before : SinkView)
+    (found : Result (Unit {0}) ℕ) (last : WordLine) (words : List (List Bool)) (new : Writer)
+    (now : SinkView) : Type 0 where
   pub answers : List ℕ
   pub given : AreGiven c all answers old before words new now
   pub lines : AnswersLines (answer_to c all) first piece found answers last
 
 -- their answers were given to a writer
-pub record GivesLines (answer : Answering) (piece : List ℕ) (first : WordLine) (old : Writer) (before : SinkView) (found : Result (Unit {0}) ℕ) (last : WordLine) (new : Writer) (now : SinkView) : Type 0 where
+pub record GivesLines (answer : Answering) (piece : List ℕ) (first : WordLine) (old : Writer) (before : SinkView)
+    (found : Result (Unit {0}) ℕ) (last : WordLine) (new : Writer) (now : SinkView) : Type 0 where
   pub answers : List ℕ
   pub adds : Adds old before answers new now
   pub lines : AnswersLines answer first piece found answers last
@@ -87,7 +99,8 @@ IsStop (Err (stops.Wrong line)) found = found ≡ Err line
 IsStop (Err stops.Write) found = Unit {0}
 
 -- their answers were sent
-pub record AnswersPiece (answer : Answering) (piece : List ℕ) (first : WordLine) (old : SinkView) (result : Result (Unit {0}) Stop) (last : WordLine) (new : SinkView) : Type 0 where
+pub record AnswersPiece (answer : Answering) (piece : List ℕ) (first : WordLine) (old : SinkView)
+    (result : Result (Unit {0}) Stop) (last : WordLine) (new : SinkView) : Type 0 where
   pub answers : List ℕ
   pub found : Result (Unit {0}) ℕ
   pub lines : AnswersLines answer first piece found answers last
@@ -101,7 +114,8 @@ end_after (Err (stops.Wrong line)) = end.Wrong line
 end_after (Err stops.Write) = end.Write
 
 -- the last line of a text was answered as if a line feed ended it
-pub record AnswersLast (answer : Answering) (first : WordLine) (old : SinkView) (result : WordsEnd) (new : SinkView) : Type 0 where
+pub record AnswersLast (answer : Answering) (first : WordLine) (old : SinkView) (result : WordsEnd)
+    (new : SinkView) : Type 0 where
   pub stopped : Result (Unit {0}) Stop
   pub last : WordLine
   pub piece : AnswersPiece answer (line_feed ∷ []) first old stopped last new

@@ -20,7 +20,8 @@ abbrev pub unread : ℕ → WordLine
 unread number = record { number = number; bits = []; in_comment = false; is_wrong = false }
 
 abbrev pub with_bit : WordLine → Bool → WordLine
-with_bit s bit = if nat_lt (length s.bits) MOST_LINES then record s { bits = s.bits ++ bit ∷ [] } else record s { is_wrong = true }
+with_bit s bit =
+    if nat_lt (length s.bits) MOST_LINES then record s { bits = s.bits ++ bit ∷ [] } else record s { is_wrong = true }
 
 -- the line with one more byte, no line feed
 abbrev pub after_byte : WordLine → ℕ → WordLine

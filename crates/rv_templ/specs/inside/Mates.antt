@@ -28,7 +28,8 @@ pub record Mate (nodes : List Node) (a b : ℕ) : Type 0 where
   pub is_second : second.id ≡ b
   pub gates : List Shape
   pub join : paired first.gate second.gate ≡ Some gates
-  pub step : partner first.gate (gates_in (between ++ (second ∷ after))) ≡ Some (gates_in between ++ (gates ++ gates_in after))
+  pub step : partner first.gate (gates_in (between ++ (second ∷ after)))
+      ≡ Some (gates_in between ++ (gates ++ gates_in after))
 
 -- a gate makes no pair with any of these
 abbrev pub Joinless : Shape → List Shape → Type 0

@@ -14,7 +14,8 @@ use Rattle.rv_templ.specs.inside.Mates.{Mate, Joinless}
 abbrev pub Quiet : ℕ → Shape → List Node → ℕ → Type 0
 Quiet note g [] far = note ≡ 1
 Quiet note g (n ∷ rest) zero = ⊥
-Quiet note g (n ∷ rest) (suc far) = (paired g n.gate ≡ None) × (((note ≡ n.id + 2) × (rule g n.gate ≡ false)) ⊎ Quiet note g rest far)
+Quiet note g (n ∷ rest) (suc far) =
+    (paired g n.gate ≡ None) × (((note ≡ n.id + 2) × (rule g n.gate ≡ false)) ⊎ Quiet note g rest far)
 
 -- each note is right; 0 says nothing
 abbrev pub Noted : List ℕ → List Node → ℕ → Type 0
@@ -51,7 +52,8 @@ Apart notes gates (n ∷ rest) = ((noted n.id notes ≡ 0) ⊎ Joinless n.gate g
 abbrev pub Kept : List ℕ → Node → Node → List Shape → List Node → Type 0
 Kept notes first second gates [] = Unit {0}
 Kept notes first second gates (n ∷ rest) =
-    ((noted n.id notes ≡ 0) ⊎ (Unnamed (noted n.id notes) n.gate first × Unnamed (noted n.id notes) n.gate second × Joinless n.gate gates))
+    ((noted n.id notes ≡ 0)
+    ⊎ (Unnamed (noted n.id notes) n.gate first × Unnamed (noted n.id notes) n.gate second × Joinless n.gate gates))
     × Kept notes first second gates rest
 
 abbrev pub node_of : ℕ → Shape → Node
@@ -62,7 +64,8 @@ abbrev pub coupled : (nodes : List Node) (a b : ℕ) → Mate nodes a b → List
 coupled nodes a b m = m.before ++ (m.between ++ (map (node_of b) m.gates ++ m.after))
 
 -- what is known of a list of nodes
-pub record IsKnown (library : List (List Shape)) (nodes : List Node) (notes : List ℕ) (clean due : Cursor) (far : ℕ) : Type 0 where
+pub record IsKnown (library : List (List Shape)) (nodes : List Node) (notes : List ℕ) (clean due : Cursor)
+    (far : ℕ) : Type 0 where
   pub windows : Clean library (gates_in nodes) clean.place
   pub clean_at : IsCursor nodes clean.place clean.before
   pub right : Noted notes nodes far

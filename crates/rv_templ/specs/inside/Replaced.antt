@@ -21,10 +21,12 @@ pub record Replaced (window t : List Shape) (r : ℕ) (to : List ℕ) : Type 0 w
 
 -- the controls of the window's first gate on lines that are none of the renamed ones
 abbrev pub care_found : List Shape → List (List Shape) → Found → ℕ
-care_found gates library found = fresh_care (take found.count gates) (span (template_in library found.template)) found.lines
+care_found gates library found =
+    fresh_care (take found.count gates) (span (template_in library found.template)) found.lines
 
 abbrev pub want_found : List Shape → List (List Shape) → Found → ℕ
-want_found gates library found = fresh_want (take found.count gates) (span (template_in library found.template)) found.lines
+want_found gates library found =
+    fresh_want (take found.count gates) (span (template_in library found.template)) found.lines
 
 -- what a replacement keeps
 pub record Improves (n : ℕ) (gates new : List Shape) : Type 0 where
