@@ -47,3 +47,6 @@ complete -c rev -n '__fish_seen_subcommand_from esop' -l seed -x -d 'other rando
 complete -c rev -n '__fish_seen_subcommand_from resynth' -l seed -x -d 'other random numbers for the search, 0 to 65535'
 complete -c rev -n '__fish_seen_subcommand_from demo' -f
 # <<<
+complete -c rev -n "not __fish_seen_subcommand_from $commands" -a help -d 'what the commands take and write'
+complete -c rev -n "not __fish_seen_subcommand_from $commands" -s h -l help -d 'what the commands take and write'
+complete -c rev -n "not __fish_seen_subcommand_from $commands" -l version -d 'which build this is'
