@@ -1,3 +1,4 @@
 pub mod NamesView
 pub mod CircuitView
 pub mod WordLaws
+pub mod GateView

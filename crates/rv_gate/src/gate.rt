@@ -37,24 +37,50 @@ pub enum Shape {
     },
 }
 
+// A shape as a gate holds it: fields lie in the order in which they stand here, so that it takes 24 bytes.
+#[derive(Clone, Copy, Debug, PartialEq, Eq)]
+enum Held {
+    Flip {
+        target: u8,
+        care: LineSet,
+        want: LineSet,
+    },
+    Swap {
+        a: u8,
+        b: u8,
+        care: LineSet,
+        want: LineSet,
+    },
+    Peres {
+        a: u8,
+        b: u8,
+        c: u8,
+    },
+}
+
+const _: () = prove!(size_of::<Gate>() == 24);
+
 /// A gate: a shape whose lines are below [`MOST_LINES`], whose targets differ from each other and from
 /// the controls, and which wants no line that is no control.
 #[derive(Clone, Copy, Debug, PartialEq, Eq)]
 pub struct Gate {
-    shape: Shape,
+    held: Held,
 }
 
 impl Model for Gate {
     ghost use Rattle.rv_gate.specs.declared.gate.Shape.{Shape as AnyShape};
     ghost use Rattle.rv_gate.specs.Gate.{IsGate};
+    ghost use Rattle.rv_gate.specs.inside.GateView.{held_of, shape_of, held_again};
 
     ghost Value = { AnyShape };
 
-    ghost view = { λ g. g.shape };
+    ghost view = { λ g. shape_of g.held };
 
-    ghost invariant = { λ g. IsGate g.shape };
+    ghost invariant = { λ g. IsGate (shape_of g.held) };
 
-    ghost inverse = { λ s. record { shape = s } };
+    ghost inverse = { λ s. record { held = held_of s } };
+
+    ghost inverse_ok = { λ a h i. record { held = held_again a.held i } };
 }
 
 impl Gate {
@@ -75,7 +101,7 @@ impl Gate {
             return None;
         }
         Some(Gate {
-            shape: Shape::Flip { care, want, target },
+            held: Held::Flip { target, care, want },
         })
     }
 
@@ -96,7 +122,7 @@ impl Gate {
             return None;
         }
         Some(Gate {
-            shape: Shape::Swap { care, want, a, b },
+            held: Held::Swap { a, b, care, want },
         })
     }
 
@@ -113,7 +139,7 @@ impl Gate {
             return None;
         }
         Some(Gate {
-            shape: Shape::Peres { a, b, c },
+            held: Held::Peres { a, b, c },
         })
     }
 
@@ -124,10 +150,10 @@ impl Gate {
         ensures { result ≡ flip_under care target }
     {
         Gate {
-            shape: Shape::Flip {
+            held: Held::Flip {
+                target,
                 care,
                 want: care,
-                target,
             },
         }
     }
@@ -137,21 +163,25 @@ impl Gate {
         ensures value { result ≡ self }
         ensures valid { IsGate self }
     {
-        self.shape
+        match self.held {
+            Held::Flip { target, care, want } => Shape::Flip { care, want, target },
+            Held::Swap { a, b, care, want } => Shape::Swap { care, want, a, b },
+            Held::Peres { a, b, c } => Shape::Peres { a, b, c },
+        }
     }
 
     /// For proofs: recalls what every gate keeps. Does nothing when it runs.
     pub fn recall_invariant(self)
         ensures { IsGate self }
     {
-        let _ = self.shape;
+        let _ = self.held;
     }
 
     /// The controls.
     pub fn controls(self) -> LineSet
         ensures { result ≡ controls self }
     {
-        match self.shape {
+        match self.shape() {
             Shape::Flip { care, .. } | Shape::Swap { care, .. } => care,
             Shape::Peres { a, .. } => 1 << a,
         }
@@ -161,7 +191,7 @@ impl Gate {
     pub fn wanted(self) -> LineSet
         ensures { result ≡ wanted self }
     {
-        match self.shape {
+        match self.shape() {
             Shape::Flip { want, .. } | Shape::Swap { want, .. } => want,
             Shape::Peres { a, .. } => 1 << a,
         }
@@ -171,7 +201,7 @@ impl Gate {
     pub fn targets(self) -> LineSet
         ensures { result ≡ targets self }
     {
-        match self.shape {
+        match self.shape() {
             Shape::Flip { target, .. } => 1 << target,
             Shape::Swap { a, b, .. } => 1 << a | 1 << b,
             Shape::Peres { b, c, .. } => 1 << b | 1 << c,
@@ -182,7 +212,7 @@ impl Gate {
     pub fn is_flip(self) -> bool
         ensures { result ≡ is_flip self }
     {
-        match self.shape {
+        match self.shape() {
             Shape::Flip { .. } => true,
             Shape::Swap { .. } | Shape::Peres { .. } => false,
         }
@@ -217,7 +247,7 @@ impl Gate {
         requires { FitsIn self (length word) }
         ensures { result ≡ act self word }
     {
-        match self.shape {
+        match self.shape() {
             Shape::Flip { care, want, target } => word.flipped(care, want, target),
             Shape::Swap { care, want, a, b } => word.swapped(care, want, a, b),
             Shape::Peres { a, b, c } => word.after_peres(a, b, c),
@@ -272,7 +302,7 @@ impl Gate {
             → run (self ∷ result.0 ∷ option_to_list result.1) word ≡ word }
         ensures fit { (lines : ℕ) → FitsIn self lines → All (λ gate. FitsIn gate lines) (inverse self) }
     {
-        match self.shape {
+        match self.shape() {
             Shape::Peres { a, b, c } => {
                 let first = Gate::flip_under(1 << a, b);
                 let second = Gate::flip_under(1 << a | 1 << b, c);
