@@ -6,7 +6,7 @@ use Rattle.std.specs.Int.Bits.{xor_assoc, xor_self, xor_zero_l}
 use Rattle.std.proofs.lemmas.Bool.{cases_eq, cases_lt, eqb-true, eqb-false, or_left, or_right}
 use Rattle.std.proofs.lemmas.Nat.{shr-shr, one_shl, pow_pos}
 use Rattle.std.proofs.Math.Nat.{div-lt_iff_lt-mul}
-use Rattle.std.proofs.lemmas.Nat.Bits.{bit_at-lt, bit_at-zero, bit_at_and, bit_at_or, bit_at_xor, bit_at-pow_same, bit_at-pow_other, bit_at-trailing_zeros, bit_at_above, same_from_bits, same_from_bits_below}
+use Rattle.std.proofs.lemmas.Nat.Bits.{bit_at_cat_low, bit_at_cat_high, bit_at-lt, bit_at-zero, bit_at_and, bit_at_or, bit_at_xor, bit_at-pow_same, bit_at-pow_other, bit_at-trailing_zeros, bit_at_above, same_from_bits, same_from_bits_below}
 use Rattle.rv_gate.specs.Word.{has}
 use Rattle.rv_gate.specs.Gate.{xor, Within}
 use Rattle.rv_gate.proofs.Bits.{eqb_refl, or_assoc, or_off}
@@ -174,6 +174,22 @@ Within-below set n lt line on =
 
 pub bit_at-shr : (n j i : ℕ) → bit_at (n / 2 ^ j) i ≡ bit_at n (j + i)
 bit_at-shr n j i = ap (λ q. q % 2) (shr-shr n j i)
+
+-- the bits of a number of 64 bits that is shifted up
+pub has-low : (n k : ℕ) → k < 64 → has (n % 2 ^ 64) k ≡ has n k
+has-low n k lt =
+    let e : n / 2 ^ 64 * 2 ^ 64 + n % 2 ^ 64 ≡ n = omega arith in
+    ap (λ b. eqb b 1) (sym (bit_at_cat_low (n / 2 ^ 64) 64 (n % 2 ^ 64) k lt) ∙ ap (λ m. bit_at m k) e)
+
+pub has-shl : (n s k : ℕ) → k < 64 → s ≤ k → has (n * 2 ^ s % 2 ^ 64) k ≡ has n (k - s)
+has-shl n s k lt le =
+    let e : n * 2 ^ s + 0 ≡ n * 2 ^ s = omega arith in
+    has-low (n * 2 ^ s) k lt ∙ ap (λ m. has m k) (sym e) ∙ ap (λ b. eqb b 1) (bit_at_cat_high n s 0 k (pow_pos s) le)
+
+pub has-shl_below : (n s k : ℕ) → k < 64 → k < s → has (n * 2 ^ s % 2 ^ 64) k ≡ false
+has-shl_below n s k lt below =
+    let e : n * 2 ^ s + 0 ≡ n * 2 ^ s = omega arith in
+    has-low (n * 2 ^ s) k lt ∙ ap (λ m. has m k) (sym e) ∙ ap (λ b. eqb b 1) (bit_at_cat_low n s 0 k below) ∙ has-none k
 
 -- `set >> n == 0`
 pub Within-shr : (set n : ℕ) → set / 2 ^ n ≡ 0 → Within set n

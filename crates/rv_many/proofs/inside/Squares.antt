@@ -9,24 +9,8 @@ use Rattle.rv_gate.proofs.Bits.{and_comm, and_false, and_true, or_false, same_bo
 use Rattle.rv_gate.specs.Gate.{all_below, xor}
 use Rattle.rv_gate.specs.Word.{has}
 use Rattle.rv_gate.proofs.AllBelow.{all_below-at}
-use Rattle.rv_gate.proofs.LineSets.{bit_at-shr, has-above, has-and, has-none, has-or, has-xor}
+use Rattle.rv_gate.proofs.LineSets.{bit_at-shr, has-above, has-and, has-none, has-or, has-shl, has-shl_below, has-xor}
 use Rattle.rv_many.specs.Square.{HaveBits, IsSquare, byte_of, came_from, is_apart}
-
--- the bits of a number of 64 bits that is shifted up
-has-low : (n k : ℕ) → k < 64 → has (n % 2 ^ 64) k ≡ has n k
-has-low n k lt =
-    let e : n / 2 ^ 64 * 2 ^ 64 + n % 2 ^ 64 ≡ n = omega arith in
-    ap (λ b. eqb b 1) (sym (bit_at_cat_low (n / 2 ^ 64) 64 (n % 2 ^ 64) k lt) ∙ ap (λ m. bit_at m k) e)
-
-has-shl : (n s k : ℕ) → k < 64 → s ≤ k → has (n * 2 ^ s % 2 ^ 64) k ≡ has n (k - s)
-has-shl n s k lt le =
-    let e : n * 2 ^ s + 0 ≡ n * 2 ^ s = omega arith in
-    has-low (n * 2 ^ s) k lt ∙ ap (λ m. has m k) (sym e) ∙ ap (λ b. eqb b 1) (bit_at_cat_high n s 0 k (pow_pos s) le)
-
-has-shl_below : (n s k : ℕ) → k < 64 → k < s → has (n * 2 ^ s % 2 ^ 64) k ≡ false
-has-shl_below n s k lt below =
-    let e : n * 2 ^ s + 0 ≡ n * 2 ^ s = omega arith in
-    has-low (n * 2 ^ s) k lt ∙ ap (λ m. has m k) (sym e) ∙ ap (λ b. eqb b 1) (bit_at_cat_low n s 0 k below) ∙ has-none k
 
 -- ---- one exchange
 
