@@ -3,8 +3,8 @@ use Rattle.std.proofs.Common.{◌≡◌, ◌≢◌, ℕ, zero, suc, ◌+◌, ◌
 use Rattle.std.specs.Int.{bit_at, from_le_bytes, to_le_bytes}
 use Rattle.std.specs.Prelude.{bit_and, bit_or, bit_xor}
 use Rattle.std.proofs.lemmas.Bool.{cases_eq, cases_lt, and_parts, eqb-true, false≢true, le-leb, lt-leb, lt-ltb, ltb-true, not-true}
-use Rattle.std.proofs.lemmas.Nat.Bits.{bit_at_cat_low, bit_at_cat_high, bit_at_ones}
-use Rattle.std.proofs.lemmas.Nat.{and_le_r, le_bytes_8, pow_pos}
+use Rattle.std.proofs.lemmas.Nat.Bits.{bit_at_cat_low, bit_at_ones}
+use Rattle.std.proofs.lemmas.Nat.{and_le_r, le_bytes_8}
 use Rattle.rv_gate.proofs.Bits.{and_comm, and_false, and_true, or_false, same_bool}
 use Rattle.rv_gate.specs.Gate.{all_below, xor}
 use Rattle.rv_gate.specs.Word.{has}
