@@ -1,6 +1,6 @@
-ghost use Rattle.std.specs.Prelude.{◌≡◌, ◌≢◌, ◌^◌, ◌<◌, ◌≤◌, length, slice_set, if◌then◌else◌};
+ghost use Rattle.std.specs.Prelude.{◌≡◌, ◌≢◌, ◌^◌, ◌<◌, ◌≤◌, ◌↔◌, IsTrue, length, slice_set, if◌then◌else◌};
 ghost use Rattle.std.specs.Option.{SomeIff};
-ghost use Rattle.rv_gate.specs.Word.{number_of, word_of, bit_of, ones_of};
+ghost use Rattle.rv_gate.specs.Word.{number_of, word_of, word_with, bit_of, ones_of};
 ghost use Rattle.rv_gate.specs.Gate.{act, flip, holds, FitsIn, Within};
 ghost use Rattle.rv_gate.specs.declared.gate.Shape.TheVariants.{Flip, Swap, Peres};
 
@@ -46,16 +46,25 @@ impl Word {
     pub fn new(len: u8, number: u64) -> Option<Word>
         ensures { SomeIff result ((len ≤ MOST_LINES) × (number < 2 ^ len)) (word_of len number) }
     {
-        if len > MOST_LINES {
-            return None;
-        }
-        if len < MOST_LINES && number >> len != 0 {
+        if !is_within(len, number) {
             return None;
         }
         Some(Word {
             len,
             ones: mirrored(number, len),
         })
+    }
+
+    /// The word of `len` bits that has the bit 1 on the lines of a set.
+    ///
+    /// `None` where there are more than [`MOST_LINES`] bits, or the set has a line that is not below `len`.
+    pub fn of_lines(len: u8, ones: LineSet) -> Option<Word>
+        ensures { SomeIff result ((len ≤ MOST_LINES) × (ones < 2 ^ len)) (word_with len ones) }
+    {
+        if !is_within(len, ones) {
+            return None;
+        }
+        Some(Word { len, ones })
     }
 
     /// How many bits, so lines, there are.
@@ -151,4 +160,11 @@ impl Word {
         let both = x && self.bit(b);
         self.turned(x, b).turned(both, c)
     }
+}
+
+// Whether bits are at most as many as a word has, and a number or a set has none beyond them.
+fn is_within(len: u8, bits: u64) -> bool
+    ensures { IsTrue result ↔ ((len ≤ MOST_LINES) × (bits < 2 ^ len)) }
+{
+    len == MOST_LINES || len < MOST_LINES && bits >> len == 0
 }

@@ -1,13 +1,13 @@
 -- Words that are set side by side, and back.
-use Rattle.std.proofs.Common.{◌≡◌, ◌∙◌, ℕ, ◌+◌, ◌-◌, ◌*◌, ◌/◌, ◌%◌, ◌^◌, ◌<◌, ◌≤◌, Bool, false, min, List, [], ◌∷◌, length, map, reverse, get_or, set, sym, ap, inl, inr, arith}
+use Rattle.std.proofs.Common.{◌≡◌, ◌∙◌, ℕ, ◌+◌, ◌*◌, ◌/◌, ◌%◌, ◌^◌, ◌<◌, ◌≤◌, Bool, false, min, List, [], ◌∷◌, length, map, get_or, set, sym, ap, inl, inr, arith}
 use Rattle.std.proofs.Math.ListN.{get_or-append}
 use borrow.Rule.Slice.PartMut.{post_of, put_mid}
 use Rattle.std.specs.List.{between}
 use Rattle.std.proofs.lemmas.Bool.{cases_eq, cases_lt, false≢true}
-use Rattle.std.proofs.lemmas.List.{ext_get_or, get_or-append_right, get_or-map, get_or-reverse, get_or-set_other, get_or-set_same, get_or-take, get_or_past, length-append, length-drop, length-map, length-reverse, length-take, length-take-le}
+use Rattle.std.proofs.lemmas.List.{ext_get_or, get_or-append_right, get_or-map, get_or-set_other, get_or-set_same, get_or-take, get_or_past, length-append, length-drop, length-map, length-take, length-take-le}
 use Rattle.std.proofs.lemmas.List.Edits.{get_or-between, length-between}
-use Rattle.rv_gate.specs.Word.{has, bit_of, word_of}
-use Rattle.rv_gate.specs.inside.WordLaws.{bit_of-word_of, length-word_of}
+use Rattle.rv_gate.specs.Word.{has, bit_of, word_with}
+use Rattle.rv_gate.specs.inside.WordLaws.{bit_of-word_with, length-word_with}
 use Rattle.rv_gate.proofs.LineSets.{below-Within, has-above, has-none}
 use Rattle.rv_many.specs.Column.{column, row_bit}
 use Rattle.rv_many.specs.declared.row.Row.{Row}
@@ -68,23 +68,6 @@ part_at xs a j d lt =
       | inr past ↦ get_or_past _ j d (omega (arith, length-between xs a (min (length xs) (a + 8)) (omega arith))) ∙ sym (get_or_past xs (a + j) d past)
     ]
 
--- and of the last entries, from the end
-pub part_back : {A : Type 0} (xs : List A) (end at i : ℕ) (d : A) → end ≡ length xs - 8 * at → 0 < end → i < 8 → get_or (reverse (between (end - 8) end xs)) i d ≡ get_or (reverse xs) (8 * at + i) d
-part_back xs end at i d is some lt =
-    let part = between (end - 8) end xs in
-    let long : length part ≡ end - (end - 8) = length-between xs (end - 8) end (omega arith) in
-    elim (cases_lt i end) [
-      | inl inside ↦
-          let index : end - 8 + (length part - 1 - i) ≡ length xs - 1 - (8 * at + i) = omega (arith, long) in
-          get_or-reverse part i d (omega (arith, long))
-          ∙ get_or-between xs (end - 8) end (length part - 1 - i) d (omega (arith, long))
-          ∙ ap (λ k. get_or xs k d) index
-          ∙ sym (get_or-reverse xs (8 * at + i) d (omega arith))
-      | inr past ↦
-          get_or_past (reverse part) i d (omega (arith, length-reverse part, long))
-          ∙ sym (get_or_past (reverse xs) (8 * at + i) d (omega (arith, length-reverse xs)))
-    ]
-
 -- ---- the bits of a column
 
 -- the bit of any line, of one that is not there too
@@ -95,26 +78,22 @@ bit_of-column_any rows line j =
       | inr past ↦ get_or_past (column rows j) line false (omega (arith, length-column rows j)) ∙ sym (ap (λ row. row_bit row j) (get_or_past rows line blank past) ∙ ap (λ part. has part (j % 64)) (get_or_past [] (j / 64) 0 (omega arith)) ∙ has-none (j % 64))
     ]
 
--- the number whose bits are those of a column, the last line first
-pub column_by_number : (rows : List Row) (j number : ℕ) → length rows ≤ 64 → number < 2 ^ 64 → ((i : ℕ) → i < 64 → has number i ≡ bit_of (column (reverse rows) j) i)
-    → (number < 2 ^ length rows) × (word_of (length rows) number ≡ column rows j)
-column_by_number rows j number few small bits =
-    let n = length rows in (
-      below-Within number n (λ line on.
+-- the lines whose bits are those of a column
+pub column_by_lines : (rows : List Row) (j lines : ℕ) → length rows ≤ 64 → lines < 2 ^ 64 → ((i : ℕ) → i < 64 → has lines i ≡ bit_of (column rows j) i)
+    → (lines < 2 ^ length rows) × (word_with (length rows) lines ≡ column rows j)
+column_by_lines rows j lines few small bits =
+    let n = length rows in
+    let long = length-column rows j in (
+      below-Within lines n (λ line on.
           elim (cases_lt line n) [
             | inl lt ↦ lt
             | inr past ↦
                 (elim (cases_lt line 64) [
-                  | inl lt ↦ absurd (false≢true (sym (get_or_past (column (reverse rows) j) line false (omega (arith, length-column (reverse rows) j, length-reverse rows))) ∙ sym (bits line lt) ∙ on))
-                  | inr above ↦ absurd (false≢true (sym (has-above number 64 line small above) ∙ on))
+                  | inl lt ↦ absurd (false≢true (sym (get_or_past (column rows j) line false (omega (arith, long))) ∙ sym (bits line lt) ∙ on))
+                  | inr above ↦ absurd (false≢true (sym (has-above lines 64 line small above) ∙ on))
                 ])
           ]),
-      ext_get_or false (word_of n number) (column rows j) (length-word_of n number ∙ sym (length-column rows j)) (λ i h.
-          let lt : i < n = omega (arith, length-word_of n number) in
-          let back : n - 1 - (n - 1 - i) ≡ i = omega arith in
-          bit_of-word_of n number i lt
-          ∙ bits (n - 1 - i) (omega arith)
-          ∙ bit_of-column_any (reverse rows) (n - 1 - i) j
-          ∙ ap (λ row. row_bit row j) (get_or-reverse rows (n - 1 - i) blank (omega arith) ∙ ap (λ k. get_or rows k blank) back)
-          ∙ sym (bit_of-column_any rows i j)),
+      ext_get_or false (word_with n lines) (column rows j) (length-word_with n lines ∙ sym long) (λ i h.
+          let lt : i < n = omega (arith, length-word_with n lines) in
+          bit_of-word_with n lines i lt ∙ bits i (omega arith)),
     )

@@ -1,4 +1,4 @@
-ghost use Rattle.std.specs.Prelude.{◌≡◌, ℕ, ◌+◌, ◌%◌, ◌<◌, ◌≤◌, [], length, map, reverse, slice_index_or, All};
+ghost use Rattle.std.specs.Prelude.{◌≡◌, ℕ, ◌+◌, ◌%◌, ◌<◌, ◌≤◌, [], length, map, slice_index_or, All};
 ghost use Rattle.rv_gate.specs.Word.{bit_of, has};
 ghost use Rattle.rv_gate.specs.Gate.{run};
 ghost use Rattle.rv_gate.specs.declared.word.TheConstants.{MOST_LINES};
@@ -160,46 +160,49 @@ fn set_eight_words(rows: &[Row], place: usize, words: &mut [Word])
     ensures count { length words.new ≡ length words.old }
     ensures words { (j : ℕ) → j < length words.old → slice_index_or words.new j [] ≡ column rows.now (place + j) }
 {
-    let numbers = numbers_of(rows, place);
+    let sets = sets_of(rows, place);
     for i in 0..words.len() {
-        let Some(word) = Word::new(rows.len() as u8, number_by(&numbers[i])) else {
+        let Some(word) = Word::of_lines(rows.len() as u8, number_by(&sets[i])) else {
             unreachable!()
         };
         words[i] = word;
     }
 }
 
-// The numbers of the words of eight places from one on.
-fn numbers_of(rows: &[Row], place: usize) -> [[u8; 8]; 8]
+// The lines on which the words of eight places from one on have the bit 1.
+fn sets_of(rows: &[Row], place: usize) -> [[u8; 8]; 8]
     requires within { length rows.now ≤ MOST_LINES }
     requires place { place < MOST_WORDS }
     requires whole { place % 8 ≡ 0 }
     ensures numbers { AreEight result }
-    ensures bits { HaveBits result (λ i j. bit_of (column (reverse rows.now) (place + i)) j) }
+    ensures bits { HaveBits result (λ i j. bit_of (column rows.now (place + i)) j) }
 {
-    let mut numbers = [[0; 8]; 8];
+    let mut sets = [[0; 8]; 8];
     let mut block = 0;
-    let mut end = rows.len();
-    while end > 0 {
-        let line = end.saturating_sub(8);
-        put_columns(square_of_rows(&rows[line..end], place), &mut numbers, block);
+    while 8 * block < rows.len() {
+        let end = rows.len().min(8 * block + 8);
+        put_columns(
+            square_of_rows(&rows[8 * block..end], place),
+            &mut sets,
+            block,
+        );
         block += 1;
-        end = line;
     }
-    numbers
+    sets
 }
 
-// The bits that at most eight rows have at eight places from one on, a row for each of them, the last one
-// first.
+// The bits that at most eight rows have at eight places from one on, a row for each of them.
 fn square_of_rows(rows: &[Row], place: usize) -> u64
     requires eight { length rows.now ≤ 8 }
     requires place { place < MOST_WORDS }
     requires whole { place % 8 ≡ 0 }
-    ensures { IsSquare result (λ i j. bit_of (column (reverse rows.now) (place + j)) i) }
+    ensures { IsSquare result (λ i j. bit_of (column rows.now (place + j)) i) }
 {
     let mut square = 0;
-    for row in rows {
-        square = square << 8 | row.parts[place / PART_WORDS] >> (place % PART_WORDS) & 0xFF;
+    let mut line = rows.len();
+    while line > 0 {
+        line -= 1;
+        square = square << 8 | rows[line].parts[place / PART_WORDS] >> (place % PART_WORDS) & 0xFF;
     }
     square
 }
