@@ -22,8 +22,8 @@ use std::marker::Model;
 
 /// A circuit whose gates are linked, each with the next and the previous one.
 ///
-/// Once it is made no call takes memory, but [`to_circuit`](Linked::to_circuit). A gate takes 53 bytes, so the largest
-/// circuit 56 MB.
+/// Once it is made no call takes memory, but [`to_circuit`](Linked::to_circuit). A gate takes 45 bytes, so the largest
+/// circuit 47 MB.
 #[derive(Drop)]
 pub struct Linked {
     // The names, labels and marks, and no gates.
