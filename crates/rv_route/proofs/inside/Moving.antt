@@ -56,60 +56,34 @@ moved_on n (p ∷ ps) s q len w =
 stays : (a q : ℕ) → shifted a a q ≡ q
 stays a q = grind arith
 
-up_at : (a d : ℕ) → shifted (a + 1) (a + 1 + d) (a + 1) ≡ shifted a (a + suc d) a
-up_at a d = grind arith
-
-up_next : (a d : ℕ) → shifted (a + 1) (a + 1 + d) a ≡ shifted a (a + suc d) (a + 1)
-up_next a d = grind arith
-
-up_low : (a d q : ℕ) → q < a → shifted (a + 1) (a + 1 + d) q ≡ shifted a (a + suc d) q
-up_low a d q lt = grind arith
-
-up_high : (a d q : ℕ) → a + 1 + d < q → shifted (a + 1) (a + 1 + d) q ≡ shifted a (a + suc d) q
-up_high a d q lt = grind arith
-
-up_passed : (a d q : ℕ) → a + 1 < q → q ≤ a + 1 + d → shifted (a + 1) (a + 1 + d) q ≡ shifted a (a + suc d) q
-up_passed a d q lt le = grind arith
-
 up_other : (a d q : ℕ) → q ≢ a → q ≢ a + 1 → shifted (a + 1) (a + 1 + d) q ≡ shifted a (a + suc d) q
 up_other a d q n m =
     elim (cases_lt q a) [
-      | inl low ↦ up_low a d q low
-      | inr ge ↦ (elim (cases_lt (a + 1 + d) q) [ inl high ↦ up_high a d q high | inr le ↦ up_passed a d q (omega arith) le ])
+      | inl low ↦ grind arith
+      | inr ge ↦ (elim (cases_lt (a + 1 + d) q) [ inl high ↦ grind arith | inr le ↦ grind arith ])
     ]
 
+-- one line passes from the first of two neighbours to the second before it goes up from the second
 up_one : (a d q : ℕ) → shifted (a + 1) (a + 1 + d) (twin a q) ≡ shifted a (a + suc d) q
 up_one a d q =
     elim (cases_eq q a) [
-      | inl at ↦ ap (shifted (a + 1) (a + 1 + d)) (twin_low a q at) ∙ up_at a d ∙ ap (shifted a (a + suc d)) (sym at)
+      | inl at ↦ ap (shifted (a + 1) (a + 1 + d)) (twin_low a q at) ∙ grind arith
       | inr n ↦
           (elim (cases_eq q (a + 1)) [
-            | inl next ↦ ap (shifted (a + 1) (a + 1 + d)) (twin_high a q next) ∙ up_next a d ∙ ap (shifted a (a + suc d)) (sym next)
+            | inl next ↦ ap (shifted (a + 1) (a + 1 + d)) (twin_high a q next) ∙ grind arith
             | inr m ↦ ap (shifted (a + 1) (a + 1 + d)) (twin_other a q n m) ∙ up_other a d q n m
           ])
     ]
 
 -- one line passes from the second of two neighbours to the first after it came down to the second
-down_at : (a d q : ℕ) → q ≡ a + 1 + d → (shifted (a + 1 + d) (a + 1) q ≡ a + 1) × (shifted (a + suc d) a q ≡ a)
-down_at a d q e = (grind arith, grind arith)
-
-down_low : (a d q : ℕ) → q ≡ a → (shifted (a + 1 + d) (a + 1) q ≡ a) × (shifted (a + suc d) a q ≡ a + 1)
-down_low a d q e = (grind arith, grind arith)
-
-down_other : (a d q : ℕ) → q ≢ a → q ≢ a + 1 + d → shifted (a + 1 + d) (a + 1) q ≡ shifted (a + suc d) a q
-down_other a d q n m = grind arith
-
-down_off : (a d q : ℕ) → q ≢ a → q ≢ a + 1 + d → (shifted (a + 1 + d) (a + 1) q ≢ a) × (shifted (a + 1 + d) (a + 1) q ≢ a + 1)
-down_off a d q n m = (λ e. grind arith, λ e. grind arith)
-
 down_one : (a d q : ℕ) → twin a (shifted (a + 1 + d) (a + 1) q) ≡ shifted (a + suc d) a q
 down_one a d q =
     elim (cases_eq q (a + 1 + d)) [
-      | inl at ↦ let w = down_at a d q at in twin_high a _ w.0 ∙ sym w.1
+      | inl at ↦ twin_high a _ (grind arith) ∙ grind arith
       | inr m ↦
           (elim (cases_eq q a) [
-            | inl low ↦ let w = down_low a d q low in twin_low a _ w.0 ∙ sym w.1
-            | inr n ↦ let w = down_off a d q n m in twin_other a _ w.0 w.1 ∙ down_other a d q n m
+            | inl low ↦ twin_low a _ (grind arith) ∙ grind arith
+            | inr n ↦ twin_other a _ (λ e. grind arith) (λ e. grind arith) ∙ grind arith
           ])
     ]
 

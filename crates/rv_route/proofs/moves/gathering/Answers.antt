@@ -2,7 +2,7 @@ use Rattle.std.proofs.Common.{◌≡◌, ℕ, ◌+◌, ◌-◌, ◌++◌, List, 
 use Rattle.std.proofs.lemmas.List.{append-nil, at_drop_all}
 use Rattle.rv_route.specs.Moves.{moves_down, middle}
 use Rattle.rv_route.specs.inside.Standing.{swaps_by, swaps_of}
-use Rattle.rv_route.proofs.inside.Moving.{AreMoves-more, apart, ascending_below, moves_down_none, one_down, one_up, swaps_by-more, swaps_by_none, up_start}
+use Rattle.rv_route.proofs.inside.Moving.{AreMoves-more, apart, ascending_below, length-gathering, moves_down_none, one_down, one_up, swaps_by-more, swaps_by_none, up_start}
 use Rattle.rv_route.proofs.moves.gathering.Goals as goal
 
 pub loop-j-init : goal.loop-j-init
@@ -83,3 +83,6 @@ returns-clause-moves c =
     let b : ℕ = get_or ps (middle (length ps)) 0 + (c.loop-j-2.j - middle (length ps) - 1) in
     sym (ap (λ l. swaps_by c.loop-j-2.moves.items ++ l) (at_drop_all (λ l. moves_down l b) ps c.loop-j-2.j c.loop-j-2-test.false ∙ moves_down_none b) ∙ append-nil (swaps_by c.loop-j-2.moves.items))
     ∙ c.loop-j-2.invariant.swaps
+
+pub returns-clause-few_swaps : goal.returns-clause-few_swaps
+returns-clause-few_swaps c = rw (returns-clause-moves c) (length-gathering c.args.positions.now c.requires.some c.requires.ascending)
