@@ -64,13 +64,6 @@ placed_all row places set left positions s z w =
     sym (or_off (has positions p) (has left (get_or row p 0)) off) ∙ w.each p (omega arith) ∙ sym (get_or-map (has set) row p 0 false (let e = s.placement.len in omega arith)))
     (λ p past. w.past p (omega arith))
 
-pub take_home : (n m : ℕ) → n ≤ m → take n (home m) ≡ home n
-take_home n m le =
-    let len : length (take n (home m)) ≡ n = length-take-le n (home m) (let e = length-range_with_len 0 m in omega arith) in
-    ext_get_or 0 (take n (home m)) (home n) (len ∙ sym (length-range_with_len 0 n))
-    (λ i lt.
-    get_or-take n (home m) i 0 (omega arith) ∙ get_or-range_with_len 0 m i 0 (omega arith) ∙ sym (get_or-range_with_len 0 n i 0 (omega arith)))
-
 -- ---- the lines that a gate touches
 
 same_pass : (p q : ℕ → Bool) (n : ℕ) → ((k : ℕ) → k < n → q k ≡ p k) → filter q (range_with_len 0 n) ≡ filter p (range_with_len 0 n)
@@ -89,17 +82,25 @@ touched_all row places g set positions s lines is =
 
 -- ---- home
 
-pub Stands-home : (n : ℕ) → Stands (home n) (home n)
-Stands-home n =
+take_home : (n m : ℕ) → n ≤ m → take n (home m) ≡ home n
+take_home n m le =
+    let len : length (take n (home m)) ≡ n = length-take-le n (home m) (let e = length-range_with_len 0 m in omega arith) in
+    ext_get_or 0 (take n (home m)) (home n) (len ∙ sym (length-range_with_len 0 n))
+    (λ i lt.
+    get_or-take n (home m) i 0 (omega arith) ∙ get_or-range_with_len 0 m i 0 (omega arith) ∙ sym (get_or-range_with_len 0 n i 0 (omega arith)))
+
+-- the table at the start
+pub Stands-home : (n m : ℕ) → n ≤ m → (length (take n (home m)) ≡ n) × Stands (home n) (take n (home m))
+Stands-home n m le =
     let i = IsPlacement-home n in
-    let P : ℕ → Type 0 = λ k. IsPlacement k (home n) in
-    record {
-      placement = subst P (sym i.len) i;
+    let len : length (home n) ≡ n = i.len in
+    rw (take_home n m le) (len, record {
+      placement = rw len i;
       at = λ line lt.
-          (let l : line < n = omega (arith, i.len) in
+          (let l : line < n = omega (arith, len) in
           let w = stands n (home n) i line l in
           home_at n line l ∙ sym w.1 ∙ home_at n (position_of (home n) line) w.0);
-    }
+    })
 
 -- the lines before l are home, and the others are to go
 pub record Going (n l : ℕ) (s places : List ℕ) (moves : List Move) : Type 0 where
@@ -156,14 +157,11 @@ going_more n l s old new moves next m lt len same to from added are w =
 
 -- ---- gates
 
-pub routed_end : (gates : List Shape) (k : ℕ) (s : List ℕ) → length gates ≤ k → routed_from s (drop k gates) ≡ map neighbours (way_home (home (length s)) s)
-routed_end gates k s le = at_drop_all (routed_from s) gates k le ∙ routed_none s
-
 -- the gates for the way home, which are the last
 pub homeward : (row places : List ℕ) (swaps : List ℕ) (gates : List Shape) (k : ℕ) → Stands row places → length gates ≤ k → swaps ≡ way_home (home (length places)) row
     → routed_from row (drop k gates) ≡ map neighbours swaps
 homeward row places swaps gates k s le e =
-    routed_end gates k row le ∙ ap (λ n. map neighbours (way_home (home n) row)) s.placement.len ∙ ap (map neighbours) (sym e)
+    at_drop_all (routed_from row) gates k le ∙ routed_none row ∙ ap (λ n. map neighbours (way_home (home n) row)) s.placement.len ∙ ap (map neighbours) (sym e)
 
 pub routed_next : (gates : List Shape) (k : ℕ) (g : Shape) (s t ps : List ℕ) → k < length gates → g ≡ get_or gates k g → ps ≡ gathering (touched_positions s g) → t ≡ swapped ps s
     → routed_from s (drop k gates) ≡ map neighbours ps ++ (gate_on t g ∷ routed_from t (drop (k + 1) gates))
