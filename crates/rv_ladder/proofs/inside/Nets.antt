@@ -18,35 +18,10 @@ use Rattle.rv_net.proofs.inside.Network.{count_h-append}
 use Rattle.rv_net.proofs.Toffoli.{through-toffoli}
 use Rattle.rv_ladder.specs.Ladder.{borrowed_flip, down, half, quarter_back, rung, zeros}
 use Rattle.rv_ladder.specs.inside.Moved.{Divides, met}
+use Rattle.rv_ladder.proofs.Counting.{hadamards-are}
 use Rattle.rv_ladder.proofs.inside.Fitting.{Fit, fit_append, fit_borrowed, fit_zeros}
 use Rattle.rv_ladder.proofs.inside.Ladders.{through-borrowed}
 use Rattle.rv_net.proofs.Cyclotomic.{doubled-more}
-
--- ---- the number of H
-
-pub count_h-rung : (c t : ℕ) (inner : List Op) → count_h (rung c t inner) ≡ suc (suc (count_h inner))
-unfolding count_h
-count_h-rung c t inner = ap suc (count_h-append inner (half c t ++ (H t ∷ []))) ∙ (let e : suc (count_h inner + 1) ≡ suc (suc (count_h inner)) = omega arith in e)
-
-pub count_h-down : (a b : ℕ) (more hs : List ℕ) (t : ℕ) → length more ≡ length hs → count_h (down a b more hs t) ≡ 2 * suc (length more)
-unfolding count_h down
-count_h-down a b [] hs t e = count_h-rung b t (Cx a t ∷ [])
-count_h-down a b (c ∷ more) [] t e = absurd (omega (arith, e))
-count_h-down a b (c ∷ more) (h ∷ hs) t e =
-    let i : count_h (down a b more hs h) ≡ 2 * suc (length more) = count_h-down a b more hs h (omega (arith, e)) in
-    count_h-rung c t (Cx h t ∷ (down a b more hs h ++ (Cx h t ∷ []))) ∙ omega (arith, i, count_h-append (down a b more hs h) (Cx h t ∷ []))
-
-pub count_h-borrowed : (a b c : ℕ) (more : List ℕ) (h : ℕ) (hs : List ℕ) (t : ℕ) → length more ≡ length hs
-    → count_h (borrowed_flip a b (c ∷ more) (h ∷ hs) t) ≡ 2 * suc (suc (length more) + suc (length more))
-unfolding count_h borrowed_flip
-count_h-borrowed a b c more h hs t e =
-    let V : List Op = down a b more hs h in
-    omega (
-      arith,
-      count_h-append V (quarter_back c h t ++ (V ++ (H t ∷ []))),
-      count_h-append V (H t ∷ []),
-      count_h-down a b more hs h e,
-    )
 
 -- ---- networks that move words, with a root of two for each H
 
@@ -85,7 +60,7 @@ runs_borrowed n on a b (c ∷ more) [] t r ab = absurd (omega (arith, r.enough))
 runs_borrowed n on a b (c ∷ more) (h ∷ hs) t r ab = record {
   twos = suc (suc (length more) + suc (length more));
   each = λ k x e. through-borrowed n on a b c more h hs t k x r e;
-  counted = count_h-borrowed a b c more h hs t (omega (arith, r.enough));
+  counted = omega (arith, hadamards-are.borrowed a b (c ∷ more) (h ∷ hs) t (omega arith) (omega (arith, r.enough)));
   fitting = λ x e. subst (λ m. Fit m (borrowed_flip a b (c ∷ more) (h ∷ hs) t)) (sym e) (fit_borrowed n on a b (c ∷ more) (h ∷ hs) t r ab);
 }
 
