@@ -1,15 +1,15 @@
 -- Folding raises no count of operations, and keeps that of H.
-use Rattle.std.proofs.Common.{◌≡◌, ℕ, ◌+◌, ◌%◌, ◌≤◌, Bool, true, false, cond, ◌&&◌, Some, List, [], ◌∷◌, ◌++◌, length, refl, sym, ap, ◌∙◌, arith, inl, inr}
+use Rattle.std.proofs.Common.{◌≡◌, ℕ, ◌+◌, ◌%◌, ◌≤◌, Bool, true, false, cond, Some, List, [], ◌∷◌, ◌++◌, length, refl, sym, ap, ◌∙◌, arith, inl, inr}
 use Rattle.std.specs.Prelude.{count_by}
-use Rattle.std.proofs.lemmas.Bool.{cases_Bool, cases_eq}
+use Rattle.std.proofs.lemmas.Bool.{cases_eq}
 use Rattle.std.proofs.lemmas.List.Sums.{sum_by-cons}
 use Rattle.rv_net.specs.declared.op.Op.{Op}
 use Rattle.rv_net.specs.Amplitude.{count_h}
 use Rattle.rv_net.specs.Op.{is_t}
-use Rattle.rv_fold.specs.Parities.{Parities, alone, parities_after, Parity}
+use Rattle.rv_fold.specs.Parities.{Parities, alone, parities_after}
 use Rattle.rv_fold.specs.Folded.{phase_gate, phase_ops, exponent_of, PhaseGate}
 use Rattle.rv_fold.proofs.Turning.{BelowEight, below_eight}
-use Rattle.rv_fold.proofs.Walking.{Seen, each_walk, not_seen, only, none, joined, survivors, restarts, owed, walked, exponents, total, kind, owed-none, owed-some, owed-joined, walked-none, walked-seen, walked-new, same_parity-eq, each_gate}
+use Rattle.rv_fold.proofs.Walking.{Seen, each_walk, not_seen, only, none, joined, survivors, restarts, owed, walked, exponents, total, kind, owed-none, owed-some, owed-joined, each_gate}
 
 -- the sum of the weights of operations
 unfoldable pub cost : (Op → ℕ) → List Op → ℕ

@@ -1,18 +1,17 @@
 -- What folding keeps.
-use Rattle.std.proofs.Common.{◌≡◌, ℕ, ◌+◌, ◌%◌, ◌<◌, ◌≤◌, Bool, List, [], ◌∷◌, ◌++◌, length, refl, sym, ap, ◌∙◌, arith, subst, inl, inr}
+use Rattle.std.proofs.Common.{◌≡◌, ℕ, ◌+◌, ◌%◌, ◌<◌, ◌≤◌, Bool, List, [], ◌∷◌, ◌++◌, length, refl, sym, ap, ◌∙◌, arith, subst}
 use Rattle.std.specs.Prelude.{All, slice_get}
-use Rattle.std.proofs.lemmas.Bool.{cases_Bool}
 use Rattle.std.proofs.lemmas.List.Elements.{All-head, All-tail, All-nil, All-cons}
 use Rattle.rv_net.specs.declared.op.Op.{Op}
 use Rattle.rv_net.specs.Op.{IsNetwork, Network, OpFitsIn}
 use Rattle.rv_net.specs.Amplitude.{amplitude, count_h}
-use Rattle.rv_fold.specs.Parities.{Parities, IsLeastClosed, alone, direct, parities_after}
-use Rattle.rv_fold.specs.Folded.{parities_at, folded, folded_network, phase_gate, phase_ops, IsFoldingOf, RestartsLeast}
+use Rattle.rv_fold.specs.Parities.{Parities, IsLeastClosed, alone, direct}
+use Rattle.rv_fold.specs.Folded.{parities_at, folded, folded_network, phase_ops, IsFoldingOf, RestartsLeast}
 use Rattle.rv_fold.proofs.Amplitudes.{AllFit, walked-amplitude}
 use Rattle.rv_fold.proofs.Counts.{t_count, walked-length, walked-t, walked-h}
 use Rattle.rv_fold.proofs.Settled.{walked-settled}
 use Rattle.rv_fold.proofs.Turning.{BelowEight, below_eight}
-use Rattle.rv_fold.proofs.Walking.{Seen, each_walk, none, only, joined, survivors, restarts, total, walked, walked-none, walked-seen, walked-new, kind, phase_fits}
+use Rattle.rv_fold.proofs.Walking.{Seen, each_walk, none, total, walked, phase_fits}
 use Rattle.rv_fold.proofs.Joining.{folded_walked, joined_at, restarted_here}
 use Rattle.rv_fold.proofs.Neighbours.{Tidy, neighbours, walked_tidy}
 use Rattle.rv_fold.proofs.Restarts.{restarts_least}

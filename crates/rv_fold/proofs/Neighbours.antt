@@ -1,7 +1,7 @@
 -- What folding leaves: of joinable places, one writes a class with the other.
 use Rattle.std.proofs.Common.{◌≡◌, ℕ, suc, ◌+◌, ◌-◌, ◌%◌, ◌<◌, ◌≤◌, true, Some, None, List, [], ◌∷◌, ◌++◌, refl, sym, ap, ◌∙◌, arith, subst, inl, inr, ◌⊎◌}
 use Rattle.std.specs.Prelude.{slice_get}
-use Rattle.std.proofs.lemmas.Bool.{cases_Bool, cases_eq, and_from, or_left, false≢true}
+use Rattle.std.proofs.lemmas.Bool.{cases_eq, and_from, or_left, false≢true}
 use Rattle.std.proofs.lemmas.Option.{same_Some, none-some}
 use Rattle.rv_net.specs.declared.op.Op.{Op}
 use Rattle.rv_net.specs.declared.op.Op.TheVariants.{Z, S, T}
@@ -10,7 +10,7 @@ use Rattle.rv_fold.specs.Folded.{Kept, PhaseGate, WritesClass, phase_gate, phase
 use Rattle.rv_fold.proofs.Joining.{Joined, IsRest, rest_head, rest_tail, parities_next, restarted_here, some_parity_here, no_parity_here, phase_parities_next}
 use Rattle.rv_fold.proofs.Settled.{lacks-walked, none_other}
 use Rattle.rv_fold.proofs.Turning.{BelowEight, below_eight}
-use Rattle.rv_fold.proofs.Walking.{Seen, each_walk, only, joined, survivors, restarts, walked, total, kind, walked-none, walked-seen, walked-new, same_parity-refl, Lacks}
+use Rattle.rv_fold.proofs.Walking.{Seen, each_walk, only, joined, survivors, restarts, walked, total, kind, same_parity-refl, Lacks}
 
 module _ (n : ℕ) where
   -- the rest lacks the parity of a phase gate, or has it once, in the T that ends the gate's class
