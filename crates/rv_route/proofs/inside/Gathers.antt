@@ -1,10 +1,10 @@
 -- The positions that pass a test gather: the moves lead them to a block of positions, and no others there.
 use Rattle.std.proofs.Common.{◌≡◌, ℕ, zero, suc, ◌+◌, ◌-◌, ◌<◌, ◌≤◌, ◌⊎◌, Bool, true, false, cond, List, [], ◌∷◌, ◌++◌, length, get_or, take, drop, refl, sym, ◌∙◌, ap, inl, inr, arith, subst, add-one}
-use Rattle.std.proofs.lemmas.Bool.{cases_eq, cases_lt, false≢true}
+use Rattle.std.proofs.lemmas.Bool.{cases_eq, false≢true}
 use Rattle.std.specs.List.{filter, range_with_len}
 use Rattle.rv_route.specs.Moves.{swaps_up, swaps_down, moves_up, moves_down, middle, gathering}
 use Rattle.rv_route.specs.inside.Standing.{AreAscending, shifted}
-use Rattle.rv_route.proofs.inside.Moving.{travels, travels-append, travels_rise, travels_fall, shifted-at, shifted-below, shifted-above, shifted-up, shifted-down}
+use Rattle.rv_route.proofs.inside.Moving.{travels, travels-append, travels_rise, travels_fall, shifted-at, shifted-below, shifted-above, shifted-down}
 
 AreAscending-weaker : (low n : ℕ) (ps : List ℕ) → AreAscending (low + 1) n ps → AreAscending low n ps
 AreAscending-weaker low n [] h = tt

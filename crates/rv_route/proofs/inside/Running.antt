@@ -1,6 +1,6 @@
 -- The word on the positions is the word of the lines under the placement: before a gate and after it.
-use Rattle.std.proofs.Common.{◌≡◌, ◌≢◌, ℕ, ◌+◌, ◌<◌, ◌≤◌, Bool, true, false, ◌||◌, eqb, List, [], ◌∷◌, length, get_or, map, set, All, refl, sym, ◌∙◌, ap, inl, inr, arith, ne_eqb, eq-eqb, subst, ext_get_or}
-use Rattle.std.proofs.lemmas.Bool.{cases_lt, false≢true, eqb-true, or_cases}
+use Rattle.std.proofs.Common.{◌≡◌, ◌≢◌, ℕ, ◌+◌, ◌<◌, ◌≤◌, Bool, true, false, eqb, List, [], ◌∷◌, length, get_or, map, set, All, refl, sym, ◌∙◌, ap, inl, inr, arith, ne_eqb, eq-eqb, subst, ext_get_or}
+use Rattle.std.proofs.lemmas.Bool.{cases_lt, false≢true, eqb-true}
 use Rattle.std.proofs.lemmas.List.{length-map, get_or-map, map-set, get_or_past}
 use Rattle.std.proofs.lemmas.List.Edits.{length-swap, swap_is}
 use Rattle.std.proofs.lemmas.List.Elements.{All-head, All-tail}

@@ -1,25 +1,25 @@
 -- One more line of a set, one more line home, one more gate.
-use Rattle.std.proofs.Common.{◌≡◌, ◌≢◌, ℕ, zero, suc, ◌+◌, ◌-◌, ◌<◌, ◌≤◌, Bool, true, false, cond, List, [], ◌∷◌, ◌++◌, ◌*◌, ◌^◌, ◌%◌, ◌||◌, eqb, eq-eqb, ne_eqb, bit_or, length, get_or, map, take, drop, refl, sym, ◌∙◌, ap, inl, inr, subst, arith, append_assoc, length-append, ext_get_or}
-use Rattle.std.proofs.lemmas.Bool.{cases_eq, eqb-true, or_cases, or_left, or_right}
-use Rattle.std.proofs.lemmas.List.{append-nil, drop_more, at_drop_all, length-map, length-take-le, get_or-take, get_or-map, get_or_past}
+use Rattle.std.proofs.Common.{◌≡◌, ℕ, zero, suc, ◌+◌, ◌-◌, ◌<◌, ◌≤◌, Bool, false, cond, List, [], ◌∷◌, ◌++◌, ◌*◌, ◌^◌, ◌%◌, ◌||◌, eqb, eq-eqb, ne_eqb, bit_or, length, get_or, map, take, drop, refl, sym, ◌∙◌, ap, inl, inr, subst, arith, append_assoc, length-append, ext_get_or}
+use Rattle.std.proofs.lemmas.Bool.{cases_eq}
+use Rattle.std.proofs.lemmas.List.{append-nil, drop_more, at_drop_all, length-map, length-take-le, get_or-take, get_or-map}
 use Rattle.std.proofs.lemmas.List.FromFn.{length-range_with_len, get_or-range_with_len}
 use Rattle.std.specs.List.{filter, range_with_len}
 use Rattle.rv_gate.proofs.Bits.{or_assoc, or_off}
-use Rattle.rv_gate.proofs.inside.Ones.{ones_of-is, has-ones_of}
-use Rattle.rv_gate.proofs.LowestLine.{IsLowest, none_left, still_there}
+use Rattle.rv_gate.proofs.inside.Ones.{ones_of-is}
+use Rattle.rv_gate.proofs.LowestLine.{IsLowest, none_left}
 use Rattle.rv_gate.proofs.LineSets.{has-or_one_shl}
 use Rattle.rv_gate.proofs.Ranges.{filter-suc}
 use Rattle.rv_gate.specs.Word.{has}
-use Rattle.rv_gate.specs.Gate.{touches, FitsIn, Within}
+use Rattle.rv_gate.specs.Gate.{touches}
 use Rattle.rv_gate.specs.declared.gate.Shape.{Shape}
 use Rattle.rv_route.specs.Placement.{home, position_of, positions_of, gate_on}
 use Rattle.rv_route.specs.Moves.{swaps_down, swapped, neighbours, gathering, touched_positions, way_home}
 use Rattle.rv_route.specs.Routed.{routed_from}
 use Rattle.rv_route.specs.declared.moves.Move.{Move}
-use Rattle.rv_route.specs.inside.Standing.{IsPlacement, Stands, AreAscending, shifted, swaps_by, swaps_of}
-use Rattle.rv_route.proofs.inside.Running.{stands, position_is, eqb-position, has-positions_of}
+use Rattle.rv_route.specs.inside.Standing.{IsPlacement, Stands, shifted, swaps_by, swaps_of}
+use Rattle.rv_route.proofs.inside.Running.{stands, eqb-position, has-positions_of}
 use Rattle.rv_route.proofs.inside.Gathers.{few}
-use Rattle.rv_route.proofs.inside.Routes.{IsPlacement-home, home_at, routed_none, routed_first, AreHome, one_home, gathers}
+use Rattle.rv_route.proofs.inside.Routes.{IsPlacement-home, home_at, routed_none, routed_first, AreHome, one_home}
 use Rattle.rv_route.proofs.inside.Shifts.{swapped_none, swapped-append}
 use Rattle.rv_route.proofs.inside.Moving.{swaps_of-down, swaps_by_none, Stands-first, Stands-moved, place_of}
 
@@ -94,13 +94,16 @@ pub Stands-home : (n m : ℕ) → n ≤ m → (length (take n (home m)) ≡ n) �
 Stands-home n m le =
     let i = IsPlacement-home n in
     let len : length (home n) ≡ n = i.len in
-    rw (take_home n m le) (len, record {
-      placement = rw len i;
-      at = λ line lt.
-          (let l : line < n = omega (arith, len) in
-          let w = stands n (home n) i line l in
-          home_at n line l ∙ sym w.1 ∙ home_at n (position_of (home n) line) w.0);
-    })
+    rw (take_home n m le) (
+      len,
+      record {
+        placement = rw len i;
+        at = λ line lt.
+            (let l : line < n = omega (arith, len) in
+            let w = stands n (home n) i line l in
+            home_at n line l ∙ sym w.1 ∙ home_at n (position_of (home n) line) w.0);
+      },
+    )
 
 -- the lines before l are home, and the others are to go
 pub record Going (n l : ℕ) (s places : List ℕ) (moves : List Move) : Type 0 where

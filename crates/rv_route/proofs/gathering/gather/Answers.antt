@@ -1,4 +1,4 @@
-use Rattle.std.proofs.Common.{arith, length}
+use Rattle.std.proofs.Common.{length}
 use Rattle.rv_route.proofs.inside.Moving.{AreAscending-wider}
 use Rattle.rv_route.proofs.gathering.gather.Goals as goal
 

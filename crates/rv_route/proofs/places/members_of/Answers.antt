@@ -1,4 +1,4 @@
-use Rattle.std.proofs.Common.{arith, length}
+use Rattle.std.proofs.Common.{arith}
 use Rattle.std.proofs.lemmas.Grind.{common_steps}
 use Rattle.rv_gate.specs.Word.{has}
 use Rattle.rv_gate.proofs.Ranges.{filter-suc}

@@ -1,5 +1,4 @@
-use Rattle.std.proofs.Common.{ℕ, List, length, ◌∙◌, sym, subst, ◌<◌}
-use Rattle.rv_route.specs.inside.Standing.{AreAscending}
+use Rattle.std.proofs.Common.{length, ◌∙◌}
 use Rattle.rv_route.proofs.inside.Routes.{Gathers, gathers}
 use Rattle.rv_route.proofs.inside.Steps.{touched_all}
 use Rattle.rv_route.proofs.places.touched_positions.Goals as goal

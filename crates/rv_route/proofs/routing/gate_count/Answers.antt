@@ -1,10 +1,9 @@
-use Rattle.std.proofs.Common.{◌≡◌, ℕ, ◌+◌, ◌*◌, ◌^◌, ◌<◌, ◌≤◌, List, length, take, drop, ap, ◌∙◌, sym, subst, arith, refl}
+use Rattle.std.proofs.Common.{ℕ, ◌+◌, ◌*◌, ◌^◌, ◌<◌, ◌≤◌, List, length, drop, ap, ◌∙◌, arith, refl}
 use Rattle.std.proofs.lemmas.List.{length-map}
-use Rattle.std.proofs.lemmas.List.FromFn.{length-range_with_len}
 use Rattle.rv_route.specs.Placement.{home, gate_on}
 use Rattle.rv_route.specs.Moves.{neighbours, swapped}
 use Rattle.rv_route.specs.Routed.{routed_from}
-use Rattle.rv_route.specs.inside.Standing.{Stands, swaps_by}
+use Rattle.rv_route.specs.inside.Standing.{swaps_by}
 use Rattle.rv_route.proofs.inside.Steps.{Stands-home, homeward, routed_next, length_routed}
 use Rattle.rv_route.proofs.routing.gate_count.Goals as goal
 

@@ -1,9 +1,8 @@
-use Rattle.std.proofs.Common.{◌≡◌, ℕ, List, length, map, take, ◌++◌, ◌∷◌, [], ap, ◌∙◌, sym, subst, refl}
-use Rattle.std.proofs.lemmas.List.FromFn.{length-range_with_len}
+use Rattle.std.proofs.Common.{ℕ, List, map, ◌++◌, ◌∷◌, [], ap, ◌∙◌, sym, refl}
 use Rattle.rv_route.specs.Placement.{home}
 use Rattle.rv_route.specs.Moves.{neighbours, swapped}
 use Rattle.rv_route.specs.Routed.{routed_from}
-use Rattle.rv_route.specs.inside.Standing.{Stands, swaps_by}
+use Rattle.rv_route.specs.inside.Standing.{swaps_by}
 use Rattle.rv_route.proofs.inside.Steps.{Stands-home, homeward, routed_next, pushed_gates}
 use Rattle.rv_route.proofs.routing.routed_gates.Goals as goal
 
