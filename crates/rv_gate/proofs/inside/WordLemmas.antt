@@ -157,16 +157,10 @@ pub still_there : (on : Bool) (word : List Bool) (line other : ℕ) → other < 
 still_there on word line other lt = omega (arith, length-turned_if on word line)
 
 beq_not : (x y : Bool) → not (beq x y) ≡ true → y ≡ not x
-beq_not true true e = absurd (false≢true e)
-beq_not true false e = refl
-beq_not false true e = refl
-beq_not false false e = absurd (false≢true e)
+beq_not x y h = grind arith
 
 beq_same : (x y : Bool) → not (beq x y) ≡ false → x ≡ y
-beq_same true true e = refl
-beq_same true false e = absurd (false≢true (sym e))
-beq_same false true e = absurd (false≢true (sym e))
-beq_same false false e = refl
+beq_same x y h = grind arith
 
 -- an exchange of two lines changes both where they differ
 exchanged_same : (word : List Bool) (a b : ℕ) → bit_of word a ≡ bit_of word b → exchanged word a b ≡ word

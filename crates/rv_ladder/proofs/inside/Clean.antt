@@ -52,8 +52,7 @@ through-first k x a b z lz az bz =
     ∙ ap (λ p. doubled 1 (times_w_power p (k (set x z (xor (bit x a && bit x b) (bit x z)))))) (let e : 0 + level (bit x a) (bit x b) (bit x z) ≡ level (bit x a) (bit x b) (bit x z) = omega arith in e)
 
 and_true : (x : Bool) → x ≡ (x && true)
-and_true true = refl
-and_true false = refl
+and_true x = grind arith
 
 -- two flips up to powers of w round another network, where the powers cancel
 outside : (m p q : ℕ) (u : Cyclotomic) → times_w_power p (times_w_power q u) ≡ u → doubled 1 (times_w_power p (doubled m (doubled 1 (times_w_power q u)))) ≡ doubled (suc (m + 1)) u

@@ -3,6 +3,7 @@ use Rattle.std.proofs.Common.{◌≡◌, ◌≢◌, ℕ, suc, ◌+◌, ◌*◌, 
 use Rattle.std.proofs.lemmas.List.{set_comm, set-get_or}
 use Rattle.rv_gate.specs.Gate.{same}
 use Rattle.rv_gate.specs.Word.{has}
+use Rattle.rv_gate.proofs.Bits.{not_not}
 use Rattle.rv_mct.specs.Blocks.{control}
 use Rattle.rv_mct.specs.declared.control.Control.{Control}
 use Rattle.rv_mct.specs.inside.LadderLines.{Distinct, Every, In}
@@ -124,12 +125,10 @@ one-same : (c : Control) (x : Word) → c.line < length x → bit (one_flipped c
 one-same c x lt = go c.wanted
   where
     at : (b : Bool) → b ≡ same b true
-    at true = refl
-    at false = refl
+    at b = grind arith
 
     off : (b : Bool) → not b ≡ same b false
-    off true = refl
-    off false = refl
+    off b = grind arith
 
     go : (w : Bool) → bit (cond w x (set x c.line (not (bit x c.line)))) c.line ≡ same (bit x c.line) w
     go true = at (bit x c.line)
@@ -138,15 +137,11 @@ one-same c x lt = go c.wanted
 one-one : (c : Control) (x : Word) → c.line < length x → one_flipped c (one_flipped c x) ≡ x
 one-one c x lt = go c.wanted
   where
-    back : (b : Bool) → not (not b) ≡ b
-    back true = refl
-    back false = refl
-
     go : (w : Bool) → cond w (cond w x (set x c.line (not (bit x c.line)))) (set (cond w x (set x c.line (not (bit x c.line)))) c.line (not (bit (cond w x (set x c.line (not (bit x c.line)))) c.line))) ≡ x
     go true = refl
     go false =
         ap (λ b. set (set x c.line (not (bit x c.line))) c.line (not b)) (get_or-set_same x c.line _ false lt)
-        ∙ set-set x c.line _ _ ∙ ap (set x c.line) (back (bit x c.line)) ∙ set-get_or x c.line false
+        ∙ set-set x c.line _ _ ∙ ap (set x c.line) (not_not (bit x c.line)) ∙ set-get_or x c.line false
 
 -- the second of two controls on different lines may be flipped first
 one-comm : (c d : Control) (x : Word) → c.line ≢ d.line → one_flipped d (one_flipped c x) ≡ one_flipped c (one_flipped d x)

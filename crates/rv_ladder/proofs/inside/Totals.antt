@@ -73,12 +73,10 @@ zero_cut care want line h free =
     (λ x. has care x && not (has want x)) MOST_LINES (λ x lt. at x)
   where
     alone : (b : Bool) → cond {A = ℕ} b 1 0 + 0 ≡ cond b 1 0
-    alone true = refl
-    alone false = refl
+    alone b = grind arith
 
     nothing : (b : Bool) → cond {A = ℕ} (b && not true) 1 0 ≡ 0
-    nothing true = refl
-    nothing false = refl
+    nothing b = grind arith
 
     below_one : (x : ℕ) → x ≡ h → cond {A = ℕ} (has (below care line) x && not (has (below want line) x)) 1 0 ≡ 0
     below_one x e =
