@@ -1,6 +1,6 @@
 // Where the classes of phases begin.
 ghost use Rattle.std.specs.Prelude.{◌≡◌, ◌↔◌, ℕ, ◌+◌, ◌^◌, ◌<◌, ◌≤◌, Some, List, length, slice_index, if◌then◌else◌};
-ghost use Rattle.std.specs.Prelude.{All, IsTrue, IfOk, OnOk};
+ghost use Rattle.std.specs.Prelude.{All, IsTrue, IfOk};
 ghost use Rattle.rv_gate.specs.Word.{has};
 ghost use Rattle.rv_gate.specs.declared.word.TheConstants.{MOST_LINES};
 
@@ -58,12 +58,9 @@ impl Classes {
 
     /// The place where the class of a phase gate begins, by the parity on its line: its own place, if it is the first.
     pub(crate) fn first(&mut self, parity: Parity, place: usize) -> Result<usize, AllocError>
-        ensures first { IfOk result (λ first. (n : ℕ) (ops : List Op) → All (λ op. OpFitsIn op n) ops
+        ensures { IfOk result (λ first. (n : ℕ) (ops : List Op) → All (λ op. OpFitsIn op n) ops
             → AreClasses n ops place self.old → parity_at n ops place ≡ Some parity
-            → StartsAt n ops place parity first) }
-        ensures classes { OnOk result ((n : ℕ) (ops : List Op) → All (λ op. OpFitsIn op n) ops
-            → AreClasses n ops place self.old → parity_at n ops place ≡ Some parity
-            → AreClasses n ops (place + 1) self.new) }
+            → StartsAt n ops place parity first × AreClasses n ops (place + 1) self.new) }
     {
         if let Some(first) = self.firsts.look_up(parity) {
             if self.is_kept(parity.lines, first) {
