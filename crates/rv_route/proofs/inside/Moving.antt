@@ -264,16 +264,14 @@ moves_down_none bottom = refl
 pub one_up : (ps : List ℕ) (m j c to : ℕ) → 0 < j → j ≤ m → m ≤ length ps → to ≡ c - (m - (j - 1)) → get_or ps (j - 1) 0 ≤ to
     → moves_up (drop (j - 1) (take m ps)) c ≡ moves_up (drop j (take m ps)) c ++ swaps_of (get_or ps (j - 1) 0) to
 one_up ps m j c to some le few is up =
-    let xs : List ℕ = take m ps in
-    let len : length xs ≡ m = length-take-le m ps few in
-    let rest = length-drop j xs in
+    let len : length (take m ps) ≡ m = length-take-le m ps few in
+    let rest = length-drop j (take m ps) in
+    let cut = drop_more (take m ps) (j - 1) 0 (omega arith) in
     let back : j - 1 + 1 ≡ j = omega arith in
-    let there : c - suc (length (drop j xs)) ≡ to = omega arith in
-    ap (λ l. moves_up l c) (drop_more xs (j - 1) 0 (omega arith) ∙ ap (λ k. get_or xs (j - 1) 0 ∷ drop k xs) back)
-    ∙ moves_up_first (get_or xs (j - 1) 0) c (drop j xs)
-    ∙ ap (λ p. moves_up (drop j xs) c ++ swaps_up p (c - suc (length (drop j xs)))) (get_or-take m ps (j - 1) 0 (omega arith))
-    ∙ ap (λ k. moves_up (drop j xs) c ++ swaps_up (get_or ps (j - 1) 0) k) there
-    ∙ ap (λ l. moves_up (drop j xs) c ++ l) (sym (swaps_of-up (get_or ps (j - 1) 0) to up))
+    let there : c - suc (length (drop j (take m ps))) ≡ to = omega arith in
+    let read = get_or-take m ps (j - 1) 0 (omega arith) in
+    let is = swaps_of-up (get_or ps (j - 1) 0) to up in
+    grind (arith, moves_up_first)
 
 pub up_start : (ps : List ℕ) (m c : ℕ) → moves_up (drop m (take m ps)) c ≡ []
 up_start ps m c = at_drop_all (λ l. moves_up l c) (take m ps) m (omega (arith, length-take m ps)) ∙ moves_up_none c
@@ -287,8 +285,7 @@ AreMoves-more n moves next m e lf lt are =
 pub one_down : (ps : List ℕ) (j b : ℕ) → j < length ps → b + 1 ≤ get_or ps j 0
     → moves_down (drop j ps) b ≡ swaps_of (get_or ps j 0) (b + 1) ++ moves_down (drop (j + 1) ps) (b + 1)
 unfolding moves_down
-one_down ps j b lt down =
-    ap (λ l. moves_down l b) (drop_more ps j 0 lt) ∙ ap (λ l. l ++ moves_down (drop (j + 1) ps) (b + 1)) (sym (swaps_of-down (get_or ps j 0) (b + 1) down))
+one_down ps j b lt down = rw (drop_more ps j 0 lt, swaps_of-down (get_or ps j 0) (b + 1) down) refl
 
 pub AreAscending-wider : (low n m : ℕ) (ps : List ℕ) → n ≤ m → AreAscending low n ps → AreAscending low m ps
 AreAscending-wider low n m [] le h = tt

@@ -116,11 +116,7 @@ pub home_next : (n l : ℕ) (now next all s t : List ℕ) → l < n → now ++ w
 unfolding way_home
 home_next n l now next all s t lt so_far added made =
     let e : n - l ≡ suc (n - (l + 1)) = omega arith in
-    let ps : List ℕ = swaps_down (position_of s l) l in
-    let others : List ℕ = range_with_len (l + 1) (n - (l + 1)) in
-    let cut : way_home (range_with_len l (n - l)) s ≡ ps ++ way_home others (swapped ps s) = ap (λ k. way_home (range_with_len l k) s) e in
-    ap (λ l2. l2 ++ way_home others t) added ∙ append_assoc now ps (way_home others t) ∙ ap (λ u. now ++ (ps ++ way_home others u)) made
-    ∙ ap (λ l2. now ++ l2) (sym cut) ∙ so_far
+    grind (arith, append_assoc, way_home, range_with_len)
 
 pub home_end : (n l : ℕ) (s now all : List ℕ) → n ≤ l → now ++ way_home (range_with_len l (n - l)) s ≡ all → now ≡ all
 unfolding way_home

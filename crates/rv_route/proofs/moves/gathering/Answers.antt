@@ -65,13 +65,10 @@ loop-j-2-preserved c =
     let b : ℕ = get_or ps m 0 + (j - m - 1) in
     let next : get_or ps m 0 + (j + 1 - m - 1) ≡ b + 1 = omega arith in
     let to : b + 1 ≡ get_or ps m 0 + (j - m) = omega arith in
-    let rest : List ℕ = moves_down (drop (j + 1) ps) (b + 1) in
+    let more = swaps_by-more _ _ _ c.push-in-loop-j-2.ensures.items in
+    let one = one_down ps j b c.loop-j-2-test.true (omega arith) in
     record {
-      swaps = ap (λ k. swaps_by c.push-in-loop-j-2.new.self.items ++ moves_down (drop (j + 1) ps) k) next
-          ∙ ap (λ l. l ++ rest) (swaps_by-more _ _ _ c.push-in-loop-j-2.ensures.items)
-          ∙ append_assoc (swaps_by c.loop-j-2.moves.items) (swaps_of (get_or ps j 0) (get_or ps m 0 + (j - m))) rest
-          ∙ ap (λ k. swaps_by c.loop-j-2.moves.items ++ (swaps_of (get_or ps j 0) k ++ rest)) (sym to)
-          ∙ ap (λ l. swaps_by c.loop-j-2.moves.items ++ l) (sym (one_down ps j b c.loop-j-2-test.true (omega arith))) ∙ i.swaps;
+      swaps = grind (arith, append_assoc, more, one, i.swaps);
       within = λ n h. (let last = ascending_below 0 n j ps c.loop-j-2-test.true h in
           AreMoves-more n _ _ _ c.push-in-loop-j-2.ensures.items last (omega arith) (i.within n h));
       len = omega arith;
