@@ -1,8 +1,6 @@
-use Rattle.std.proofs.Common.{arith, ℕ, get_or, List, ◌++◌, map, take, sym, ap, ◌∙◌, append_assoc}
+use Rattle.std.proofs.Common.{arith, ◌++◌, map, sym, ap, ◌∙◌, append_assoc}
 use Rattle.std.proofs.lemmas.List.{append-nil, map-append}
 use Rattle.rv_route.specs.Moves.{neighbours}
-use Rattle.rv_route.specs.declared.moves.Move.{Move}
-use Rattle.rv_route.specs.inside.Standing.{swaps_by, swaps_of}
 use Rattle.rv_route.proofs.inside.Moving.{swaps_by-next, swaps_by_none}
 use Rattle.rv_route.proofs.moves.push_moves.Goals as goal
 
