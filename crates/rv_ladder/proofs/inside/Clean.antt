@@ -15,12 +15,9 @@ use Rattle.rv_mct.proofs.inside.Ladders.{Zeros, higher, met as met_one, met_all,
 use Rattle.rv_mct.proofs.inside.LongFlips.{act_put, clean_divided, distinct_rising, in_range, in_rising, length-rising, every_from}
 use Rattle.rv_net.specs.declared.op.Op.{Op}
 use Rattle.rv_net.specs.declared.op.Op.TheVariants.{Cx}
-use Rattle.rv_net.specs.Amplitude.{count_h}
 use Rattle.rv_net.specs.Cyclotomic.{Cyclotomic, plus, times_w_power, doubled}
-use Rattle.rv_net.specs.Network.{toffoli}
 use Rattle.rv_net.proofs.Step.{Word, bit}
 use Rattle.rv_net.proofs.Frame.{through, through-append}
-use Rattle.rv_net.proofs.inside.Network.{count_h-append}
 use Rattle.rv_net.proofs.Toffoli.{through-toffoli}
 use Rattle.rv_ladder.specs.Ladder.{clean_flip, clean_over, lines_of, rung, zeros}
 use Rattle.rv_ladder.specs.inside.Moved.{level}

@@ -9,7 +9,7 @@ use Rattle.rv_mct.specs.declared.control.Control.{Control}
 use Rattle.rv_mct.specs.inside.LadderLines.{Distinct, Every, In}
 use Rattle.rv_mct.proofs.inside.Ladders.{met as met_one, put, off_on}
 use Rattle.rv_net.specs.declared.op.Op.{Op}
-use Rattle.rv_net.specs.declared.op.Op.TheVariants.{X, H, Cx}
+use Rattle.rv_net.specs.declared.op.Op.TheVariants.{X}
 use Rattle.rv_net.specs.Amplitude.{count_h}
 use Rattle.rv_net.specs.Cyclotomic.{Cyclotomic, times_w_power, doubled}
 use Rattle.rv_net.specs.Network.{on_zero, toffoli}
@@ -17,7 +17,7 @@ use Rattle.rv_net.proofs.Step.{Word, bit}
 use Rattle.rv_net.proofs.Frame.{through, through-append}
 use Rattle.rv_net.proofs.inside.Network.{count_h-append}
 use Rattle.rv_net.proofs.Toffoli.{through-toffoli}
-use Rattle.rv_ladder.specs.Ladder.{borrowed_flip, down, half, quarter_back, rung, zeros}
+use Rattle.rv_ladder.specs.Ladder.{borrowed_flip, zeros}
 use Rattle.rv_ladder.specs.inside.Moved.{Divides, met}
 use Rattle.rv_ladder.proofs.Counting.{hadamards-are}
 use Rattle.rv_ladder.proofs.inside.Fitting.{Fit, fit_append, fit_borrowed, fit_zeros}
