@@ -54,8 +54,16 @@ module _ (counted : Counted) (m : List Op → ℕ) (steps : ℕ) (path : ℕ →
       let back : List Op = quarter_back c h t in
       let one : List Op = H t ∷ [] in
       let n : length more + 3 ≡ length (c ∷ more) + 2 = omega arith in
-      omega (arith, p.append first (V ++ (back ++ (V ++ one))), p.append V (back ++ (V ++ one)), p.append back (V ++ one), p.append V one,
-          of_down a b more hs h (omega (arith, e)), p.ends c h t (length more), ap counted.borrowed n)
+      omega (
+        arith,
+        p.append first (V ++ (back ++ (V ++ one))),
+        p.append V (back ++ (V ++ one)),
+        p.append back (V ++ one),
+        p.append V one,
+        of_down a b more hs h (omega (arith, e)),
+        p.ends c h t (length more),
+        ap counted.borrowed n,
+      )
 
   of_clean : (a b : ℕ) (cs hs : List ℕ) (t : ℕ) → length cs ≡ length hs → m (clean_flip a b cs hs t) ≡ counted.clean (length cs + 2)
   unfolding clean_flip
