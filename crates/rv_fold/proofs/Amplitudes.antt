@@ -1,5 +1,5 @@
 -- Folding keeps every amplitude.
-use Rattle.std.proofs.Common.{◌≡◌, ℕ, ◌+◌, ◌%◌, Bool, true, false, cond, ◌&&◌, Some, List, [], ◌∷◌, length, refl, sym, ap, ap₂, ◌∙◌, arith, inl, inr}
+use Rattle.std.proofs.Common.{◌≡◌, ℕ, ◌+◌, ◌%◌, Bool, true, false, cond, Some, List, [], ◌∷◌, length, refl, sym, ap, ap₂, ◌∙◌, arith, inl, inr}
 use Rattle.std.proofs.lemmas.Bool.{cases_Bool, and_parts}
 use Rattle.rv_net.specs.declared.op.Op.{Op}
 use Rattle.rv_net.specs.Op.{OpFitsIn}
@@ -12,7 +12,7 @@ use Rattle.rv_fold.specs.Folded.{phase_gate, phase_ops, exponent_of, PhaseGate}
 use Rattle.rv_fold.proofs.Values.{Holds, value, holds-next, holds-start, length-next, value-held}
 use Rattle.rv_fold.proofs.Restarts.{restarts_least}
 use Rattle.rv_fold.proofs.Turning.{step-next, step-turn, turns_add, turns_mod, no_turn, below_eight, phases-step}
-use Rattle.rv_fold.proofs.Walking.{Seen, only, none, joined, survivors, restarts, owed, walked, exponents, total, kind, owed-none, owed-some, owed-joined, owed-same, owed-worthless, owed-nothing, walked-none, walked-seen, walked-new, same_parity-eq, each_gate, phase_fits}
+use Rattle.rv_fold.proofs.Walking.{Seen, not_seen, only, none, joined, survivors, restarts, owed, walked, exponents, total, kind, owed-none, owed-some, owed-joined, owed-same, owed-worthless, owed-nothing, walked-none, walked-seen, walked-new, same_parity-eq, each_gate, phase_fits}
 
 pub phase-step : (o : Op) (p : PhaseGate) → phase_gate o ≡ Some p → (k : Word → Cyclotomic) (x : Word) → step o k x ≡ times_w_power (cond (bit x p.line) p.exponent 0) (k x)
 phase-step o p e k x =
@@ -81,7 +81,7 @@ module _ (n : ℕ) where
                   ap (times_w_power (cond b p.exponent 0))
                   (walked-law rest (joined (only f) seen) parities k v x w.1 e hold
                   ∙ ap (λ m. times_w_power m u)
-                  (owed-joined (turn n v) n (only f) seen parities rest (λ g. apart f seen new g)
+                  (owed-joined (turn n v) n (only f) seen parities rest (not_seen f seen new)
                   ∙ ap (λ m. m + w') (owed-turn v f parities rest ∙ ap (λ c. cond c t 0) (sym is))))
                   ∙ split_turn b p.exponent t w' u
                   ∙ ap₂ times_w_power
@@ -91,12 +91,6 @@ module _ (n : ℕ) where
                   ∙ sym (through-append (phase_ops p.line ((p.exponent + t) % 8)) (walked n (joined (only f) seen) parities rest) k x)
                   ∙ ap (λ l. through l k x) (sym (walked-new n seen parities o rest p q.1 new))))
             ]))
-      ]
-    where
-      apart : (f : Parity) (seen' : Seen) → seen' f ≡ false → (g : Parity) → (only f g && seen' g) ≡ false
-      apart f seen' new g = elim (cases_Bool (only f g)) [
-        | inl s ↦ (ap (λ b. b && seen' g) s ∙ ap seen' (sym (same_parity-eq f g s)) ∙ new)
-        | inr d ↦ ap (λ b. b && seen' g) d
       ]
 
   amp-through : (ops : List Op) (x y : Word) → amp ops x y ≡ through ops (λ z. delta z y) x

@@ -1,15 +1,15 @@
 -- Folding raises no count of operations, and keeps that of H.
-use Rattle.std.proofs.Common.{◌≡◌, ℕ, ◌+◌, ◌%◌, ◌≤◌, Bool, true, false, cond, ◌&&◌, Some, List, [], ◌∷◌, ◌++◌, length, refl, sym, ap, ◌∙◌, arith, inl, inr}
+use Rattle.std.proofs.Common.{◌≡◌, ℕ, ◌+◌, ◌%◌, ◌≤◌, Bool, true, false, cond, Some, List, [], ◌∷◌, ◌++◌, length, refl, sym, ap, ◌∙◌, arith, inl, inr}
 use Rattle.std.specs.Prelude.{count_by}
-use Rattle.std.proofs.lemmas.Bool.{cases_Bool, cases_eq}
+use Rattle.std.proofs.lemmas.Bool.{cases_eq}
 use Rattle.std.proofs.lemmas.List.Sums.{sum_by-cons}
 use Rattle.rv_net.specs.declared.op.Op.{Op}
 use Rattle.rv_net.specs.Amplitude.{count_h}
 use Rattle.rv_net.specs.Op.{is_t}
-use Rattle.rv_fold.specs.Parities.{Parities, alone, parities_after, Parity}
+use Rattle.rv_fold.specs.Parities.{Parities, alone, parities_after}
 use Rattle.rv_fold.specs.Folded.{phase_gate, phase_ops, exponent_of, PhaseGate}
 use Rattle.rv_fold.proofs.Turning.{BelowEight, below_eight}
-use Rattle.rv_fold.proofs.Walking.{Seen, only, none, joined, survivors, restarts, owed, walked, exponents, total, kind, owed-none, owed-some, owed-joined, walked-none, walked-seen, walked-new, same_parity-eq, each_gate}
+use Rattle.rv_fold.proofs.Walking.{Seen, each_walk, not_seen, only, none, joined, survivors, restarts, owed, walked, exponents, total, kind, owed-none, owed-some, owed-joined, each_gate}
 
 -- the sum of the weights of operations
 unfoldable pub cost : (Op → ℕ) → List Op → ℕ
@@ -45,40 +45,20 @@ module _ (w : Op → ℕ) (spared : IsSpared w) (n : ℕ) where
 
   -- the walk's result, with what is left out of it
   pub walked-cost : (seen : Seen) (parities : Parities) (rest : List Op) → cost w (walked n seen parities rest) + owed (λ g o. w o) n seen parities rest ≤ cost w rest
-  unfolding walked owed cost
-  walked-cost seen parities [] = omega arith
-  walked-cost seen parities (o ∷ rest) =
-      elim (kind (phase_gate o)) [
-        | inl e ↦
-            (let ih = walked-cost (survivors (restarts n o parities) seen) (parities_after n o parities) rest in
-            let a = ap (cost w) (walked-none n seen parities o rest e) in
-            let b = owed-none (λ g o. w o) n seen parities o rest e in
-            omega arith)
-        | inr p ↦
-            (let f : Parity = parities p.0.line in
-            let b = owed-some (λ g o. w o) n seen parities o rest p.0 p.1 in
-            elim (cases_Bool (seen f)) [
-              | inl old ↦
-                  (let ih = walked-cost seen parities rest in
-                  let a = ap (cost w) (walked-seen n seen parities o rest p.0 p.1 old) in
-                  let c = ap (λ t. cond t (w o) 0) old in
-                  omega arith)
-              | inr new ↦
-                  (let ih = walked-cost (joined (only f) seen) parities rest in
-                  let a = ap (cost w) (walked-new n seen parities o rest p.0 p.1 new) ∙ cost-append w (phase_ops p.0.line ((p.0.exponent + total n f parities rest) % 8)) (walked n (joined (only f) seen) parities rest) in
-                  let c = ap (λ t. cond t (w o) 0) new in
-                  let d = owed-joined (λ g o. w o) n (only f) seen parities rest (λ g. apart f new g) in
-                  let k = class_cost p.0.line (only f) parities rest in
-                  let l = spared o p.0 p.1 p.0.line (total n f parities rest) in
-                  omega arith)
-            ])
-      ]
-    where
-      apart : (f : Parity) → seen f ≡ false → (g : Parity) → (only f g && seen g) ≡ false
-      apart f new g = elim (cases_Bool (only f g)) [
-        | inl s ↦ (ap (λ b. b && seen g) s ∙ ap seen (sym (same_parity-eq f g s)) ∙ new)
-        | inr d ↦ ap (λ b. b && seen g) d
-      ]
+  unfolding owed cost
+  walked-cost = each_walk n (λ s f rest l. cost w l + owed (λ g o. w o) n s f rest ≤ cost w rest) (record {
+    end = λ s f. omega arith;
+    other = λ s f o rest e ih. (let b = owed-none (λ g o. w o) n s f o rest e in omega arith);
+    old = λ s f o rest p e old ih. (let b = owed-some (λ g o. w o) n s f o rest p e in let c = ap (λ t. cond t (w o) 0) old in omega arith);
+    new = λ s f o rest p e new ih.
+        (let b = owed-some (λ g o. w o) n s f o rest p e in
+        let c = ap (λ t. cond t (w o) 0) new in
+        let a = cost-append w (phase_ops p.line ((p.exponent + total n (f p.line) f rest) % 8)) (walked n (joined (only (f p.line)) s) f rest) in
+        let d = owed-joined (λ g o. w o) n (only (f p.line)) s f rest (not_seen (f p.line) s new) in
+        let k = class_cost p.line (only (f p.line)) f rest in
+        let l = spared o p e p.line (total n (f p.line) f rest) in
+        omega arith);
+  })
 
   pub walked-cheaper : (ops : List Op) → cost w (walked n none alone ops) ≤ cost w ops
   walked-cheaper ops = let a = walked-cost none alone ops in omega arith
@@ -165,18 +145,9 @@ unfolding count_h
 h_phases q m h rest = grind arith
 
 pub walked-h : (n : ℕ) (seen : Seen) (parities : Parities) (rest : List Op) → count_h (walked n seen parities rest) ≡ count_h rest
-unfolding walked
-walked-h n seen parities [] = refl
-walked-h n seen parities (o ∷ rest) =
-    elim (kind (phase_gate o)) [
-      | inl e ↦ (ap count_h (walked-none n seen parities o rest e) ∙ h_same o _ _ (walked-h n (survivors (restarts n o parities) seen) (parities_after n o parities) rest))
-      | inr p ↦
-          (elim (cases_Bool (seen (parities p.0.line))) [
-            | inl old ↦ (ap count_h (walked-seen n seen parities o rest p.0 p.1 old) ∙ walked-h n seen parities rest)
-            | inr new ↦
-                (ap count_h (walked-new n seen parities o rest p.0 p.1 new)
-                ∙ h_phases p.0.line ((p.0.exponent + total n (parities p.0.line) parities rest) % 8) (below_eight _ (omega arith)) _
-                ∙ walked-h n (joined (only (parities p.0.line)) seen) parities rest)
-          ]
-          ∙ sym (h_phase o p.0 rest p.1))
-    ]
+walked-h n = each_walk n (λ s f rest l. count_h l ≡ count_h rest) (record {
+  end = λ s f. refl;
+  other = λ s f o rest e ih. h_same o _ _ ih;
+  old = λ s f o rest p e old ih. ih ∙ sym (h_phase o p rest e);
+  new = λ s f o rest p e new ih. h_phases p.line ((p.exponent + total n (f p.line) f rest) % 8) (below_eight _ (omega arith)) _ ∙ ih ∙ sym (h_phase o p rest e);
+})

@@ -1,6 +1,6 @@
 -- Joinable phases are an equivalence, and to fold them by classes is to walk.
 use Rattle.rv_gate.proofs.Bits.{same_bool}
-use Rattle.std.proofs.Common.{◌≡◌, ℕ, zero, suc, ◌+◌, ◌%◌, ◌<◌, Bool, true, false, cond, not, Option, Some, None, List, [], ◌∷◌, ◌++◌, length, refl, sym, ap, ap₂, ◌∙◌, arith, inl, inr, ◌⊎◌}
+use Rattle.std.proofs.Common.{◌≡◌, ℕ, zero, suc, ◌+◌, ◌%◌, ◌<◌, true, false, cond, not, Option, Some, None, List, [], ◌∷◌, ◌++◌, length, refl, sym, ap, ap₂, ◌∙◌, arith, inl, inr}
 use Rattle.std.specs.Prelude.{slice_get, IsSome}
 use Rattle.std.specs.Option.{option_map}
 use Rattle.std.proofs.lemmas.Bool.{cases_Bool, cases_lt, cases_eq, and_parts, and_from, or_left, or_right, or_cases, lt-ltb, false≢true, not_from_true, not_from_false, ltb-true}
@@ -10,7 +10,7 @@ use Rattle.rv_net.specs.declared.op.Op.{Op}
 use Rattle.rv_fold.specs.Parities.{alone, parities_after, are_apart, restart_set, same_parity, Parity}
 use Rattle.rv_fold.specs.Folded.{Kept, phase_gate, phase_ops, exponent_of, parities_at, restarted_at, phase_gate_at, parity_at, is_kept, has_parity, joins, joinable, IsEquivalence, sum_below, is_first, class_exponent, part, parts, folded, PhaseGate}
 use Rattle.rv_fold.proofs.Restarts.{apart_none, restart_none}
-use Rattle.rv_fold.proofs.Walking.{Seen, only, none, joined, survivors, restarts, owed, walked, exponents, total, kind, owed-none, owed-some, walked-none, walked-seen, walked-new, same_parity-eq, same_parity-refl, phase_after, phase_direct}
+use Rattle.rv_fold.proofs.Walking.{Seen, at_none, only, none, joined, survivors, restarts, owed, walked, exponents, total, kind, owed-none, owed-some, walked-none, walked-seen, walked-new, same_parity-eq, same_parity-refl, phase_after, phase_direct}
 
 -- ---- one operation at its place
 
@@ -70,13 +70,9 @@ module _ (n : ℕ) (ops : List Op) where
   eq-has_parity : (o : Option Parity) (f : Parity) → o ≡ Some f → has_parity o f ≡ true
   eq-has_parity o f e = ap (λ p. has_parity p f) e ∙ same_parity-refl f
 
-  parity_kind : (o : Option Parity) → (o ≡ None) ⊎ ((f : Parity) × (o ≡ Some f))
-  parity_kind None = inl refl
-  parity_kind (Some f) = inr (f, refl)
-
   pub joined_at : (i j : ℕ) → joinable n ops i j ≡ true → Joined i j
   joined_at i j h =
-      elim (parity_kind (parity_at n ops i)) [
+      elim (kind (parity_at n ops i)) [
         | inl e ↦ absurd (false≢true (sym (ap (λ p. joins n ops p i j) e) ∙ h))
         | inr p ↦
             (let parts = and_parts _ _ (sym (ap (λ q. joins n ops q i j) p.1) ∙ h) in
@@ -259,7 +255,7 @@ module _ (n : ℕ) (ops : List Op) where
       elim (kind (phase_gate o)) [
         | inl e ↦
             (let r = restarted_here n ops p o at in
-            let zero_here : worth_from m p ≡ 0 = ap (λ c. cond (joinable n ops m p) (exponent_of c) 0) (phase_here n ops p o at ∙ e) ∙ either (joinable n ops m p) in
+            let zero_here : worth_from m p ≡ 0 = ap (λ c. cond (joinable n ops m p) (exponent_of c) 0) (phase_here n ops p o at ∙ e) ∙ at_none (joinable n ops m p) in
             let f' : Follows m f (suc p) (survivors (restarts n o (parities_at n ops p)) s) =
             record {
               sound = λ g on. let parts = and_parts _ _ on in let q = h.sound g parts.0 in (q.0, kept_more f.lines m p q.1 (ap (are_apart f.lines) r ∙ ap (λ (z : Parity). are_apart z.lines (restarts n o (parities_at n ops p))) (sym q.0) ∙ parts.1));
@@ -287,10 +283,6 @@ module _ (n : ℕ) (ops : List Op) where
             (tail_sum m f here rest (suc p) s (omega arith) (rest_tail p o rest is) f' ∙ ap (λ F. owed exponents n s F rest) (phase_parities_next n ops p o at q.0 q.1))
             ∙ sym (owed-some exponents n s (parities_at n ops p) o rest q.0 q.1))
       ]
-    where
-      either : (b : Bool) → ◌≡◌ {A = ℕ} (cond b 0 0) 0
-      either true = refl
-      either false = refl
 
   -- ---- the whole
 

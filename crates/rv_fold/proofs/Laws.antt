@@ -1,18 +1,17 @@
 -- What folding keeps.
-use Rattle.std.proofs.Common.{◌≡◌, ℕ, ◌+◌, ◌%◌, ◌<◌, ◌≤◌, Bool, List, [], ◌∷◌, ◌++◌, length, refl, sym, ap, ◌∙◌, arith, subst, inl, inr}
+use Rattle.std.proofs.Common.{◌≡◌, ℕ, ◌+◌, ◌%◌, ◌<◌, ◌≤◌, Bool, List, [], ◌∷◌, ◌++◌, length, refl, sym, ap, ◌∙◌, arith, subst}
 use Rattle.std.specs.Prelude.{All, slice_get}
-use Rattle.std.proofs.lemmas.Bool.{cases_Bool}
 use Rattle.std.proofs.lemmas.List.Elements.{All-head, All-tail, All-nil, All-cons}
 use Rattle.rv_net.specs.declared.op.Op.{Op}
 use Rattle.rv_net.specs.Op.{IsNetwork, Network, OpFitsIn}
 use Rattle.rv_net.specs.Amplitude.{amplitude, count_h}
-use Rattle.rv_fold.specs.Parities.{Parities, IsLeastClosed, alone, direct, parities_after}
-use Rattle.rv_fold.specs.Folded.{parities_at, folded, folded_network, phase_gate, phase_ops, IsFoldingOf, RestartsLeast}
+use Rattle.rv_fold.specs.Parities.{Parities, IsLeastClosed, alone, direct}
+use Rattle.rv_fold.specs.Folded.{parities_at, folded, folded_network, phase_ops, IsFoldingOf, RestartsLeast}
 use Rattle.rv_fold.proofs.Amplitudes.{AllFit, walked-amplitude}
 use Rattle.rv_fold.proofs.Counts.{t_count, walked-length, walked-t, walked-h}
 use Rattle.rv_fold.proofs.Settled.{walked-settled}
 use Rattle.rv_fold.proofs.Turning.{BelowEight, below_eight}
-use Rattle.rv_fold.proofs.Walking.{Seen, none, only, joined, survivors, restarts, total, walked, walked-none, walked-seen, walked-new, kind, phase_fits}
+use Rattle.rv_fold.proofs.Walking.{Seen, each_walk, none, total, walked, phase_fits}
 use Rattle.rv_fold.proofs.Joining.{folded_walked, joined_at, restarted_here}
 use Rattle.rv_fold.proofs.Neighbours.{Tidy, neighbours, walked_tidy}
 use Rattle.rv_fold.proofs.Restarts.{restarts_least}
@@ -47,21 +46,13 @@ fit_phases : (n q s : ℕ) → q < n → BelowEight s → AllFit n (phase_ops q 
 fit_phases n q s h h2 = grind arith
 
 walked-fits : (n : ℕ) (seen : Seen) (parities : Parities) (rest : List Op) → AllFit n rest → AllFit n (walked n seen parities rest)
-unfolding walked
-walked-fits n seen parities [] h = tt
-walked-fits n seen parities (o ∷ rest) h =
-    elim (kind (phase_gate o)) [
-      | inl e ↦ subst (λ l. AllFit n l) (sym (walked-none n seen parities o rest e)) (h.0, walked-fits n (survivors (restarts n o parities) seen) (parities_after n o parities) rest h.1)
-      | inr p ↦
-          (elim (cases_Bool (seen (parities p.0.line))) [
-            | inl old ↦ subst (λ l. AllFit n l) (sym (walked-seen n seen parities o rest p.0 p.1 old)) (walked-fits n seen parities rest h.1)
-            | inr new ↦
-                (subst (λ l. AllFit n l) (sym (walked-new n seen parities o rest p.0 p.1 new))
-                (fit_append n _ _
-                (fit_phases n p.0.line ((p.0.exponent + total n (parities p.0.line) parities rest) % 8) (phase_fits n o p.0 h.0 p.1) (below_eight _ (omega arith)))
-                (walked-fits n (joined (only (parities p.0.line)) seen) parities rest h.1)))
-          ])
-    ]
+walked-fits n = each_walk n (λ s f rest l. AllFit n rest → AllFit n l) (record {
+  end = λ s f h. tt;
+  other = λ s f o rest e ih h. (h.0, ih h.1);
+  old = λ s f o rest p e old ih h. ih h.1;
+  new = λ s f o rest p e new ih h.
+      fit_append n _ _ (fit_phases n p.line ((p.exponent + total n (f p.line) f rest) % 8) (phase_fits n o p h.0 e) (below_eight _ (omega arith))) (ih h.1);
+})
 
 all_fit : (n : ℕ) (ops : List Op) → AllFit n ops → All (λ o. OpFitsIn o n) ops
 all_fit n [] h = All-nil (λ o. OpFitsIn o n)

@@ -1,7 +1,7 @@
 -- What folding leaves: of joinable places, one writes a class with the other.
 use Rattle.std.proofs.Common.{◌≡◌, ℕ, suc, ◌+◌, ◌-◌, ◌%◌, ◌<◌, ◌≤◌, true, Some, None, List, [], ◌∷◌, ◌++◌, refl, sym, ap, ◌∙◌, arith, subst, inl, inr, ◌⊎◌}
 use Rattle.std.specs.Prelude.{slice_get}
-use Rattle.std.proofs.lemmas.Bool.{cases_Bool, cases_eq, and_from, or_left, false≢true}
+use Rattle.std.proofs.lemmas.Bool.{cases_eq, and_from, or_left, false≢true}
 use Rattle.std.proofs.lemmas.Option.{same_Some, none-some}
 use Rattle.rv_net.specs.declared.op.Op.{Op}
 use Rattle.rv_net.specs.declared.op.Op.TheVariants.{Z, S, T}
@@ -10,7 +10,7 @@ use Rattle.rv_fold.specs.Folded.{Kept, PhaseGate, WritesClass, phase_gate, phase
 use Rattle.rv_fold.proofs.Joining.{Joined, IsRest, rest_head, rest_tail, parities_next, restarted_here, some_parity_here, no_parity_here, phase_parities_next}
 use Rattle.rv_fold.proofs.Settled.{lacks-walked, none_other}
 use Rattle.rv_fold.proofs.Turning.{BelowEight, below_eight}
-use Rattle.rv_fold.proofs.Walking.{Seen, only, joined, survivors, restarts, walked, total, kind, walked-none, walked-seen, walked-new, same_parity-refl, Lacks}
+use Rattle.rv_fold.proofs.Walking.{Seen, each_walk, only, joined, survivors, restarts, walked, total, kind, same_parity-refl, Lacks}
 
 module _ (n : ℕ) where
   -- the rest lacks the parity of a phase gate, or has it once, in the T that ends the gate's class
@@ -37,24 +37,16 @@ module _ (n : ℕ) where
     tidy_phases s h h2 = grind (arith, one, two)
 
   pub walked_tidy : (seen : Seen) (parities : Parities) (rest : List Op) → Tidy parities (walked n seen parities rest)
-  unfolding walked Tidy
-  walked_tidy seen parities [] = tt
-  walked_tidy seen parities (o ∷ rest) =
-      elim (kind (phase_gate o)) [
-        | inl e ↦
-            subst (Tidy parities) (sym (walked-none n seen parities o rest e))
-            ((λ p f. none_other (phase_gate o) p e f), walked_tidy (survivors (restarts n o parities) seen) (parities_after n o parities) rest)
-        | inr p ↦
-            (let f : Parity = parities p.0.line in
-            elim (cases_Bool (seen f)) [
-              | inl old ↦ subst (Tidy parities) (sym (walked-seen n seen parities o rest p.0 p.1 old)) (walked_tidy seen parities rest)
-              | inr new ↦
-                  subst (Tidy parities) (sym (walked-new n seen parities o rest p.0 p.1 new))
-                  (tidy_phases parities p.0.line (walked n (joined (only f) seen) parities rest)
-                  (lacks-walked n (only f) (joined (only f) seen) parities rest (λ g on. or_left _ _ on))
-                  ((p.0.exponent + total n f parities rest) % 8) (below_eight _ (omega arith)) (walked_tidy (joined (only f) seen) parities rest))
-            ])
-      ]
+  unfolding Tidy
+  walked_tidy = each_walk n (λ s f _ l. Tidy f l) (record {
+    end = λ s f. tt;
+    other = λ s f o rest e ih. ((λ p g. none_other (phase_gate o) p e g), ih);
+    old = λ s f o rest p e old ih. ih;
+    new = λ s f o rest p e new ih.
+        tidy_phases f p.line (walked n (joined (only (f p.line)) s) f rest)
+        (lacks-walked n (only (f p.line)) (joined (only (f p.line)) s) f rest (λ g on. or_left _ _ on))
+        ((p.exponent + total n (f p.line) f rest) % 8) (below_eight _ (omega arith)) ih;
+  })
 
 -- ---- its places
 

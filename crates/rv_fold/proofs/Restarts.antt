@@ -1,8 +1,8 @@
 -- A restart reaches the least set that is closed.
-use Rattle.rv_gate.proofs.Bits.{same_bool}
+use Rattle.rv_gate.proofs.Bits.{and_false, same_bool}
 use Rattle.std.proofs.Common.{◌≡◌, ℕ, zero, suc, ◌+◌, ◌<◌, ◌≤◌, ◌^◌, Bool, true, false, cond, ◌&&◌, ◌||◌, eqb, refl, sym, ap, ◌∙◌, arith, inl, inr, ◌⊎◌, not-suc-le-zero, eq-eqb}
 use Rattle.std.specs.Prelude.{bit_and, bit_or}
-use Rattle.std.proofs.lemmas.Bool.{cases_eq, cases_Bool, eqb-true}
+use Rattle.std.proofs.lemmas.Bool.{cases_eq, cases_Bool, eqb-true, or_cases, or_left, or_right}
 use Rattle.rv_gate.specs.Word.{has}
 use Rattle.rv_gate.proofs.LineSets.{has-none, has-and, has-with_line, same_lines}
 use Rattle.rv_fold.specs.Parities.{Parities, are_apart, closure_step, closure_steps, restart_set, IsClosed, IsLeastClosed}
@@ -10,15 +10,6 @@ use Rattle.rv_fold.specs.Parities.{Parities, are_apart, closure_step, closure_st
 pub true-false : (b : Bool) → b ≡ true → b ≡ false → ⊥
 true-false true p q = let e : true ≡ false = q in cc
 true-false false p q = let e : false ≡ true = p in cc
-
-pub or-left : (a b : Bool) → a ≡ true → (a || b) ≡ true
-or-left a b h = grind arith
-
-pub or-right : (a b : Bool) → b ≡ true → (a || b) ≡ true
-or-right a b h = grind arith
-
-pub or-cases : (a b : Bool) → (a || b) ≡ true → (a ≡ true) ⊎ (b ≡ true)
-or-cases a b h = grind arith
 
 -- ---- one round
 
@@ -32,17 +23,17 @@ closure_step-keeps parities set zero l h = unfold closure_step in h
 closure_step-keeps parities set (suc k) l h =
     elim (cases_Bool (are_apart (parities k).lines set)) [
       | inl e ↦ closure_step-more parities set k l true e ∙ closure_step-keeps parities set k l h
-      | inr e ↦ closure_step-more parities set k l false e ∙ or-left _ _ (closure_step-keeps parities set k l h)
+      | inr e ↦ closure_step-more parities set k l false e ∙ or_left _ _ (closure_step-keeps parities set k l h)
     ]
 
 pub closure_step-adds : (parities : Parities) (set k l : ℕ) → l < k → are_apart (parities l).lines set ≡ false → has (closure_step parities set k) l ≡ true
 closure_step-adds parities set zero l h e = absurd (not-suc-le-zero h)
 closure_step-adds parities set (suc k) l h e =
     elim (cases_eq l k) [
-      | inl same ↦ closure_step-more parities set k l false (ap (λ m. are_apart (parities m).lines set) (sym same) ∙ e) ∙ or-right (has (closure_step parities set k) l) _ (eq-eqb l k same)
+      | inl same ↦ closure_step-more parities set k l false (ap (λ m. are_apart (parities m).lines set) (sym same) ∙ e) ∙ or_right (has (closure_step parities set k) l) _ (eq-eqb l k same)
       | inr other ↦ (elim (cases_Bool (are_apart (parities k).lines set)) [
         | inl f ↦ closure_step-more parities set k l true f ∙ closure_step-adds parities set k l (omega arith) e
-        | inr f ↦ closure_step-more parities set k l false f ∙ or-left _ _ (closure_step-adds parities set k l (omega arith) e)
+        | inr f ↦ closure_step-more parities set k l false f ∙ or_left _ _ (closure_step-adds parities set k l (omega arith) e)
       ])
     ]
 
@@ -51,7 +42,7 @@ closure_step-only parities set zero l h = inl (unfold closure_step in h)
 closure_step-only parities set (suc k) l h =
     elim (cases_Bool (are_apart (parities k).lines set)) [
       | inl e ↦ wider (closure_step-only parities set k l (sym (closure_step-more parities set k l true e) ∙ h))
-      | inr e ↦ (elim (or-cases _ _ (sym (closure_step-more parities set k l false e) ∙ h)) [
+      | inr e ↦ (elim (or_cases _ _ (sym (closure_step-more parities set k l false e) ∙ h)) [
         | inl before ↦ wider (closure_step-only parities set k l before)
         | inr here ↦ let same : l ≡ k = eqb-true _ _ here in inr (omega arith, ap (λ m. are_apart (parities m).lines set) same ∙ e)
       ])
@@ -177,11 +168,7 @@ restarts_least n parities set = record {
 }
 
 pub apart_none : (a : ℕ) → are_apart a 0 ≡ true
-apart_none a = eq-eqb _ 0 (same_lines (bit_and a 0) 0 (λ l. has-and a 0 l ∙ ap (λ t. has a l && t) (has-none l) ∙ and-false (has a l) ∙ sym (has-none l)))
-  where
-    and-false : (b : Bool) → (b && false) ≡ false
-    and-false true = refl
-    and-false false = refl
+apart_none a = eq-eqb _ 0 (same_lines (bit_and a 0) 0 (λ l. has-and a 0 l ∙ ap (λ t. has a l && t) (has-none l) ∙ and_false (has a l) ∙ sym (has-none l)))
 
 -- nothing restarts nothing
 pub closure_step_none : (parities : Parities) (k : ℕ) → closure_step parities 0 k ≡ 0

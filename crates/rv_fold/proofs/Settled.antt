@@ -1,13 +1,13 @@
 -- What is folded is left as it is by folding.
-use Rattle.std.proofs.Common.{◌≡◌, ℕ, ◌+◌, ◌%◌, Bool, true, false, cond, ◌||◌, Option, Some, None, List, [], ◌∷◌, ◌++◌, refl, sym, ap, ap₂, ◌∙◌, arith, inl, inr, subst}
-use Rattle.std.proofs.lemmas.Bool.{cases_Bool, and_parts, and_from, or_left, false≢true}
+use Rattle.std.proofs.Common.{◌≡◌, ℕ, ◌+◌, ◌%◌, Bool, true, false, cond, ◌||◌, Option, Some, None, List, [], ◌∷◌, ◌++◌, refl, sym, ap, ap₂, ◌∙◌, arith, inl, inr}
+use Rattle.std.proofs.lemmas.Bool.{cases_Bool, and_parts, and_from, or_left, or_right, false≢true}
 use Rattle.std.proofs.lemmas.Option.{same_Some, none-some}
 use Rattle.rv_net.specs.declared.op.Op.{Op}
 use Rattle.rv_net.specs.declared.op.Op.TheVariants.{Z, S, Sdg, T, Tdg}
 use Rattle.rv_fold.specs.Parities.{Parities, parities_after, are_apart, Parity}
 use Rattle.rv_fold.specs.Folded.{phase_gate, phase_ops, PhaseGate}
 use Rattle.rv_fold.proofs.Turning.{BelowEight, is_0, is_1, is_2, is_3, is_4, is_5, is_6, is_7, below_eight}
-use Rattle.rv_fold.proofs.Walking.{Seen, only, joined, survivors, restarts, walked, exponents, total, kind, owed-some, owed-lacks, walked-none, walked-seen, walked-new, same_parity-refl, distributes, Lacks}
+use Rattle.rv_fold.proofs.Walking.{Seen, each_walk, only, joined, survivors, restarts, walked, exponents, total, kind, owed-some, owed-lacks, walked-none, walked-seen, walked-new, same_parity-refl, distributes, Lacks}
 
 pub none_other : {A : Type 0} (o : Option PhaseGate) (p : PhaseGate) → o ≡ None → o ≡ Some p → A
 none_other o p e f = absurd (none-some p (sym e ∙ f))
@@ -33,29 +33,17 @@ module _ (n : ℕ) where
 
   -- seen parities are left out
   pub lacks-walked : (a seen : Seen) (parities : Parities) (rest : List Op) → ((g : Parity) → a g ≡ true → seen g ≡ true) → Lacks n a parities (walked n seen parities rest)
-  unfolding walked Lacks
-  lacks-walked a seen parities [] h = tt
-  lacks-walked a seen parities (o ∷ rest) h =
-      elim (kind (phase_gate o)) [
-        | inl e ↦
-            (let r = restarts n o parities in
-            subst (λ l. Lacks n a parities l) (sym (walked-none n seen parities o rest e))
-            (lacks-none a parities o _ e (lacks-walked (survivors r a) (survivors r seen) (parities_after n o parities) rest (λ g on. and_from _ _ (h g (and_parts _ _ on).0) (and_parts _ _ on).1))))
-        | inr p ↦
-            (let f : Parity = parities p.0.line in
-            elim (cases_Bool (seen f)) [
-              | inl old ↦ subst (λ l. Lacks n a parities l) (sym (walked-seen n seen parities o rest p.0 p.1 old)) (lacks-walked a seen parities rest h)
-              | inr new ↦
-                  (subst (λ l. Lacks n a parities l) (sym (walked-new n seen parities o rest p.0 p.1 new))
-                  (lacks-phases a parities p.0.line ((p.0.exponent + total n f parities rest) % 8) _ (below_eight _ (omega arith))
-                  (elim (cases_Bool (a f)) [ inl on ↦ absurd (false≢true (sym new ∙ h f on)) | inr out ↦ out ])
-                  (lacks-walked a (joined (only f) seen) parities rest (λ g on. right (only f g) (seen g) (h g on)))))
-            ])
-      ]
-    where
-      right : (b c : Bool) → c ≡ true → (b || c) ≡ true
-      right true c e = refl
-      right false c e = e
+  unfolding Lacks
+  lacks-walked a seen parities rest h =
+      each_walk n (λ s p _ l. (b : Seen) → ((g : Parity) → b g ≡ true → s g ≡ true) → Lacks n b p l) (record {
+        end = λ s p b h. tt;
+        other = λ s p o rest e ih b h. lacks-none b p o _ e (ih (survivors (restarts n o p) b) (λ g on. and_from _ _ (h g (and_parts _ _ on).0) (and_parts _ _ on).1));
+        old = λ s p o rest q e old ih b h. ih b h;
+        new = λ s p o rest q e new ih b h.
+            lacks-phases b p q.line ((q.exponent + total n (p q.line) p rest) % 8) _ (below_eight _ (omega arith))
+            (elim (cases_Bool (b (p q.line))) [ inl on ↦ absurd (false≢true (sym new ∙ h (p q.line) on)) | inr out ↦ out ])
+            (ih b (λ g on. or_right (only (p q.line) g) (s g) (h g on)));
+      }) seen parities rest a h
 
   swap_or : (a b c : Bool) → (a || (b || c)) ≡ (b || (a || c))
   swap_or a b c = grind arith
@@ -116,27 +104,11 @@ module _ (n : ℕ) where
 
   pub walked-settled : (seen : Seen) (parities : Parities) (rest : List Op) → walked n seen parities (walked n seen parities rest) ≡ walked n seen parities rest
   unfolding walked
-  walked-settled seen parities [] = refl
-  walked-settled seen parities (o ∷ rest) =
-      elim (kind (phase_gate o)) [
-        | inl e ↦
-            (let r = restarts n o parities in
-            ap (walked n seen parities) (walked-none n seen parities o rest e)
-            ∙ walked-none n seen parities o (walked n (survivors r seen) (parities_after n o parities) rest) e
-            ∙ ap (λ l. o ∷ l) (walked-settled (survivors r seen) (parities_after n o parities) rest)
-            ∙ sym (walked-none n seen parities o rest e))
-        | inr p ↦
-            (let f : Parity = parities p.0.line in
-            elim (cases_Bool (seen f)) [
-              | inl old ↦
-                  (ap (walked n seen parities) (walked-seen n seen parities o rest p.0 p.1 old)
-                  ∙ walked-settled seen parities rest
-                  ∙ sym (walked-seen n seen parities o rest p.0 p.1 old))
-              | inr new ↦
-                  (let s = (p.0.exponent + total n f parities rest) % 8 in
-                  let l = walked n (joined (only f) seen) parities rest in
-                  ap (walked n seen parities) (walked-new n seen parities o rest p.0 p.1 new)
-                  ∙ again seen parities p.0.line l new (lacks-walked (only f) (joined (only f) seen) parities rest (λ g on. or_left _ _ on)) (walked-settled (joined (only f) seen) parities rest) s (below_eight s (omega arith))
-                  ∙ sym (walked-new n seen parities o rest p.0 p.1 new))
-            ])
-      ]
+  walked-settled = each_walk n (λ s p _ l. walked n s p l ≡ l) (record {
+    end = λ s p. refl;
+    other = λ s p o rest e ih. walked-none n s p o _ e ∙ ap (λ l. o ∷ l) ih;
+    old = λ s p o rest q e old ih. ih;
+    new = λ s p o rest q e new ih.
+        again s p q.line _ new (lacks-walked (only (p q.line)) (joined (only (p q.line)) s) p rest (λ g on. or_left _ _ on)) ih
+        ((q.exponent + total n (p q.line) p rest) % 8) (below_eight _ (omega arith));
+  })

@@ -1,6 +1,6 @@
 -- Folding as one walk: the parities whose class has begun are seen, and the first phase of a parity takes what the rest has of it.
-use Rattle.std.proofs.Common.{◌≡◌, ℕ, ◌+◌, ◌%◌, ◌<◌, Bool, true, false, cond, ◌&&◌, ◌||◌, Option, Some, None, List, [], ◌∷◌, ◌++◌, refl, sym, ap, ap₂, ◌∙◌, arith, inl, inr, ◌⊎◌, eq-eqb}
-use Rattle.std.proofs.lemmas.Bool.{and_parts}
+use Rattle.std.proofs.Common.{◌≡◌, ℕ, ◌+◌, ◌%◌, ◌<◌, Bool, true, false, cond, ◌&&◌, ◌||◌, Option, Some, None, List, [], ◌∷◌, ◌++◌, refl, sym, ap, ap₂, ◌∙◌, arith, inl, inr, ◌⊎◌, eq-eqb, subst}
+use Rattle.std.proofs.lemmas.Bool.{and_from, and_parts, cases_Bool, false≢true}
 use Rattle.rv_gate.specs.Gate.{same}
 use Rattle.rv_net.specs.declared.op.Op.{Op}
 use Rattle.rv_net.specs.declared.op.Op.TheVariants.{Z, S, Sdg, T, Tdg}
@@ -17,11 +17,8 @@ same-bits a = grind arith
 pub same_parity-eq : (f g : Parity) → same_parity f g ≡ true → f ≡ g
 same_parity-eq f g e = grind arith
 
-and-true : (a b : Bool) → a ≡ true → b ≡ true → (a && b) ≡ true
-and-true a b h h2 = grind arith
-
 pub same_parity-refl : (f : Parity) → same_parity f f ≡ true
-same_parity-refl f = and-true _ _ (eq-eqb f.lines f.lines refl) (same-bits f.flipped)
+same_parity-refl f = and_from _ _ (eq-eqb f.lines f.lines refl) (same-bits f.flipped)
 
 -- ---- the walk
 
@@ -95,10 +92,37 @@ module _ (n : ℕ) (seen : Seen) (parities : Parities) (o : Op) (rest : List Op)
   unfolding walked choose
   walked-new p e s = rw e (rw s refl)
 
--- a phase or none
-pub kind : (o : Option PhaseGate) → (o ≡ None) ⊎ ((p : PhaseGate) × (o ≡ Some p))
+-- nothing or something, as a phase or none
+pub kind : {A : Type 0} (o : Option A) → (o ≡ None) ⊎ ((x : A) × (o ≡ Some x))
 kind None = inl refl
-kind (Some p) = inr (p, refl)
+kind (Some x) = inr (x, refl)
+
+-- ---- induction on the walk: by the operation at its head, from the rest to the whole
+
+module _ (n : ℕ) (P : Seen → Parities → List Op → List Op → Type 0) where
+  pub record Walks : Type 0 where
+    pub end : (seen : Seen) (parities : Parities) → P seen parities [] []
+    pub other : (seen : Seen) (parities : Parities) (o : Op) (rest : List Op) → phase_gate o ≡ None
+        → P (survivors (restarts n o parities) seen) (parities_after n o parities) rest (walked n (survivors (restarts n o parities) seen) (parities_after n o parities) rest)
+        → P seen parities (o ∷ rest) (o ∷ walked n (survivors (restarts n o parities) seen) (parities_after n o parities) rest)
+    pub old : (seen : Seen) (parities : Parities) (o : Op) (rest : List Op) (p : PhaseGate) → phase_gate o ≡ Some p → seen (parities p.line) ≡ true
+        → P seen parities rest (walked n seen parities rest) → P seen parities (o ∷ rest) (walked n seen parities rest)
+    pub new : (seen : Seen) (parities : Parities) (o : Op) (rest : List Op) (p : PhaseGate) → phase_gate o ≡ Some p → seen (parities p.line) ≡ false
+        → P (joined (only (parities p.line)) seen) parities rest (walked n (joined (only (parities p.line)) seen) parities rest)
+        → P seen parities (o ∷ rest) (phase_ops p.line ((p.exponent + total n (parities p.line) parities rest) % 8) ++ walked n (joined (only (parities p.line)) seen) parities rest)
+
+  pub each_walk : Walks → (seen : Seen) (parities : Parities) (rest : List Op) → P seen parities rest (walked n seen parities rest)
+  unfolding walked
+  each_walk w seen parities [] = w.end seen parities
+  each_walk w seen parities (o ∷ rest) =
+      elim (kind (phase_gate o)) [
+        | inl e ↦ subst (P seen parities (o ∷ rest)) (sym (walked-none n seen parities o rest e)) (w.other seen parities o rest e (each_walk w (survivors (restarts n o parities) seen) (parities_after n o parities) rest))
+        | inr p ↦
+            (elim (cases_Bool (seen (parities p.0.line))) [
+              | inl s ↦ subst (P seen parities (o ∷ rest)) (sym (walked-seen n seen parities o rest p.0 p.1 s)) (w.old seen parities o rest p.0 p.1 s (each_walk w seen parities rest))
+              | inr s ↦ subst (P seen parities (o ∷ rest)) (sym (walked-new n seen parities o rest p.0 p.1 s)) (w.new seen parities o rest p.0 p.1 s (each_walk w (joined (only (parities p.0.line)) seen) parities rest))
+            ])
+      ]
 
 -- ---- what a phase is
 
@@ -121,6 +145,14 @@ phase_direct o p e = each_gate (λ a g. direct a ≡ 0) (λ q. refl) (λ q. refl
 
 pub distributes : (a b c : Bool) → ((a || b) && c) ≡ ((a && c) || (b && c))
 distributes a b c = grind arith
+
+-- a parity that is not seen
+pub not_seen : (f : Parity) (seen : Seen) → seen f ≡ false → (g : Parity) → (only f g && seen g) ≡ false
+not_seen f seen new g =
+    elim (cases_Bool (only f g)) [
+      | inl s ↦ (ap (λ b. b && seen g) s ∙ ap seen (sym (same_parity-eq f g s)) ∙ new)
+      | inr d ↦ ap (λ b. b && seen g) d
+    ]
 
 apart-left : (a b c d : Bool) → (a && b) ≡ false → ((a && c) && (b && d)) ≡ false
 apart-left a b c d h = grind arith
@@ -164,7 +196,7 @@ owed-same worth other n seen parities (o ∷ rest) h =
           ∙ sym (owed-some other n seen parities o rest q.0 q.1))
     ]
 
-at_none : (b : Bool) → ◌≡◌ {A = ℕ} (cond b 0 0) 0
+pub at_none : (b : Bool) → ◌≡◌ {A = ℕ} (cond b 0 0) 0
 at_none b = grind arith
 
 -- nothing is worth nothing
@@ -179,13 +211,7 @@ owed-worthless n seen parities (o ∷ rest) =
 
 -- no parity is owed anything
 pub owed-nothing : (worth : Parity → Op → ℕ) (n : ℕ) (parities : Parities) (rest : List Op) → owed worth n none parities rest ≡ 0
-unfolding owed
-owed-nothing worth n parities [] = refl
-owed-nothing worth n parities (o ∷ rest) =
-    elim (kind (phase_gate o)) [
-      | inl e ↦ (owed-none worth n none parities o rest e ∙ owed-nothing worth n (parities_after n o parities) rest)
-      | inr q ↦ (owed-some worth n none parities o rest q.0 q.1 ∙ ap (λ u. 0 + u) (owed-nothing worth n parities rest))
-    ]
+owed-nothing worth n parities rest = owed-same worth (λ g o. 0) n none parities rest (λ g o on. absurd (false≢true on)) ∙ owed-worthless n none parities rest
 
 -- no phase of these parities stands in the rest
 unfoldable pub Lacks : ℕ → Seen → Parities → List Op → Type 0

@@ -1,12 +1,12 @@
 // Where the classes of phases begin.
 ghost use Rattle.std.specs.Prelude.{◌≡◌, ◌↔◌, ℕ, ◌+◌, ◌^◌, ◌<◌, ◌≤◌, Some, List, length, slice_index, if◌then◌else◌};
-ghost use Rattle.std.specs.Prelude.{All, IsTrue, IfOk, OnOk};
+ghost use Rattle.std.specs.Prelude.{All, IsTrue, IfOk};
 ghost use Rattle.rv_gate.specs.Word.{has};
 ghost use Rattle.rv_gate.specs.declared.word.TheConstants.{MOST_LINES};
 
 use crate::firsts::Firsts;
 use crate::parities::Parity;
-use rv_gate::LineSet;
+use rv_gate::{LineSet, has};
 use std::alloc::{AllocError, Global};
 
 /// Where the classes begin, by the parities of their phase gates.
@@ -58,12 +58,9 @@ impl Classes {
 
     /// The place where the class of a phase gate begins, by the parity on its line: its own place, if it is the first.
     pub(crate) fn first(&mut self, parity: Parity, place: usize) -> Result<usize, AllocError>
-        ensures first { IfOk result (λ first. (n : ℕ) (ops : List Op) → All (λ op. OpFitsIn op n) ops
+        ensures { IfOk result (λ first. (n : ℕ) (ops : List Op) → All (λ op. OpFitsIn op n) ops
             → AreClasses n ops place self.old → parity_at n ops place ≡ Some parity
-            → StartsAt n ops place parity first) }
-        ensures classes { OnOk result ((n : ℕ) (ops : List Op) → All (λ op. OpFitsIn op n) ops
-            → AreClasses n ops place self.old → parity_at n ops place ≡ Some parity
-            → AreClasses n ops (place + 1) self.new) }
+            → StartsAt n ops place parity first × AreClasses n ops (place + 1) self.new) }
     {
         if let Some(first) = self.firsts.look_up(parity) {
             if self.is_kept(parity.lines, first) {
@@ -83,13 +80,13 @@ impl Classes {
         ensures count { length self.new.sinces.items ≡ length self.old.sinces.items }
         ensures firsts { self.new.firsts ≡ self.old.firsts }
     {
-        let mut left = lines;
-        while left != 0 {
-            let line = left.trailing_zeros() as usize;
-            if line < self.sinces.len() {
+        if lines == 0 {
+            return;
+        }
+        for line in 0..self.sinces.len() {
+            if has(lines, line as u8) {
                 self.sinces[line] = place + 1;
             }
-            left &= !(1 << line);
         }
     }
 }

@@ -23,8 +23,7 @@ bit_after (Swap care want a b) f h line = cond h (cond (eqb line b) (f a) (cond 
 bit_after (Peres a b d) f h line = cond (eqb line d) (xor (f d) (f a && f b)) (cond (eqb line b) (xor (f a) (f b)) (f line))
 
 bit_of-cond : (h : Bool) (u v : List Bool) (line : ℕ) → bit_of (cond h u v) line ≡ cond h (bit_of u line) (bit_of v line)
-bit_of-cond true u v line = refl
-bit_of-cond false u v line = refl
+bit_of-cond h u v line = grind arith
 
 pub bit_of-set : (word : List Bool) (target line : ℕ) (b : Bool) → target < length word → bit_of (set word target b) line ≡ cond (eqb line target) b (bit_of word line)
 bit_of-set word target line b h =
@@ -63,8 +62,7 @@ bit_of-act (Peres a b d) word line h =
     bit_of-set (set word b v) d line _ ld ∙ ap (cond (eqb line d) (xor (bit_of word d) (bit_of word a && bit_of word b))) (bit_of-set word b line _ h.0)
 
 cond_same : (b x : Bool) → cond b x x ≡ x
-cond_same true x = refl
-cond_same false x = refl
+cond_same b x = grind arith
 
 bit_after-other : (g : Shape) (f : ℕ → Bool) (h : Bool) (line : ℕ) → has (targets g) line ≡ false → bit_after g f h line ≡ f line
 unfolding bit_after
@@ -141,14 +139,10 @@ bit_of-act_local g u v line below len same at =
 -- ---- a gate that does nothing
 
 xor_false_left : (a b : Bool) → a ≡ false → xor a b ≡ b
-xor_false_left true b e = absurd (false≢true (sym e))
-xor_false_left false true e = refl
-xor_false_left false false e = refl
+xor_false_left a b h = grind arith
 
 xor_false_right : (x a b : Bool) → a ≡ false → xor x (a && b) ≡ x
-xor_false_right x true b e = absurd (false≢true (sym e))
-xor_false_right true false b e = refl
-xor_false_right false false b e = refl
+xor_false_right x a b h = grind arith
 
 -- a gate one of whose controls doesn't hold does nothing
 pub idle : (g : Shape) (word : List Bool) (line : ℕ) → line < length word → has (controls g) line ≡ true → bit_of word line ≢ has (wanted g) line → act g word ≡ word

@@ -1,5 +1,5 @@
 -- Gates that commute: the rule, and what it means for words.
-use Rattle.std.proofs.Common.{◌≡◌, ◌≢◌, ℕ, zero, suc, ◌/◌, ◌%◌, ◌^◌, ◌<◌, ◌≤◌, Bool, true, false, not, cond, ◌&&◌, eqb, List, length, map, refl, sym, ◌∙◌, ap, inl, inr, arith, ext_get_or, length-set, get_or-set_same, get_or-set_other, eq-eqb, ne_eqb}
+use Rattle.std.proofs.Common.{◌≡◌, ◌≢◌, ℕ, zero, suc, ◌/◌, ◌%◌, ◌^◌, ◌<◌, ◌≤◌, Bool, true, false, not, cond, ◌&&◌, eqb, List, length, map, sym, ◌∙◌, ap, inl, inr, arith, ext_get_or, length-set, get_or-set_same, get_or-set_other, eq-eqb, ne_eqb}
 use Rattle.std.specs.Prelude.{bit_and, ◌⊎◌}
 use Rattle.std.specs.List.{range_with_len}
 use Rattle.std.specs.Int.{bit_at}
@@ -19,16 +19,10 @@ use Rattle.rv_gate.proofs.Bits.{same_true}
 -- ---- sets that meet
 
 not_same : (x y : Bool) → not (same x y) ≡ true → x ≢ y
-not_same true true h e = false≢true h
-not_same true false h e = false≢true (sym e)
-not_same false true h e = false≢true e
-not_same false false h e = false≢true h
+not_same x y h k = grind arith
 
 ne_same : (x y : Bool) → x ≢ y → not (same x y) ≡ true
-ne_same true true h = absurd (h refl)
-ne_same true false h = refl
-ne_same false true h = refl
-ne_same false false h = absurd (h refl)
+ne_same x y h = grind arith
 
 -- a number that is not 0 has a bit
 some_bit : (k n : ℕ) → n ≤ k → n ≢ 0 → (i : ℕ) × (has n i ≡ true)
@@ -131,10 +125,7 @@ agree_apart g h word fg fh gh hg =
 -- ---- gates with opposite wanted values on a line
 
 third : (b x y : Bool) → x ≢ y → (b ≢ x) ⊎ (b ≢ y)
-third true true y ne = inr ne
-third true false y ne = inl (λ e. false≢true (sym e))
-third false true y ne = inl false≢true
-third false false y ne = inr ne
+third b x y h = grind arith
 
 agree_opposed : (g h : Shape) (word : List Bool) → IsGate g → IsGate h → FitsIn g (length word) → FitsIn h (length word) → Opposed g h
     → act h (act g word) ≡ act g (act h word)
@@ -169,10 +160,7 @@ two_flips t ca wa cb wb word free =
     ]
 
 cond_turn : (x y : Bool) (u v w : List Bool) → cond x (cond y u v) (cond y v w) ≡ cond y (cond x u v) (cond x v w)
-cond_turn true true u v w = refl
-cond_turn true false u v w = refl
-cond_turn false true u v w = refl
-cond_turn false false u v w = refl
+cond_turn x y u v w = grind arith
 
 agree_flips : (ca wa t cb wb s : ℕ) (word : List Bool) → FitsIn (Flip ca wa t) (length word) → FitsIn (Flip cb wb s) (length word)
     → has cb t ≡ false → has ca s ≡ false
@@ -232,8 +220,7 @@ second_holds ca wa cb wb n same =
     ]))
 
 not_itself : (b : Bool) → not b ≡ b → ⊥
-not_itself true e = false≢true e
-not_itself false e = false≢true (sym e)
+not_itself b h = grind arith
 
 differs : (ca wa t cb wb s n : ℕ) → t < n → s < n → has ca t ≡ false → has cb s ≡ false
     → ((line : ℕ) → has ca line ≡ true → has cb line ≡ true → has wa line ≡ has wb line) → has cb t ≡ true
@@ -265,9 +252,7 @@ agreeing g h e line on other =
     ]
 
 both_false : (x y : Bool) → (not x && not y) ≡ false → (x ≡ true) ⊎ (y ≡ true)
-both_false true y h = inl refl
-both_false false true h = inr refl
-both_false false false h = absurd (false≢true (sym h))
+both_false x y h = grind arith
 
 -- two flips that the rule refuses differ on some word
 pub rule_differs : (g h : Shape) → IsFlip g → IsFlip h → IsGate g → IsGate h → rule g h ≡ false → (n : ℕ) → FitsIn g n → FitsIn h n

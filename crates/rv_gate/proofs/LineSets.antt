@@ -9,7 +9,7 @@ use Rattle.std.proofs.Math.Nat.{div-lt_iff_lt-mul}
 use Rattle.std.proofs.lemmas.Nat.Bits.{bit_at_cat_low, bit_at_cat_high, bit_at-lt, bit_at-zero, bit_at_and, bit_at_or, bit_at_xor, bit_at-pow_same, bit_at-pow_other, bit_at-trailing_zeros, bit_at_above, same_from_bits, same_from_bits_below}
 use Rattle.rv_gate.specs.Word.{has}
 use Rattle.rv_gate.specs.Gate.{xor, Within}
-use Rattle.rv_gate.proofs.Bits.{eqb_refl, or_assoc, or_off}
+use Rattle.rv_gate.proofs.Bits.{eqb_refl, or_assoc, or_off, xor_false, xor_true}
 
 -- ---- bits and lines
 
@@ -119,18 +119,10 @@ lowest left some small = let is = bit_at-trailing_zeros w64 left some small in (
 
 -- a line that is put in or out
 pub has-changed_same : (set a : ℕ) → has (bit_xor set (2 ^ a)) a ≡ not (has set a)
-has-changed_same set a = has-xor set (2 ^ a) a ∙ ap (xor (has set a)) (has-line a a ∙ eq-eqb a a refl) ∙ xor-true (has set a)
-  where
-    xor-true : (b : Bool) → xor b true ≡ not b
-    xor-true true = refl
-    xor-true false = refl
+has-changed_same set a = has-xor set (2 ^ a) a ∙ ap (xor (has set a)) (has-line a a ∙ eq-eqb a a refl) ∙ xor_true (has set a)
 
 pub has-changed_other : (set a line : ℕ) → line ≢ a → has (bit_xor set (2 ^ a)) line ≡ has set line
-has-changed_other set a line other = has-xor set (2 ^ a) line ∙ ap (xor (has set line)) (has-line a line ∙ ne_eqb line a other) ∙ xor-false (has set line)
-  where
-    xor-false : (b : Bool) → xor b false ≡ b
-    xor-false true = refl
-    xor-false false = refl
+has-changed_other set a line other = has-xor set (2 ^ a) line ∙ ap (xor (has set line)) (has-line a line ∙ ne_eqb line a other) ∙ xor_false (has set line)
 
 -- `care | 1 << line`
 pub has-or_one_shl : (care target line : ℕ) → target < 64 → has (bit_or care (1 * 2 ^ target % 2 ^ 64)) line ≡ (has care line || eqb line target)

@@ -24,6 +24,7 @@ pub(crate) fn gathering(positions: &[u8]) -> Moves
     requires few { length positions.now ≤ MOST_LINES }
     ensures moves { swaps_by result.items ≡ gathering positions.now }
     ensures within { (n : ℕ) → AreAscending 0 n positions.now → AreMoves n result.items }
+    ensures few_swaps { length (swaps_by result.items) ≤ 2016 }
 {
     let middle = (positions.len() - 1) / 2;
     let centre = positions[middle];

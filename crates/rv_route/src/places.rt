@@ -5,10 +5,10 @@ ghost use Rattle.rv_gate.specs.Gate.{FitsIn, Within};
 ghost use Rattle.rv_gate.specs.declared.word.TheConstants.{MOST_LINES};
 ghost use Rattle.rv_route.specs.Placement.{home, positions_of, gate_on};
 ghost use Rattle.rv_route.specs.Moves.{touched_positions};
-ghost use Rattle.rv_route.specs.inside.Standing.{IsTable, Stands, shifted};
+ghost use Rattle.rv_route.specs.inside.Standing.{AreAscending, IsTable, Stands, shifted};
 
 use arrayvec::ArrayVec;
-use rv_gate::{Gate, LineSet, MOST_LINES, Shape};
+use rv_gate::{Gate, LineSet, MOST_LINES, Shape, has};
 
 /// Each line at the position of its number.
 pub(crate) fn home() -> [u8; 64]
@@ -65,18 +65,18 @@ fn positions_of(places: &[u8], set: LineSet) -> LineSet
     positions
 }
 
-// The lines of a set, in ascending order.
-fn lines_of(set: LineSet) -> ArrayVec<u8, 64>
-    ensures { result.items ≡ filter (has set) (range_with_len 0 MOST_LINES) }
+// The members of a set below a number, in ascending order.
+fn members_of(set: LineSet, count: usize) -> ArrayVec<u8, 64>
+    requires { count ≤ MOST_LINES }
+    ensures { result.items ≡ filter (has set) (range_with_len 0 count) }
 {
-    let mut lines = ArrayVec::new();
-    let mut left = set;
-    while left != 0 {
-        let line = left.trailing_zeros();
-        lines.push(line as u8);
-        left &= !(1 << line);
+    let mut members = ArrayVec::new();
+    for line in 0..count {
+        if has(set, line as u8) {
+            members.push(line as u8);
+        }
     }
-    lines
+    members
 }
 
 /// The positions of the lines that a gate touches, in ascending order.
@@ -84,9 +84,11 @@ pub(crate) fn touched_positions(places: &[u8], gate: Gate) -> ArrayVec<u8, 64>
     requires table { IsTable places.now }
     requires few { length places.now ≤ MOST_LINES }
     requires fits { FitsIn gate (length places.now) }
-    ensures { (row : List ℕ) → Stands row places.now → result.items ≡ touched_positions row gate }
+    ensures positions { (row : List ℕ) → Stands row places.now → result.items ≡ touched_positions row gate }
+    ensures some { 0 < length result.items }
+    ensures ascending { AreAscending 0 (length places.now) result.items }
 {
-    lines_of(positions_of(places, gate.touched()))
+    members_of(positions_of(places, gate.touched()), places.len())
 }
 
 // The gate with each line replaced by its position, which is one.

@@ -34,10 +34,6 @@ direct_below n (Cswap c a b) w l on =
     elim (or_cases _ _ (sym (has-lines a b l) ∙ on)) [ inl e ↦ (let q = eqb-true l a e in let h = w.1 in omega arith) | inr e ↦ (let q = eqb-true l b e in let h = w.2 in omega arith) ]
 direct_below n o w l on = absurd (false≢true (sym (has-none l) ∙ on))
 
-got : {A : Type 0} (o : Option A) → (o ≡ None) ⊎ ((x : A) × (o ≡ Some x))
-got None = inl refl
-got (Some x) = inr (x, refl)
-
 module _ (n : ℕ) (ops : List Op) where
   restarted_past : (k : ℕ) → slice_get ops k ≡ None → restarted_at n ops k ≡ 0
   unfolding restarted_at
@@ -45,7 +41,7 @@ module _ (n : ℕ) (ops : List Op) where
 
   pub restarted_below : All (λ o. OpFitsIn o n) ops → (k l : ℕ) → has (restarted_at n ops k) l ≡ true → l < n
   restarted_below fit k l on =
-      elim (got (slice_get ops k)) [
+      elim (kind (slice_get ops k)) [
         | inl e ↦ absurd (false≢true (sym (has-none l) ∙ ap (λ s. has s l) (sym (restarted_past k e)) ∙ on))
         | inr p ↦
             (let fits : OpFitsIn p.0 n = subst (λ o. OpFitsIn o n) (get_or_from_slice_get ops k p.0 p.0 p.1) (fit k p.0 (slice_get_within ops k p.0 p.1)) in
@@ -58,7 +54,7 @@ module _ (n : ℕ) (ops : List Op) where
   -- a phase restarts nothing
   pub phase_quiet : (m : ℕ) (f : Parity) → parity_at n ops m ≡ Some f → restarted_at n ops m ≡ 0
   phase_quiet m f e =
-      elim (got (slice_get ops m)) [
+      elim (kind (slice_get ops m)) [
         | inl past ↦ restarted_past m past
         | inr p ↦
             (elim (kind (phase_gate p.0)) [
@@ -71,16 +67,6 @@ module _ (n : ℕ) (ops : List Op) where
   phase_apart m f e s = ap (are_apart s) (phase_quiet m f e) ∙ apart_none s
 
   -- ---- when lines were restarted
-
-  pub since_start : (sinces : List ℕ) → length sinces ≡ n → ((line : ℕ) → get_or sinces line 0 ≡ 0) → AreSince n ops 0 sinces
-  since_start sinces e zeros = record {
-    count = e;
-    each = λ line lt. record {
-      early = let z = zeros line in omega arith;
-      none_later = λ k a b. absurd (omega arith);
-      last = λ k q. absurd (let z = zeros line in omega arith);
-    };
-  }
 
   pub since_more : (m : ℕ) (sinces news : List ℕ) (lines : ℕ) → restarted_at n ops m ≡ lines → length news ≡ length sinces → ((line : ℕ) → line < length sinces → get_or news line 0 ≡ cond (has lines line) (m + 1) (get_or sinces line 0)) → AreSince n ops m sinces → AreSince n ops (m + 1) news
   since_more m sinces news lines here len each h = record {
@@ -130,9 +116,6 @@ module _ (n : ℕ) (ops : List Op) where
 
   -- ---- where classes begin
 
-  begins_start : (f : Parity) → Begins n ops 0 f None
-  begins_start f j lt = absurd (omega arith)
-
   -- no phase of the parity stands at the place
   pub begins_other : (m : ℕ) (f : Parity) (first : Option ℕ) → (parity_at n ops m ≡ Some f → ⊥) → Begins n ops m f first → Begins n ops (suc m) f first
   begins_other m f None other h =
@@ -173,9 +156,6 @@ module _ (n : ℕ) (ops : List Op) where
           | inr d ↦ absurd (h j (omega arith) on (λ i a b. k i a (omega arith)))
         ],
   )
-
-  pub first_of_none : (m : ℕ) (f : Parity) → Begins n ops m f None → IsFirst m f
-  first_of_none m f h = h
 
   pub first_of_broken : (m : ℕ) (f : Parity) (first : ℕ) → Begins n ops m f (Some first) → (Kept n ops f.lines first m → ⊥) → IsFirst m f
   first_of_broken m f first h broken j lt on kept = broken (h.2 j lt on kept).1
@@ -229,7 +209,7 @@ module _ (n : ℕ) (ops : List Op) (m : ℕ) (parity : Parity) (here : parity_at
   begins_with_new firsts news sinces since begins found are =
       let is_first : IsFirst n ops m parity =
       elim found [
-        | inl none ↦ first_of_none n ops m parity (subst (λ o. Begins n ops m parity o) none (begins parity))
+        | inl none ↦ subst (λ o. Begins n ops m parity o) none (begins parity)
         | inr p ↦ first_of_broken n ops m parity p.0 (subst (λ o. Begins n ops m parity o) p.1 (begins parity)) (λ kept. p.2 (if_kept n ops m sinces parity.lines p.0 since kept))
       ] in (
         starts_new n ops m parity here is_first,

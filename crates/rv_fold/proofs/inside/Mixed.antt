@@ -1,17 +1,17 @@
 -- The lines whose parities aren't alone, and what a restart reaches through them.
-use Rattle.rv_gate.proofs.Bits.{same_bool}
-use Rattle.std.proofs.Common.{◌≡◌, ℕ, ◌+◌, ◌-◌, ◌*◌, ◌%◌, ◌^◌, ◌<◌, Bool, true, false, cond, ◌&&◌, ◌||◌, eqb, refl, sym, ap, ◌∙◌, arith, inl, inr, eq-eqb, ne_eqb, w64}
+use Rattle.rv_gate.proofs.Bits.{and_true, same_bool}
+use Rattle.std.proofs.Common.{◌≡◌, ℕ, ◌+◌, ◌-◌, ◌*◌, ◌%◌, ◌^◌, ◌<◌, Bool, true, false, cond, not, ◌&&◌, eqb, refl, sym, ap, ◌∙◌, arith, inl, inr, eq-eqb, ne_eqb, w64}
 use Rattle.std.specs.Prelude.{bit_and, bit_or}
 use Rattle.std.specs.Int.{bit_not}
-use Rattle.std.proofs.lemmas.Bool.{cases_eq, cases_lt, eqb-true}
+use Rattle.std.proofs.lemmas.Bool.{cases_eq, cases_lt, eqb-true, and_parts, not-true, or_cases, or_left, or_parts, or_right}
 use Rattle.std.proofs.lemmas.Nat.{and_le_l, le_or_l}
 use Rattle.std.proofs.lemmas.Nat.Bits.{bit_at_not}
 use Rattle.rv_gate.specs.Word.{has}
 use Rattle.rv_gate.proofs.LineSets.{has-none, has-and, has-or_one_shl, has-above, has-line, has_not, has_one, same_lines, below-Within, Within-below}
-use Rattle.rv_gate.proofs.LowestLine.{IsLowest}
+use Rattle.rv_gate.proofs.LowestLine.{IsLowest, still_there}
 use Rattle.rv_fold.specs.Parities.{Parity, Parities, alone, are_apart, restart_set, restarted, with_parity, IsClosed}
 use Rattle.rv_fold.specs.inside.Mixed.{AreMixed}
-use Rattle.rv_fold.proofs.Restarts.{Within, apart-within, or-cases, or-left, or-right, restarts_least, true-false}
+use Rattle.rv_fold.proofs.Restarts.{Within, apart-within, restarts_least, true-false}
 
 -- ---- sets
 
@@ -22,33 +22,23 @@ less a b = bit_and a (bit_not w64 b)
 less_on : (a b line : ℕ) → has (less a b) line ≡ true → has a line ≡ true
 less_on a b line on = grind (arith, bit_not, has-and)
 
-has-complement : (b line : ℕ) (q : Bool) → b < 2 ^ 64 → line < 64 → has b line ≡ q → has (bit_not w64 b) line ≡ cond q false true
+has-complement : (b line : ℕ) (q : Bool) → b < 2 ^ 64 → line < 64 → has b line ≡ q → has (bit_not w64 b) line ≡ not q
 has-complement b line true small lt on = ne_eqb _ 1 (λ e. let n = bit_at_not w64 b line small lt in let o = has_one b line on in omega arith)
 has-complement b line false small lt off = eq-eqb _ 1 (let n = bit_at_not w64 b line small lt in let o = has_not b line off in omega arith)
 
+has-less : (a b line : ℕ) → a < 2 ^ 64 → b < 2 ^ 64 → has (less a b) line ≡ (has a line && not (has b line))
+has-less a b line sa sb =
+    has-and a (bit_not w64 b) line
+    ∙ (elim (cases_lt line 64) [
+      | inl lt ↦ ap (λ t. has a line && t) (has-complement b line (has b line) sb lt refl)
+      | inr above ↦ rw (has-above a 64 line sa above) refl
+    ])
+
 less_off : (a b line : ℕ) → a < 2 ^ 64 → b < 2 ^ 64 → has (less a b) line ≡ true → has b line ≡ false
-less_off a b line sa sb on = elim (cases_lt line 64) [
-  | inl lt ↦ go (has b line) refl lt
-  | inr above ↦ absurd (true-false _ (less_on a b line on) (has-above a 64 line sa above))
-]
-  where
-    go : (q : Bool) → has b line ≡ q → line < 64 → q ≡ false
-    go false e lt = refl
-    go true e lt = absurd (true-false _ on (has-and a (bit_not w64 b) line ∙ ap (λ t. has a line && t) (has-complement b line true sb lt e) ∙ and_false (has a line)))
-      where
-        and_false : (p : Bool) → (p && false) ≡ false
-        and_false true = refl
-        and_false false = refl
+less_off a b line sa sb on = not-true _ (and_parts _ _ (sym (has-less a b line sa sb) ∙ on)).1
 
 less_neither : (a b line : ℕ) → a < 2 ^ 64 → b < 2 ^ 64 → has b line ≡ false → has (less a b) line ≡ false → has a line ≡ false
-less_neither a b line sa sb out off = elim (cases_lt line 64) [
-  | inl lt ↦ go (has a line) refl lt
-  | inr above ↦ has-above a 64 line sa above
-]
-  where
-    go : (q : Bool) → has a line ≡ q → line < 64 → q ≡ false
-    go false e lt = refl
-    go true e lt = absurd (true-false _ (has-and a (bit_not w64 b) line ∙ ap (λ t. t && has (bit_not w64 b) line) e ∙ has-complement b line false sb lt out) off)
+less_neither a b line sa sb out off = sym (and_true (has a line)) ∙ ap (λ t. has a line && not t) (sym out) ∙ sym (has-less a b line sa sb) ∙ off
 
 abbrev pub with_one : ℕ → ℕ → ℕ
 with_one set line = bit_or set (1 * 2 ^ line % 2 ^ 64)
@@ -61,21 +51,13 @@ mixed_none n = record { within = λ line on. absurd (true-false _ on (has-none l
 module _ (n : ℕ) (parities : Parities) (mixed : ℕ) (are : AreMixed n parities mixed) where
   pub mixed_more : (changed : ℕ) (parity : Parity) → changed < n → changed < 64 → AreMixed n (with_parity parities changed parity) (with_one mixed changed)
   mixed_more changed parity within small = record {
-    within = λ line on. elim (or-cases _ _ (sym (has-or_one_shl mixed changed line small) ∙ on)) [
+    within = λ line on. elim (or_cases _ _ (sym (has-or_one_shl mixed changed line small) ∙ on)) [
       | inl before ↦ are.within line before
       | inr here ↦ (let same : line ≡ changed = eqb-true _ _ here in omega arith)
     ];
-    alone = λ line off. let out = sym (has-or_one_shl mixed changed line small) ∙ off in
-        ap (λ b. (cond b parity (parities line)).lines) (right_off _ _ out) ∙ are.alone line (left_off _ _ out);
+    alone = λ line off. let out = or_parts _ _ (sym (has-or_one_shl mixed changed line small) ∙ off) in
+        ap (λ b. (cond b parity (parities line)).lines) out.1 ∙ are.alone line out.0;
   }
-    where
-      left_off : (a b : Bool) → (a || b) ≡ false → a ≡ false
-      left_off true b e = e
-      left_off false b e = refl
-
-      right_off : (a b : Bool) → (a || b) ≡ false → b ≡ false
-      right_off a true e = absurd (true-false _ (or-right a true refl) e)
-      right_off a false e = refl
 
   pub mixed_restarted : (set : ℕ) → mixed < 2 ^ 64 → set < 2 ^ 64 → AreMixed n (restarted set parities) (less mixed set)
   mixed_restarted set small fits = record {
@@ -122,8 +104,8 @@ module _ (n : ℕ) (parities : Parities) (mixed first : ℕ) where
 
     pub reaches_more : (set left line : ℕ) → Reaches set left → has left line ≡ true → line < 64 → are_apart (parities line).lines set ≡ false → with_one set line < 2 ^ 64 → Reaches (with_one set line) (less mixed (with_one set line))
     reaches_more set left line before there lt meets fits = record {
-      grows = λ l on. has-or_one_shl set line l lt ∙ or-left _ _ (before.grows l on);
-      least = λ other is l on. elim (or-cases _ _ (sym (has-or_one_shl set line l lt) ∙ on)) [
+      grows = λ l on. has-or_one_shl set line l lt ∙ or_left _ _ (before.grows l on);
+      least = λ other is l on. elim (or_cases _ _ (sym (has-or_one_shl set line l lt) ∙ on)) [
         | inl old ↦ before.least other is l old
         | inr here ↦ ap (has other) (eqb-true _ _ here) ∙ is.closed line (are.within line (before.among line there)) (joins other is (are_apart (parities line).lines other) refl)
       ];
@@ -153,10 +135,7 @@ module _ (n : ℕ) (parities : Parities) (mixed first : ℕ) where
 
       stays : (l : ℕ) → has rest l ≡ true → has left l ≡ true
       stays l on = elim (cases_lt l 64) [
-        | inl lt ↦ (elim (cases_eq l line) [
-          | inl here ↦ absurd (true-false _ on (ap (has rest) here ∙ lowest.gone))
-          | inr other ↦ sym (lowest.same l lt other) ∙ on
-        ])
+        | inl lt ↦ still_there left line rest lowest l lt on
         | inr above ↦ absurd (true-false _ on (has-above rest 64 l rest_small above))
       ]
 
@@ -179,7 +158,7 @@ module _ (n : ℕ) (parities : Parities) (mixed first : ℕ) where
 
 pub more_lines : (set line : ℕ) → line < 64 → has set line ≡ false → set < with_one set line
 more_lines set line lt out = elim (cases_eq (with_one set line) set) [
-  | inl same ↦ absurd (true-false _ (sym (ap (λ s. has s line) same) ∙ has-or_one_shl set line line lt ∙ or-right (has set line) _ (eq-eqb line line refl)) out)
+  | inl same ↦ absurd (true-false _ (sym (ap (λ s. has s line) same) ∙ has-or_one_shl set line line lt ∙ or_right (has set line) _ (eq-eqb line line refl)) out)
   | inr other ↦ (let le = le_or_l set (1 * 2 ^ line % 2 ^ 64) in omega arith)
 ]
 
@@ -189,7 +168,7 @@ less_below a b small = let le = and_le_l a (bit_not w64 b) in omega arith
 pub with_one_below : (set line : ℕ) → line < 64 → set < 2 ^ 64 → with_one set line < 2 ^ 64
 with_one_below set line lt small =
     below-Within (with_one set line) 64
-    (λ l on. elim (or-cases _ _ (sym (has-or_one_shl set line l lt) ∙ on)) [ inl old ↦ Within-below set 64 small l old | inr here ↦ let same : l ≡ line = eqb-true _ _ here in omega arith ])
+    (λ l on. elim (or_cases _ _ (sym (has-or_one_shl set line l lt) ∙ on)) [ inl old ↦ Within-below set 64 small l old | inr here ↦ let same : l ≡ line = eqb-true _ _ here in omega arith ])
 
 -- what the walk has to look at: the lines outside of the set, and what is left
 pub fewer_left : (set left rest : ℕ) → rest < left → (2 ^ 64 - set) * 2 ^ 64 + rest < (2 ^ 64 - set) * 2 ^ 64 + left

@@ -11,7 +11,7 @@ use Rattle.rv_fold.specs.Folded.{phase_gate, phase_ops, exponent_of, phase_gate_
 use Rattle.rv_fold.specs.inside.Standing.{StartsAt, AreSums, sum_at, sent, sent_phase}
 use Rattle.rv_fold.specs.Parities.{Parity}
 use Rattle.rv_fold.proofs.Joining.{Joined, joined_at, joined_from, joined_back, joined_through, some_parity_here, no_parity_here, phase_here, worth_from, sum_none}
-use Rattle.rv_fold.proofs.Walking.{kind}
+use Rattle.rv_fold.proofs.Walking.{at_none, kind}
 
 module _ (n : ℕ) (ops : List Op) where
   first_unless : (j : ℕ) → ((i : ℕ) → i < j → Joined n ops i j → ⊥) → is_first n ops j ≡ true
@@ -52,17 +52,13 @@ module _ (n : ℕ) (ops : List Op) where
           ∙ ap (λ k. sum_at n ops k j) q;
     }
       where
-        either : (b : Bool) → ◌≡◌ {A = ℕ} (cond b 0 0) 0
-        either true = refl
-        either false = refl
-
         worthless : (j : ℕ) → worth_from n ops j m ≡ 0
-        worthless j = ap (λ c. cond (joinable n ops j m) (exponent_of c) 0) (phase_here n ops m o at ∙ e) ∙ either (joinable n ops j m)
+        worthless j = ap (λ c. cond (joinable n ops j m) (exponent_of c) 0) (phase_here n ops m o at ∙ e) ∙ at_none (joinable n ops j m)
 
         go : (j : ℕ) → j ≡ m → sum_at n ops (suc m) j ≡ 0
         go j same =
             let none : sum_below (worth_from n ops j) (suc m) ≡ 0 = sum_none n ops (worth_from n ops j) (suc m) (λ k lt. ap (λ c. cond (joins n ops c j k) (exponent_of (phase_gate_at ops k)) 0) (ap (parity_at n ops) same ∙ no_parity_here n ops m o at e)) in
-            ap (λ s. cond (is_first n ops j) (s % 8) 0) none ∙ either (is_first n ops j)
+            ap (λ s. cond (is_first n ops j) (s % 8) 0) none ∙ at_none (is_first n ops j)
 
     pub sums_phase : (p : PhaseGate) → phase_gate o ≡ Some p → (first : ℕ) → StartsAt n ops m (parities_at n ops m p.line) first → AreSums n ops (m + 1) (set (sums ++ 0 ∷ []) first ((get_or (sums ++ 0 ∷ []) first 0 + p.exponent) % 8))
     unfolding sum_below

@@ -3,7 +3,7 @@ use Rattle.std.proofs.Common.{◌≡◌, ◌≢◌, ℕ, ◌-◌, ◌+◌, ◌*�
 use Rattle.std.specs.Prelude.{bit_and, bit_or, bit_xor}
 use Rattle.std.proofs.Math.Bool.{beq}
 use mir.Val.{bool_byte}
-use Rattle.std.proofs.lemmas.Bool.{cases_eq, cases_Bool, cond-true, cond-false, eqb-true, false≢true}
+use Rattle.std.proofs.lemmas.Bool.{cases_eq, cases_Bool, cond-true, cond-false, eqb-true}
 use Rattle.std.proofs.lemmas.Bool.Decides.{same_from_decides}
 use Rattle.std.proofs.lemmas.Nat.{one_shl, pow_below, or_lt, xor_lt, and_le_l}
 use Rattle.std.proofs.lemmas.Nat.Bits.{bit_at-lt, bit_at-zero, bit_at_and, bit_at_xor, bit_at_set_same, bit_at_set_other, bit_at_clear_same, bit_at_clear_other, same_from_bits}
@@ -157,16 +157,10 @@ pub still_there : (on : Bool) (word : List Bool) (line other : ℕ) → other < 
 still_there on word line other lt = omega (arith, length-turned_if on word line)
 
 beq_not : (x y : Bool) → not (beq x y) ≡ true → y ≡ not x
-beq_not true true e = absurd (false≢true e)
-beq_not true false e = refl
-beq_not false true e = refl
-beq_not false false e = absurd (false≢true e)
+beq_not x y h = grind arith
 
 beq_same : (x y : Bool) → not (beq x y) ≡ false → x ≡ y
-beq_same true true e = refl
-beq_same true false e = absurd (false≢true (sym e))
-beq_same false true e = absurd (false≢true (sym e))
-beq_same false false e = refl
+beq_same x y h = grind arith
 
 -- an exchange of two lines changes both where they differ
 exchanged_same : (word : List Bool) (a b : ℕ) → bit_of word a ≡ bit_of word b → exchanged word a b ≡ word

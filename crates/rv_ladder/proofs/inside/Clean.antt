@@ -15,12 +15,9 @@ use Rattle.rv_mct.proofs.inside.Ladders.{Zeros, higher, met as met_one, met_all,
 use Rattle.rv_mct.proofs.inside.LongFlips.{act_put, clean_divided, distinct_rising, in_range, in_rising, length-rising, every_from}
 use Rattle.rv_net.specs.declared.op.Op.{Op}
 use Rattle.rv_net.specs.declared.op.Op.TheVariants.{Cx}
-use Rattle.rv_net.specs.Amplitude.{count_h}
 use Rattle.rv_net.specs.Cyclotomic.{Cyclotomic, plus, times_w_power, doubled}
-use Rattle.rv_net.specs.Network.{toffoli}
 use Rattle.rv_net.proofs.Step.{Word, bit}
 use Rattle.rv_net.proofs.Frame.{through, through-append}
-use Rattle.rv_net.proofs.inside.Network.{count_h-append}
 use Rattle.rv_net.proofs.Toffoli.{through-toffoli}
 use Rattle.rv_ladder.specs.Ladder.{clean_flip, clean_over, lines_of, rung, zeros}
 use Rattle.rv_ladder.specs.inside.Moved.{level}
@@ -29,7 +26,9 @@ use Rattle.rv_ladder.proofs.inside.Fitting.{Fit, fit_clean}
 use Rattle.rv_ladder.proofs.inside.Flips.{small_lines}
 use Rattle.rv_ladder.proofs.inside.Rungs.{through-rung}
 use Rattle.rv_ladder.proofs.inside.Ladders.{flips_first}
-use Rattle.rv_ladder.proofs.inside.Nets.{Runs, runs_as, runs_then, runs_zeros, count_h-rung, flipped, flipped-bit, flipped-met, flipped-set, flipped-twice, length-flipped}
+use Rattle.rv_ladder.proofs.Counting.{hadamards-are}
+use Rattle.rv_ladder.proofs.inside.Totals.{length-lines}
+use Rattle.rv_ladder.proofs.inside.Nets.{Runs, runs_as, runs_then, runs_zeros, flipped, flipped-bit, flipped-met, flipped-set, flipped-twice, length-flipped}
 use Rattle.rv_gate.proofs.Bits.{and_assoc, xor_false, xor_same}
 use Rattle.rv_net.proofs.Cyclotomic.{doubled-power, doubled-more}
 
@@ -50,8 +49,7 @@ through-first k x a b z lz az bz =
     ∙ ap (λ p. doubled 1 (times_w_power p (k (set x z (xor (bit x a && bit x b) (bit x z)))))) (let e : 0 + level (bit x a) (bit x b) (bit x z) ≡ level (bit x a) (bit x b) (bit x z) = omega arith in e)
 
 and_true : (x : Bool) → x ≡ (x && true)
-and_true true = refl
-and_true false = refl
+and_true x = grind arith
 
 -- two flips up to powers of w round another network, where the powers cancel
 outside : (m p q : ℕ) (u : Cyclotomic) → times_w_power p (times_w_power q u) ≡ u → doubled 1 (times_w_power p (doubled m (doubled 1 (times_w_power q u)))) ≡ doubled (suc (m + 1)) u
@@ -121,15 +119,9 @@ through-clean n on a b (c ∷ more) (z ∷ hs) t k x r len enough zs =
     )
     ∙ outside (rounds more) (level A B false) (level A B (xor j false)) _ (level_twice A B false _)
 
-count_h-clean : (a b : ℕ) (more : List Control) (hs : List ℕ) (t : ℕ) → length more ≡ length hs → count_h (clean_flip a b (lines_of more) hs t) ≡ 2 * rounds more
-unfolding clean_flip count_h toffoli
-count_h-clean a b [] hs t e = refl
-count_h-clean a b (c ∷ more) [] t e = absurd (omega (arith, e))
-count_h-clean a b (c ∷ more) (z ∷ hs) t e =
-    let V : List Op = rung b z (Cx a z ∷ []) in
-    let L : List Op = clean_flip z c.line (lines_of more) hs t in
-    let v : count_h V ≡ 2 = count_h-rung b z (Cx a z ∷ []) in
-    omega (arith, count_h-append V (L ++ V), count_h-append L V, v, count_h-clean z c.line more hs t (omega (arith, e)))
+rounds-is : (cs : List Control) → rounds cs ≡ 2 * length cs + 1
+rounds-is [] = refl
+rounds-is (c ∷ cs) = omega (arith, rounds-is cs)
 
 -- ---- with lines from n on that hold 0
 
@@ -163,7 +155,7 @@ runs_clean_over n extra want t (p ∷ (q ∷ rest)) dx below out lt some d =
     let run : Runs ok net moves = record {
       twos = rounds more;
       each = λ k x o. through-clean all d.0 a b more hs t k x both o.0 (sym lh) (every_from (λ h. bit x h ≡ false) hs (λ z i. o.1 z (in_range n (length more) z i).0));
-      counted = count_h-clean p q more hs t (sym lh);
+      counted = omega (arith, hadamards-are.clean p q (lines_of more) hs t (length-lines more ∙ sym lh), rounds-is more, length-lines more);
       fitting = λ x o. subst (λ k. Fit k net) (sym o.0) (fit_clean all d.0 a b more hs t both);
     } in
     let small : (x : Word) → ok x → Every (λ c. c.line < length x) cs = λ x o. small_lines want (p ∷ (q ∷ rest)) (length x) (λ z i. let l : z < n = below z i in omega (arith, o.0, l)) in

@@ -20,14 +20,11 @@ use Rattle.rv_net.specs.declared.op.Op.{Op}
 use Rattle.rv_net.proofs.Step.{Word, bit}
 use Rattle.rv_ladder.specs.Ladder.{borrowed_flip, borrowed_net, borrowed_over, halves_net, lines_of, split_net, zeros}
 use Rattle.rv_ladder.specs.inside.Moved.{Divides, IsOn, met}
+use Rattle.rv_ladder.proofs.inside.Totals.{length-lines}
 use Rattle.rv_ladder.proofs.inside.Nets.{HasLength, Runs, runs_as, runs_borrowed, runs_then, runs_zeros, flipped, flipped-bit, flipped-met, flipped-set, flipped-twice, length-flipped}
 use Rattle.rv_gate.proofs.Bits.{and_comm}
 
 -- ---- the controls, as lines
-
-length-lines : (cs : List Control) → length (lines_of cs) ≡ length cs
-length-lines [] = refl
-length-lines (c ∷ cs) = ap suc (length-lines cs)
 
 every_line : (n : ℕ) (on : ℕ → Bool) (cs : List Control) → Every (IsControl n on) cs → Every (IsOn n on) (lines_of cs)
 every_line n on [] h = tt

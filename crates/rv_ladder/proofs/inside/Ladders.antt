@@ -31,14 +31,7 @@ unfolding through times_w_power doubled
 flips_first x a t lt at = record { each = λ k b. cx_put [] k x a t b lt at }
 
 xor_between : (m h b : Bool) → xor (xor m h) (xor h b) ≡ xor m b
-xor_between true true true = refl
-xor_between true true false = refl
-xor_between true false true = refl
-xor_between true false false = refl
-xor_between false true true = refl
-xor_between false true false = refl
-xor_between false false true = refl
-xor_between false false false = refl
+xor_between m h b = grind arith
 
 pub through-down : (n : ℕ) (on : ℕ → Bool) (a b : ℕ) (more hs : List ℕ) (t : ℕ) (k : Word → Cyclotomic) (x : Word) → Divides n on a b more hs t → length x ≡ n
     → through (down a b more hs t) k x ≡ lift (suc (length more)) (turned a b more hs t x) (k (moved a b more hs t x))

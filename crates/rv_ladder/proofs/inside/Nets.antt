@@ -3,12 +3,13 @@ use Rattle.std.proofs.Common.{◌≡◌, ◌≢◌, ℕ, suc, ◌+◌, ◌*◌, 
 use Rattle.std.proofs.lemmas.List.{set_comm, set-get_or}
 use Rattle.rv_gate.specs.Gate.{same}
 use Rattle.rv_gate.specs.Word.{has}
+use Rattle.rv_gate.proofs.Bits.{not_not}
 use Rattle.rv_mct.specs.Blocks.{control}
 use Rattle.rv_mct.specs.declared.control.Control.{Control}
 use Rattle.rv_mct.specs.inside.LadderLines.{Distinct, Every, In}
 use Rattle.rv_mct.proofs.inside.Ladders.{met as met_one, put, off_on}
 use Rattle.rv_net.specs.declared.op.Op.{Op}
-use Rattle.rv_net.specs.declared.op.Op.TheVariants.{X, H, Cx}
+use Rattle.rv_net.specs.declared.op.Op.TheVariants.{X}
 use Rattle.rv_net.specs.Amplitude.{count_h}
 use Rattle.rv_net.specs.Cyclotomic.{Cyclotomic, times_w_power, doubled}
 use Rattle.rv_net.specs.Network.{on_zero, toffoli}
@@ -16,37 +17,12 @@ use Rattle.rv_net.proofs.Step.{Word, bit}
 use Rattle.rv_net.proofs.Frame.{through, through-append}
 use Rattle.rv_net.proofs.inside.Network.{count_h-append}
 use Rattle.rv_net.proofs.Toffoli.{through-toffoli}
-use Rattle.rv_ladder.specs.Ladder.{borrowed_flip, down, half, quarter_back, rung, zeros}
+use Rattle.rv_ladder.specs.Ladder.{borrowed_flip, zeros}
 use Rattle.rv_ladder.specs.inside.Moved.{Divides, met}
+use Rattle.rv_ladder.proofs.Counting.{hadamards-are}
 use Rattle.rv_ladder.proofs.inside.Fitting.{Fit, fit_append, fit_borrowed, fit_zeros}
 use Rattle.rv_ladder.proofs.inside.Ladders.{through-borrowed}
 use Rattle.rv_net.proofs.Cyclotomic.{doubled-more}
-
--- ---- the number of H
-
-pub count_h-rung : (c t : ℕ) (inner : List Op) → count_h (rung c t inner) ≡ suc (suc (count_h inner))
-unfolding count_h
-count_h-rung c t inner = ap suc (count_h-append inner (half c t ++ (H t ∷ []))) ∙ (let e : suc (count_h inner + 1) ≡ suc (suc (count_h inner)) = omega arith in e)
-
-pub count_h-down : (a b : ℕ) (more hs : List ℕ) (t : ℕ) → length more ≡ length hs → count_h (down a b more hs t) ≡ 2 * suc (length more)
-unfolding count_h down
-count_h-down a b [] hs t e = count_h-rung b t (Cx a t ∷ [])
-count_h-down a b (c ∷ more) [] t e = absurd (omega (arith, e))
-count_h-down a b (c ∷ more) (h ∷ hs) t e =
-    let i : count_h (down a b more hs h) ≡ 2 * suc (length more) = count_h-down a b more hs h (omega (arith, e)) in
-    count_h-rung c t (Cx h t ∷ (down a b more hs h ++ (Cx h t ∷ []))) ∙ omega (arith, i, count_h-append (down a b more hs h) (Cx h t ∷ []))
-
-pub count_h-borrowed : (a b c : ℕ) (more : List ℕ) (h : ℕ) (hs : List ℕ) (t : ℕ) → length more ≡ length hs
-    → count_h (borrowed_flip a b (c ∷ more) (h ∷ hs) t) ≡ 2 * suc (suc (length more) + suc (length more))
-unfolding count_h borrowed_flip
-count_h-borrowed a b c more h hs t e =
-    let V : List Op = down a b more hs h in
-    omega (
-      arith,
-      count_h-append V (quarter_back c h t ++ (V ++ (H t ∷ []))),
-      count_h-append V (H t ∷ []),
-      count_h-down a b more hs h e,
-    )
 
 -- ---- networks that move words, with a root of two for each H
 
@@ -85,7 +61,7 @@ runs_borrowed n on a b (c ∷ more) [] t r ab = absurd (omega (arith, r.enough))
 runs_borrowed n on a b (c ∷ more) (h ∷ hs) t r ab = record {
   twos = suc (suc (length more) + suc (length more));
   each = λ k x e. through-borrowed n on a b c more h hs t k x r e;
-  counted = count_h-borrowed a b c more h hs t (omega (arith, r.enough));
+  counted = omega (arith, hadamards-are.borrowed a b (c ∷ more) (h ∷ hs) t (omega arith) (omega (arith, r.enough)));
   fitting = λ x e. subst (λ m. Fit m (borrowed_flip a b (c ∷ more) (h ∷ hs) t)) (sym e) (fit_borrowed n on a b (c ∷ more) (h ∷ hs) t r ab);
 }
 
@@ -149,12 +125,10 @@ one-same : (c : Control) (x : Word) → c.line < length x → bit (one_flipped c
 one-same c x lt = go c.wanted
   where
     at : (b : Bool) → b ≡ same b true
-    at true = refl
-    at false = refl
+    at b = grind arith
 
     off : (b : Bool) → not b ≡ same b false
-    off true = refl
-    off false = refl
+    off b = grind arith
 
     go : (w : Bool) → bit (cond w x (set x c.line (not (bit x c.line)))) c.line ≡ same (bit x c.line) w
     go true = at (bit x c.line)
@@ -163,15 +137,11 @@ one-same c x lt = go c.wanted
 one-one : (c : Control) (x : Word) → c.line < length x → one_flipped c (one_flipped c x) ≡ x
 one-one c x lt = go c.wanted
   where
-    back : (b : Bool) → not (not b) ≡ b
-    back true = refl
-    back false = refl
-
     go : (w : Bool) → cond w (cond w x (set x c.line (not (bit x c.line)))) (set (cond w x (set x c.line (not (bit x c.line)))) c.line (not (bit (cond w x (set x c.line (not (bit x c.line)))) c.line))) ≡ x
     go true = refl
     go false =
         ap (λ b. set (set x c.line (not (bit x c.line))) c.line (not b)) (get_or-set_same x c.line _ false lt)
-        ∙ set-set x c.line _ _ ∙ ap (set x c.line) (back (bit x c.line)) ∙ set-get_or x c.line false
+        ∙ set-set x c.line _ _ ∙ ap (set x c.line) (not_not (bit x c.line)) ∙ set-get_or x c.line false
 
 -- the second of two controls on different lines may be flipped first
 one-comm : (c d : Control) (x : Word) → c.line ≢ d.line → one_flipped d (one_flipped c x) ≡ one_flipped c (one_flipped d x)

@@ -73,12 +73,10 @@ zero_cut care want line h free =
     (λ x. has care x && not (has want x)) MOST_LINES (λ x lt. at x)
   where
     alone : (b : Bool) → cond {A = ℕ} b 1 0 + 0 ≡ cond b 1 0
-    alone true = refl
-    alone false = refl
+    alone b = grind arith
 
     nothing : (b : Bool) → cond {A = ℕ} (b && not true) 1 0 ≡ 0
-    nothing true = refl
-    nothing false = refl
+    nothing b = grind arith
 
     below_one : (x : ℕ) → x ≡ h → cond {A = ℕ} (has (below care line) x && not (has (below want line) x)) 1 0 ≡ 0
     below_one x e =
@@ -120,7 +118,7 @@ pub record IsCount (counted : Counted) (m : List Op → ℕ) : Type 0 where
   pub cnot : (a t : ℕ) → m (Cx a t ∷ []) ≡ counted.plain 1
   pub toffoli : (a b t : ℕ) → m (toffoli a b t) ≡ counted.plain 2
   pub borrowed : (a b : ℕ) (cs hs : List ℕ) (t : ℕ) → 1 ≤ length cs → length cs ≡ length hs → m (borrowed_flip a b cs hs t) ≡ counted.borrowed (length cs + 2)
-  pub clean : (a b : ℕ) (cs hs : List ℕ) (t : ℕ) → 1 ≤ length cs → length cs ≡ length hs → m (clean_flip a b cs hs t) ≡ counted.clean (length cs + 2)
+  pub clean : (a b : ℕ) (cs hs : List ℕ) (t : ℕ) → length cs ≡ length hs → m (clean_flip a b cs hs t) ≡ counted.clean (length cs + 2)
 
 module _ (counted : Counted) (m : List Op → ℕ) (is : IsCount counted m) where
   on_zero-count : (c : Control) → m (on_zero c) ≡ counted.zero * cond c.wanted 0 1
@@ -229,7 +227,7 @@ module _ (counted : Counted) (m : List Op → ℕ) (is : IsCount counted m) wher
       let n : length (lines_of more) + 2 ≡ length (a ∷ (b ∷ more)) = omega (arith, l) in
       around-count (a ∷ (b ∷ more)) (clean_flip a.line b.line (lines_of more) (range_with_len first (length more)) t)
       ∙ ap (λ k. k + 2 * (counted.zero * wants (a ∷ (b ∷ more))))
-      (is.clean a.line b.line (lines_of more) (range_with_len first (length more)) t (omega (arith, many, l)) (l ∙ sym (length-range_with_len first (length more))) ∙ ap counted.clean n)
+      (is.clean a.line b.line (lines_of more) (range_with_len first (length more)) t (l ∙ sym (length-range_with_len first (length more))) ∙ ap counted.clean n)
 
   -- ---- gates
 

@@ -1,10 +1,10 @@
 -- The positions that pass a test gather: the moves lead them to a block of positions, and no others there.
 use Rattle.std.proofs.Common.{◌≡◌, ℕ, zero, suc, ◌+◌, ◌-◌, ◌<◌, ◌≤◌, ◌⊎◌, Bool, true, false, cond, List, [], ◌∷◌, ◌++◌, length, get_or, take, drop, refl, sym, ◌∙◌, ap, inl, inr, arith, subst, add-one}
-use Rattle.std.proofs.lemmas.Bool.{cases_eq, cases_lt, false≢true}
+use Rattle.std.proofs.lemmas.Bool.{cases_eq, false≢true}
 use Rattle.std.specs.List.{filter, range_with_len}
 use Rattle.rv_route.specs.Moves.{swaps_up, swaps_down, moves_up, moves_down, middle, gathering}
 use Rattle.rv_route.specs.inside.Standing.{AreAscending, shifted}
-use Rattle.rv_route.proofs.inside.Moving.{travels, travels-append, travels_rise, travels_fall, shifted-at, shifted-below, shifted-above, shifted-up, shifted-down}
+use Rattle.rv_route.proofs.inside.Moving.{travels, travels-append, travels_rise, travels_fall, shifted-at, shifted-below, shifted-above, shifted-down}
 
 AreAscending-weaker : (low n : ℕ) (ps : List ℕ) → AreAscending (low + 1) n ps → AreAscending low n ps
 AreAscending-weaker low n [] h = tt
@@ -77,40 +77,16 @@ module _ (f : ℕ → Bool) where
           let is : (q : ℕ) → travels (moves_up rest top ++ swaps_up low goal) q ≡ shifted low goal (first q) =
           λ q. travels-append (moves_up rest top) (swaps_up low goal) q ∙ travels_rise low goal (first q) (omega arith) in
           record {
-            below = λ q l. is q ∙ ap (shifted low goal) (w.below q (omega arith)) ∙ shifted-below low goal q l (omega arith);
-            above = λ q l. is q ∙ ap (shifted low goal) (w.above q l) ∙ shifted-above low goal q (omega arith) (omega arith);
-            on = λ q l t o.
-                (elim (cases_eq q low) [
-                  | inl at ↦
-                      (let z : travels (moves_up rest top ++ swaps_up low goal) q ≡ goal = is q ∙ ap (shifted low goal) (w.below q (omega arith) ∙ at) ∙ shifted-at low goal in
-                      (omega arith, omega arith))
-                  | inr other ↦
-                      (let v = w.on q (omega arith) t o in
-                      let z = is q ∙ shifted-above low goal (first q) (omega arith) (omega arith) in
-                      (omega arith, omega arith))
-                ]);
-            off = λ q l t o.
-                (elim (cases_eq q low) [
-                  | inl at ↦ absurd (neither (f q) (ap f at ∙ here) o)
-                  | inr other ↦
-                      (let v = w.off q (omega arith) t o in
-                      let z = is q ∙ shifted-up low goal (first q) (omega arith) (omega arith) in
-                      (omega arith, omega arith))
-                ]);
+            below = λ q l. grind (arith, is q, w.below q);
+            above = λ q l. grind (arith, is q, w.above q);
+            on = λ q l t o. (grind (arith, is q, w.below q, w.on q), grind (arith, is q, w.below q, w.on q));
+            off = λ q l t o. (grind (arith, is q, w.below q, w.off q), grind (arith, is q, w.below q, w.off q));
           }
       by_test false here small w = record {
         below = λ q l. w.below q (omega arith);
         above = w.above;
-        on = λ q l t o.
-            (elim (cases_eq q low) [
-              | inl at ↦ absurd (neither (f q) o (ap f at ∙ here))
-              | inr other ↦ w.on q (omega arith) t o
-            ]);
-        off = λ q l t o.
-            (elim (cases_eq q low) [
-              | inl at ↦ (let z = w.below q (omega arith) in (omega arith, omega arith))
-              | inr other ↦ (let v = w.off q (omega arith) t o in (omega arith, v.1))
-            ]);
+        on = λ q l t o. (grind (arith, w.on q), grind (arith, w.on q));
+        off = λ q l t o. (grind (arith, w.below q, w.off q), grind (arith, w.below q, w.off q));
       }
 
   -- where positions above bottom, below high, are led: m of those from low on to right above bottom
@@ -161,8 +137,8 @@ module _ (f : ℕ → Bool) where
       by_test false here w v = record {
         below = v.below;
         kept = λ q l t. v.kept q l (omega arith);
-        on = λ q l t o. (elim (cases_eq q low) [ inl at ↦ absurd (neither (f q) o (ap f at ∙ here)) | inr other ↦ v.on q (omega arith) t o ]);
-        off = λ q l t o. (elim (cases_eq q low) [ inl at ↦ v.kept q (omega arith) (omega arith) | inr other ↦ v.off q (omega arith) t o ]);
+        on = λ q l t o. (grind (arith, v.on q), grind (arith, v.on q));
+        off = λ q l t o. grind (arith, v.kept q, v.off q);
       }
 
   -- ---- around one of them
@@ -229,27 +205,11 @@ module _ (f : ℕ → Bool) where
       let v : Down c (c + 1) n (length behind) (travels (moves_down behind c)) = subst Q (sym rest) (down (c + 1) (n - (c + 1)) c n (omega (arith, z.within)) (omega arith)) in
       let first : ℕ → ℕ = travels (moves_up below c) in
       let then : ℕ → ℕ = travels (moves_down behind c) in
-      let is : (q p : ℕ) → first q ≡ p → travels (gathering ps) q ≡ then p = λ q p e. travels-append (moves_up below c) (moves_down behind c) q ∙ ap then e in (
+      let is : (q : ℕ) → travels (gathering ps) q ≡ then (first q) = λ q. travels-append (moves_up below c) (moves_down behind c) q in (
         c - length below,
         c + length behind,
         record {
-          on = λ q lt o.
-              (elim (cases_lt q c) [
-                | inl low ↦ (let w = u.on q (omega arith) low o in let e = is q (first q) refl ∙ v.below (first q) (omega arith) in (omega arith, omega arith))
-                | inr ge ↦
-                    (elim (cases_eq q c) [
-                      | inl at ↦ (let e = is q q (u.above q ge) ∙ v.below q (omega arith) in (omega arith, omega arith))
-                      | inr other ↦ (let e = is q q (u.above q ge) in let w = v.on q (omega arith) lt o in (omega arith, omega arith))
-                    ])
-              ]);
-          off = λ q lt o.
-              (elim (cases_lt q c) [
-                | inl low ↦ (let w = u.off q (omega arith) low o in let e = is q (first q) refl ∙ v.below (first q) (omega arith) in inl (omega arith))
-                | inr ge ↦
-                    (elim (cases_eq q c) [
-                      | inl at ↦ absurd (neither (f q) (ap f at ∙ z.passes) o)
-                      | inr other ↦ (let e = is q q (u.above q ge) in let w = v.off q (omega arith) lt o in inr (omega arith))
-                    ])
-              ]);
+          on = λ q lt o. (grind (arith, is q, u.above q, u.on q, v.below, v.on q), grind (arith, is q, u.above q, u.on q, v.below, v.on q));
+          off = λ q lt o. grind (arith, is q, z.passes, u.above q, u.off q, v.below, v.off q);
         },
       )

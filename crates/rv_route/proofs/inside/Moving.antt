@@ -56,60 +56,34 @@ moved_on n (p ∷ ps) s q len w =
 stays : (a q : ℕ) → shifted a a q ≡ q
 stays a q = grind arith
 
-up_at : (a d : ℕ) → shifted (a + 1) (a + 1 + d) (a + 1) ≡ shifted a (a + suc d) a
-up_at a d = grind arith
-
-up_next : (a d : ℕ) → shifted (a + 1) (a + 1 + d) a ≡ shifted a (a + suc d) (a + 1)
-up_next a d = grind arith
-
-up_low : (a d q : ℕ) → q < a → shifted (a + 1) (a + 1 + d) q ≡ shifted a (a + suc d) q
-up_low a d q lt = grind arith
-
-up_high : (a d q : ℕ) → a + 1 + d < q → shifted (a + 1) (a + 1 + d) q ≡ shifted a (a + suc d) q
-up_high a d q lt = grind arith
-
-up_passed : (a d q : ℕ) → a + 1 < q → q ≤ a + 1 + d → shifted (a + 1) (a + 1 + d) q ≡ shifted a (a + suc d) q
-up_passed a d q lt le = grind arith
-
 up_other : (a d q : ℕ) → q ≢ a → q ≢ a + 1 → shifted (a + 1) (a + 1 + d) q ≡ shifted a (a + suc d) q
 up_other a d q n m =
     elim (cases_lt q a) [
-      | inl low ↦ up_low a d q low
-      | inr ge ↦ (elim (cases_lt (a + 1 + d) q) [ inl high ↦ up_high a d q high | inr le ↦ up_passed a d q (omega arith) le ])
+      | inl low ↦ grind arith
+      | inr ge ↦ (elim (cases_lt (a + 1 + d) q) [ inl high ↦ grind arith | inr le ↦ grind arith ])
     ]
 
+-- one line passes from the first of two neighbours to the second before it goes up from the second
 up_one : (a d q : ℕ) → shifted (a + 1) (a + 1 + d) (twin a q) ≡ shifted a (a + suc d) q
 up_one a d q =
     elim (cases_eq q a) [
-      | inl at ↦ ap (shifted (a + 1) (a + 1 + d)) (twin_low a q at) ∙ up_at a d ∙ ap (shifted a (a + suc d)) (sym at)
+      | inl at ↦ ap (shifted (a + 1) (a + 1 + d)) (twin_low a q at) ∙ grind arith
       | inr n ↦
           (elim (cases_eq q (a + 1)) [
-            | inl next ↦ ap (shifted (a + 1) (a + 1 + d)) (twin_high a q next) ∙ up_next a d ∙ ap (shifted a (a + suc d)) (sym next)
+            | inl next ↦ ap (shifted (a + 1) (a + 1 + d)) (twin_high a q next) ∙ grind arith
             | inr m ↦ ap (shifted (a + 1) (a + 1 + d)) (twin_other a q n m) ∙ up_other a d q n m
           ])
     ]
 
 -- one line passes from the second of two neighbours to the first after it came down to the second
-down_at : (a d q : ℕ) → q ≡ a + 1 + d → (shifted (a + 1 + d) (a + 1) q ≡ a + 1) × (shifted (a + suc d) a q ≡ a)
-down_at a d q e = (grind arith, grind arith)
-
-down_low : (a d q : ℕ) → q ≡ a → (shifted (a + 1 + d) (a + 1) q ≡ a) × (shifted (a + suc d) a q ≡ a + 1)
-down_low a d q e = (grind arith, grind arith)
-
-down_other : (a d q : ℕ) → q ≢ a → q ≢ a + 1 + d → shifted (a + 1 + d) (a + 1) q ≡ shifted (a + suc d) a q
-down_other a d q n m = grind arith
-
-down_off : (a d q : ℕ) → q ≢ a → q ≢ a + 1 + d → (shifted (a + 1 + d) (a + 1) q ≢ a) × (shifted (a + 1 + d) (a + 1) q ≢ a + 1)
-down_off a d q n m = (λ e. grind arith, λ e. grind arith)
-
 down_one : (a d q : ℕ) → twin a (shifted (a + 1 + d) (a + 1) q) ≡ shifted (a + suc d) a q
 down_one a d q =
     elim (cases_eq q (a + 1 + d)) [
-      | inl at ↦ let w = down_at a d q at in twin_high a _ w.0 ∙ sym w.1
+      | inl at ↦ twin_high a _ (grind arith) ∙ grind arith
       | inr m ↦
           (elim (cases_eq q a) [
-            | inl low ↦ let w = down_low a d q low in twin_low a _ w.0 ∙ sym w.1
-            | inr n ↦ let w = down_off a d q n m in twin_other a _ w.0 w.1 ∙ down_other a d q n m
+            | inl low ↦ twin_low a _ (grind arith) ∙ grind arith
+            | inr n ↦ twin_other a _ (λ e. grind arith) (λ e. grind arith) ∙ grind arith
           ])
     ]
 
@@ -290,16 +264,14 @@ moves_down_none bottom = refl
 pub one_up : (ps : List ℕ) (m j c to : ℕ) → 0 < j → j ≤ m → m ≤ length ps → to ≡ c - (m - (j - 1)) → get_or ps (j - 1) 0 ≤ to
     → moves_up (drop (j - 1) (take m ps)) c ≡ moves_up (drop j (take m ps)) c ++ swaps_of (get_or ps (j - 1) 0) to
 one_up ps m j c to some le few is up =
-    let xs : List ℕ = take m ps in
-    let len : length xs ≡ m = length-take-le m ps few in
-    let rest = length-drop j xs in
+    let len : length (take m ps) ≡ m = length-take-le m ps few in
+    let rest = length-drop j (take m ps) in
+    let cut = drop_more (take m ps) (j - 1) 0 (omega arith) in
     let back : j - 1 + 1 ≡ j = omega arith in
-    let there : c - suc (length (drop j xs)) ≡ to = omega arith in
-    ap (λ l. moves_up l c) (drop_more xs (j - 1) 0 (omega arith) ∙ ap (λ k. get_or xs (j - 1) 0 ∷ drop k xs) back)
-    ∙ moves_up_first (get_or xs (j - 1) 0) c (drop j xs)
-    ∙ ap (λ p. moves_up (drop j xs) c ++ swaps_up p (c - suc (length (drop j xs)))) (get_or-take m ps (j - 1) 0 (omega arith))
-    ∙ ap (λ k. moves_up (drop j xs) c ++ swaps_up (get_or ps (j - 1) 0) k) there
-    ∙ ap (λ l. moves_up (drop j xs) c ++ l) (sym (swaps_of-up (get_or ps (j - 1) 0) to up))
+    let there : c - suc (length (drop j (take m ps))) ≡ to = omega arith in
+    let read = get_or-take m ps (j - 1) 0 (omega arith) in
+    let is = swaps_of-up (get_or ps (j - 1) 0) to up in
+    grind (arith, moves_up_first)
 
 pub up_start : (ps : List ℕ) (m c : ℕ) → moves_up (drop m (take m ps)) c ≡ []
 up_start ps m c = at_drop_all (λ l. moves_up l c) (take m ps) m (omega (arith, length-take m ps)) ∙ moves_up_none c
@@ -313,8 +285,7 @@ AreMoves-more n moves next m e lf lt are =
 pub one_down : (ps : List ℕ) (j b : ℕ) → j < length ps → b + 1 ≤ get_or ps j 0
     → moves_down (drop j ps) b ≡ swaps_of (get_or ps j 0) (b + 1) ++ moves_down (drop (j + 1) ps) (b + 1)
 unfolding moves_down
-one_down ps j b lt down =
-    ap (λ l. moves_down l b) (drop_more ps j 0 lt) ∙ ap (λ l. l ++ moves_down (drop (j + 1) ps) (b + 1)) (sym (swaps_of-down (get_or ps j 0) (b + 1) down))
+one_down ps j b lt down = rw (drop_more ps j 0 lt, swaps_of-down (get_or ps j 0) (b + 1) down) refl
 
 pub AreAscending-wider : (low n m : ℕ) (ps : List ℕ) → n ≤ m → AreAscending low n ps → AreAscending low m ps
 AreAscending-wider low n m [] le h = tt

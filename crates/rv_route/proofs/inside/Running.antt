@@ -1,6 +1,6 @@
 -- The word on the positions is the word of the lines under the placement: before a gate and after it.
-use Rattle.std.proofs.Common.{◌≡◌, ◌≢◌, ℕ, ◌+◌, ◌<◌, ◌≤◌, Bool, true, false, ◌||◌, eqb, List, [], ◌∷◌, length, get_or, map, set, All, refl, sym, ◌∙◌, ap, inl, inr, arith, ne_eqb, eq-eqb, subst, ext_get_or}
-use Rattle.std.proofs.lemmas.Bool.{cases_lt, false≢true, eqb-true, or_cases}
+use Rattle.std.proofs.Common.{◌≡◌, ◌≢◌, ℕ, ◌+◌, ◌<◌, ◌≤◌, Bool, true, false, eqb, List, [], ◌∷◌, length, get_or, map, set, All, refl, sym, ◌∙◌, ap, inl, inr, arith, ne_eqb, eq-eqb, subst, ext_get_or}
+use Rattle.std.proofs.lemmas.Bool.{cases_lt, false≢true, eqb-true}
 use Rattle.std.proofs.lemmas.List.{length-map, get_or-map, map-set, get_or_past}
 use Rattle.std.proofs.lemmas.List.Edits.{length-swap, swap_is}
 use Rattle.std.proofs.lemmas.List.Elements.{All-head, All-tail}
@@ -74,65 +74,41 @@ module _ (n : ℕ) (s : List ℕ) (i : IsPlacement n s) where
   pub has-positions_of : (set p : ℕ) → p < n → has (positions_of s set) p ≡ has set (get_or s p 0)
   has-positions_of set p h = has-ones_of (map (has set) s) p ∙ get_or-map (has set) s p 0 false (omega (arith, h, i.len))
 
-  in_positions : (set p : ℕ) → has (positions_of s set) p ≡ true → p < n
-  in_positions set p on =
-      elim (cases_lt p n) [
-        | inl lt ↦ lt
-        | inr past ↦ absurd (false≢true
-            (sym (has-ones_of (map (has set) s) p
-            ∙ get_or_past (map (has set) s) p false (omega (arith, past, i.len, length-map s (has set)))) ∙ on))
-      ]
+  -- what is off past the row is on it
+  on_row : (test : ℕ → Bool) → ((p : ℕ) → n ≤ p → test p ≡ false) → (p : ℕ) → test p ≡ true → p < n
+  on_row test off p on = elim (cases_lt p n) [ inl lt ↦ lt | inr past ↦ absurd (false≢true (sym (off p past) ∙ on)) ]
+
+  off_positions : (set p : ℕ) → n ≤ p → has (positions_of s set) p ≡ false
+  off_positions set p past = has-ones_of (map (has set) s) p ∙ get_or_past (map (has set) s) p false (omega (arith, i.len, length-map s (has set)))
+
+  off_line : (p line : ℕ) → line < n → n ≤ p → eqb p (position_of s line) ≡ false
+  off_line p line lt past = ne_eqb p (position_of s line) (let w = (stands line lt).0 in omega arith)
 
   -- ---- gates
 
   -- what a gate touches on the positions, it touches on the lines
   pub touches-gate_on : (g : Shape) (p : ℕ) → FitsIn g n → p < n → touches (gate_on s g) p ≡ touches g (get_or s p 0)
   touches-gate_on (Flip care want t) p fits h =
-      let x = has-positions_of care p h in
-      let y = eqb-position p t h (TargetsBelow-fits (Flip care want t) n fits) in
-      cc
+      rw (has-positions_of care p h, eqb-position p t h (TargetsBelow-fits (Flip care want t) n fits)) refl
   touches-gate_on (Swap care want a b) p fits h =
       let lt = TargetsBelow-fits (Swap care want a b) n fits in
-      let x = has-positions_of care p h in
-      let y = eqb-position p a h lt.0 in
-      let z = eqb-position p b h lt.1 in
-      cc
+      rw (has-positions_of care p h, eqb-position p a h lt.0, eqb-position p b h lt.1) refl
   touches-gate_on (Peres a b d) p fits h =
       let lt = TargetsBelow-fits (Peres a b d) n fits in
-      let x = eqb-position p a h (fits_peres_a (Peres a b d) a b d n refl fits) in
-      let y = eqb-position p b h lt.0 in
-      let z = eqb-position p d h lt.1 in
-      cc
+      rw (eqb-position p a h (fits_peres_a (Peres a b d) a b d n refl fits), eqb-position p b h lt.0, eqb-position p d h lt.1) refl
 
-  at_position : (p line : ℕ) → line < n → eqb p (position_of s line) ≡ true → p < n
-  at_position p line lt e = omega (arith, eqb-true p (position_of s line) e, (stands line lt).0)
+  touches-past : (g : Shape) → FitsIn g n → (p : ℕ) → n ≤ p → touches (gate_on s g) p ≡ false
+  touches-past (Flip care want t) fits p past =
+      rw (off_positions care p past, off_line p t (TargetsBelow-fits (Flip care want t) n fits) past) refl
+  touches-past (Swap care want a b) fits p past =
+      let lt = TargetsBelow-fits (Swap care want a b) n fits in
+      rw (off_positions care p past, off_line p a lt.0 past, off_line p b lt.1 past) refl
+  touches-past (Peres a b d) fits p past =
+      let lt = TargetsBelow-fits (Peres a b d) n fits in
+      rw (off_line p a (fits_peres_a (Peres a b d) a b d n refl fits) past, off_line p b lt.0 past, off_line p d lt.1 past) refl
 
   pub FitsIn-gate_on : (g : Shape) → FitsIn g n → FitsIn (gate_on s g) n
-  FitsIn-gate_on (Flip care want t) fits p on =
-      elim (or_cases (has (positions_of s care) p) (eqb p (position_of s t)) on) [
-        | inl control ↦ in_positions care p control
-        | inr target ↦ at_position p t (TargetsBelow-fits (Flip care want t) n fits) target
-      ]
-  FitsIn-gate_on (Swap care want a b) fits p on =
-      let lt = TargetsBelow-fits (Swap care want a b) n fits in
-      elim (or_cases (has (positions_of s care) p || eqb p (position_of s a)) (eqb p (position_of s b)) on) [
-        | inl l ↦
-            (elim (or_cases (has (positions_of s care) p) (eqb p (position_of s a)) l) [
-              | inl control ↦ in_positions care p control
-              | inr first ↦ at_position p a lt.0 first
-            ])
-        | inr second ↦ at_position p b lt.1 second
-      ]
-  FitsIn-gate_on (Peres a b d) fits p on =
-      let lt = TargetsBelow-fits (Peres a b d) n fits in
-      elim (or_cases (eqb p (position_of s a) || eqb p (position_of s b)) (eqb p (position_of s d)) on) [
-        | inl l ↦
-            (elim (or_cases (eqb p (position_of s a)) (eqb p (position_of s b)) l) [
-              | inl first ↦ at_position p a (fits_peres_a (Peres a b d) a b d n refl fits) first
-              | inr second ↦ at_position p b lt.0 second
-            ])
-        | inr third ↦ at_position p d lt.1 third
-      ]
+  FitsIn-gate_on g fits = on_row (touches (gate_on s g)) (touches-past g fits)
 
   holds-on : (care want : ℕ) (word : List Bool) → length word ≡ n
       → holds (positions_of s care) (positions_of s want) (word_on s word) ≡ holds care want word
@@ -196,7 +172,7 @@ module _ (n : ℕ) (s : List ℕ) (i : IsPlacement n s) where
   -- ---- gates stay gates
 
   wants_controls : (care want : ℕ) → WantsControls care want → WantsControls (positions_of s care) (positions_of s want)
-  wants_controls care want w p on = let lp = in_positions want p on in has-positions_of care p lp
+  wants_controls care want w p on = let lp = on_row (has (positions_of s want)) (off_positions want) p on in has-positions_of care p lp
       ∙ w (get_or s p 0) (sym (has-positions_of want p lp) ∙ on)
 
   apart : (a b : ℕ) → a < n → b < n → a ≢ b → position_of s a ≢ position_of s b

@@ -1,135 +1,68 @@
 -- One more line of a set, one more line home, one more gate.
-use Rattle.std.proofs.Common.{◌≡◌, ◌≢◌, ℕ, zero, suc, ◌+◌, ◌-◌, ◌<◌, ◌≤◌, Bool, true, false, cond, List, [], ◌∷◌, ◌++◌, ◌*◌, ◌^◌, ◌%◌, ◌||◌, eqb, eq-eqb, bit_or, length, get_or, map, take, drop, refl, sym, ◌∙◌, ap, inl, inr, subst, arith, append_assoc, length-append, ext_get_or}
-use Rattle.std.proofs.lemmas.Bool.{cases_eq, eqb-true, or_cases, or_left, or_right}
-use Rattle.std.proofs.lemmas.List.{append-nil, drop_more, at_drop_all, length-map, length-take-le, get_or-take, get_or-map, get_or_past}
+use Rattle.std.proofs.Common.{◌≡◌, ℕ, zero, suc, ◌+◌, ◌-◌, ◌<◌, ◌≤◌, Bool, false, cond, List, [], ◌∷◌, ◌++◌, ◌*◌, ◌^◌, ◌%◌, ◌||◌, eqb, eq-eqb, ne_eqb, bit_or, length, get_or, map, take, drop, refl, sym, ◌∙◌, ap, inl, inr, subst, arith, append_assoc, length-append, ext_get_or}
+use Rattle.std.proofs.lemmas.Bool.{cases_eq}
+use Rattle.std.proofs.lemmas.List.{append-nil, drop_more, at_drop_all, length-map, length-take-le, get_or-take, get_or-map}
 use Rattle.std.proofs.lemmas.List.FromFn.{length-range_with_len, get_or-range_with_len}
 use Rattle.std.specs.List.{filter, range_with_len}
-use Rattle.rv_gate.proofs.Bits.{same_bool}
-use Rattle.rv_gate.proofs.inside.Ones.{ones_of-is, has-ones_of}
-use Rattle.rv_gate.proofs.LowestLine.{IsLowest, none_left, still_there}
+use Rattle.rv_gate.proofs.Bits.{or_assoc, or_off}
+use Rattle.rv_gate.proofs.inside.Ones.{ones_of-is}
+use Rattle.rv_gate.proofs.LowestLine.{IsLowest, none_left}
 use Rattle.rv_gate.proofs.LineSets.{has-or_one_shl}
 use Rattle.rv_gate.proofs.Ranges.{filter-suc}
 use Rattle.rv_gate.specs.Word.{has}
-use Rattle.rv_gate.specs.Gate.{touches, FitsIn, Within}
+use Rattle.rv_gate.specs.Gate.{touches}
 use Rattle.rv_gate.specs.declared.gate.Shape.{Shape}
 use Rattle.rv_route.specs.Placement.{home, position_of, positions_of, gate_on}
 use Rattle.rv_route.specs.Moves.{swaps_down, swapped, neighbours, gathering, touched_positions, way_home}
 use Rattle.rv_route.specs.Routed.{routed_from}
 use Rattle.rv_route.specs.declared.moves.Move.{Move}
-use Rattle.rv_route.specs.inside.Standing.{IsPlacement, Stands, AreAscending, shifted, swaps_by, swaps_of}
-use Rattle.rv_route.proofs.inside.Running.{stands, position_is, has-positions_of}
+use Rattle.rv_route.specs.inside.Standing.{IsPlacement, Stands, shifted, swaps_by, swaps_of}
+use Rattle.rv_route.proofs.inside.Running.{stands, eqb-position, has-positions_of}
 use Rattle.rv_route.proofs.inside.Gathers.{few}
-use Rattle.rv_route.proofs.inside.Routes.{IsPlacement-home, home_at, routed_none, routed_first, AreHome, one_home, gathers}
+use Rattle.rv_route.proofs.inside.Routes.{IsPlacement-home, home_at, routed_none, routed_first, AreHome, one_home}
 use Rattle.rv_route.proofs.inside.Shifts.{swapped_none, swapped-append}
 use Rattle.rv_route.proofs.inside.Moving.{swaps_of-down, swaps_by_none, Stands-first, Stands-moved, place_of}
 
--- ---- the lines of a set, the lowest first
-
-none_pass : (p : ℕ → Bool) (n : ℕ) → ((k : ℕ) → k < n → p k ≡ false) → filter p (range_with_len 0 n) ≡ []
-none_pass p zero off = refl
-none_pass p (suc n) off =
-    filter-suc p n ∙ ap (λ (b : Bool). filter p (range_with_len 0 n) ++ cond b (n ∷ []) []) (off n (omega arith))
-    ∙ append-nil (filter p (range_with_len 0 n)) ∙ none_pass p n (λ k lt. off k (omega arith))
-
-lowest_of : (left line rest n : ℕ) → n ≤ 64 → line < n → IsLowest left line rest → filter (has left) (range_with_len 0 n) ≡ line ∷ filter (has rest) (range_with_len 0 n)
-lowest_of left line rest zero few lt l = absurd (omega arith)
-lowest_of left line rest (suc n) few lt l =
-    let add : (set : ℕ) (b : Bool) → has set n ≡ b → filter (has set) (range_with_len 0 (suc n)) ≡ filter (has set) (range_with_len 0 n) ++ cond b (n ∷ []) [] =
-    λ set b e. filter-suc (has set) n ∙ ap (λ (b : Bool). filter (has set) (range_with_len 0 n) ++ cond b (n ∷ []) []) e in
-    elim (cases_eq line n) [
-      | inl at ↦
-          add left true (ap (has left) (sym at) ∙ l.there)
-          ∙ ap (λ x. x ++ n ∷ []) (none_pass (has left) n (λ k lt. l.least k (omega arith)))
-          ∙ ap (λ k. k ∷ []) (sym at)
-          ∙ ap (λ x. line ∷ x) (sym (none_pass (has rest) (suc n) (λ k lt. elim (cases_eq k line) [
-            | inl here ↦ ap (has rest) here ∙ l.gone
-            | inr other ↦ l.same k (omega arith) other ∙ l.least k (omega arith)
-          ])))
-      | inr other ↦
-          let ne : n ≢ line = omega arith in
-          add left (has rest n) (sym (l.same n (omega arith) ne))
-          ∙ ap (λ x. x ++ cond (has rest n) (n ∷ []) []) (lowest_of left line rest n (omega arith) (omega arith) l)
-          ∙ ap (λ x. line ∷ x) (sym (add rest (has rest n) refl))
-    ]
-
-pub lines_more : (left line rest : ℕ) (now next all : List ℕ) → IsLowest left line rest → now ++ filter (has left) (range_with_len 0 64) ≡ all → next ≡ now ++ line ∷ []
-    → next ++ filter (has rest) (range_with_len 0 64) ≡ all
-lines_more left line rest now next all l so_far added =
-    ap (λ x. x ++ filter (has rest) (range_with_len 0 64)) added ∙ append_assoc now (line ∷ []) (filter (has rest) (range_with_len 0 64))
-    ∙ ap (λ x. now ++ x) (sym (lowest_of left line rest 64 (omega arith) l.within l)) ∙ so_far
-
-pub lines_end : (left : ℕ) (now all : List ℕ) → left ≡ 0 → now ++ filter (has left) (range_with_len 0 64) ≡ all → now ≡ all
-lines_end left now all z so_far =
-    sym (append-nil now) ∙ ap (λ x. now ++ x) (sym (none_pass (has left) 64 (λ k lt. ap (λ s. has s k) z ∙ none_left k))) ∙ so_far
-
-pub lines_room : (set left line rest : ℕ) (now : List ℕ) → IsLowest left line rest → now ++ filter (has left) (range_with_len 0 64) ≡ filter (has set) (range_with_len 0 64) → length now < 64
-lines_room set left line rest now l so_far =
-    let e = ap length (sym (ap (λ x. now ++ x) (lowest_of left line rest 64 (omega arith) l.within l)) ∙ so_far) in
-    omega (arith, e, length-append now (line ∷ filter (has rest) (range_with_len 0 64)), few (has set) 0 64)
-
 -- ---- positions
 
--- a set of positions: those of the lines of a set that were passed, and no others
-pub record Placing (places : List ℕ) (set left positions : ℕ) : Type 0 where
-  pub among : (line : ℕ) → line < 64 → has left line ≡ true → has set line ≡ true
-  pub done : (line : ℕ) → line < length places → has set line ≡ true → has left line ≡ false → has positions (get_or places line 0) ≡ true
-  pub only : (p : ℕ) → has positions p ≡ true → (line : ℕ) × (line < length places) × (has set line ≡ true) × (get_or places line 0 ≡ p)
+-- what is left of a set, and the lowest line of it
+left_of : (left line rest k : ℕ) → IsLowest left line rest → k < 64 → has left k ≡ (eqb k line || has rest k)
+left_of left line rest k l lt =
+    elim (cases_eq k line) [
+      | inl at ↦ rw (at, l.there, eq-eqb line line refl) refl
+      | inr other ↦ rw (l.same k lt other, ne_eqb k line other) refl
+    ]
 
-pub placing_more : (places : List ℕ) (set left line rest positions : ℕ) → length places ≤ 64 → Within set (length places) → get_or places line 0 < 64 → IsLowest left line rest
-    → Placing places set left positions → Placing places set rest (bit_or positions (1 * 2 ^ get_or places line 0 % 2 ^ 64))
-placing_more places set left line rest positions few within lt l w =
+-- the positions of the lines of a set that were passed, where some are left
+pub record Placing (row : List ℕ) (n set left positions : ℕ) : Type 0 where
+  pub each : (p : ℕ) → p < n → (has positions p || has left (get_or row p 0)) ≡ has set (get_or row p 0)
+  pub past : (p : ℕ) → n ≤ p → has positions p ≡ false
+
+pub placing_more : (row places : List ℕ) (set left line rest positions : ℕ) → Stands row places → length places ≤ 64 → line < length places → IsLowest left line rest
+    → Placing row (length places) set left positions → Placing row (length places) set rest (bit_or positions (1 * 2 ^ get_or places line 0 % 2 ^ 64))
+placing_more row places set left line rest positions s few lt l w =
+    let n : ℕ = length places in
     let place : ℕ = get_or places line 0 in
-    let is : (p : ℕ) → has (bit_or positions (1 * 2 ^ place % 2 ^ 64)) p ≡ (has positions p || eqb p place) = λ p. has-or_one_shl positions place p lt in
-    let on = w.among line l.within l.there in
+    let at : place ≡ position_of row line = s.at line lt in
+    let within = (stands n row s.placement line lt).0 in
+    let is : (p : ℕ) → has (bit_or positions (1 * 2 ^ place % 2 ^ 64)) p ≡ (has positions p || eqb p place) = λ p. has-or_one_shl positions place p (omega arith) in
     record {
-      among = λ k b o. w.among k b (still_there left line rest l k b o);
-      done = λ k b o off.
-          is (get_or places k 0)
-          ∙ (elim (cases_eq k line) [
-            | inl here ↦ or_right (has positions (get_or places k 0)) _ (eq-eqb _ _ (ap (λ x. get_or places x 0) here))
-            | inr other ↦ or_left _ (eqb (get_or places k 0) place) (w.done k b o (sym (l.same k (omega arith) other) ∙ off))
-          ]);
-      only = λ p o.
-          (elim (or_cases (has positions p) (eqb p place) (sym (is p) ∙ o)) [
-            | inl old ↦ w.only p old
-            | inr new ↦ (line, within line on, on, sym (eqb-true p place new))
-          ]);
+      each = λ p lp.
+          (let k : ℕ = get_or row p 0 in
+          let here : eqb p place ≡ eqb k line = ap (eqb p) at ∙ eqb-position n row s.placement p line lp lt in
+          ap (λ b. b || has rest k) (is p ∙ ap (λ b. has positions p || b) here) ∙ sym (or_assoc (has positions p) (eqb k line) (has rest k))
+          ∙ ap (λ b. has positions p || b) (sym (left_of left line rest k l (let v = (s.placement.line p lp).0 in omega arith))) ∙ w.each p lp);
+      past = λ p out. is p ∙ or_off (has positions p) (eqb p place) (ne_eqb p place (omega arith)) ∙ w.past p out;
     }
 
-pub placed_all : (row places : List ℕ) (set left positions : ℕ) → Stands row places → left ≡ 0 → Placing places set left positions → positions ≡ positions_of row set
+pub placed_all : (row places : List ℕ) (set left positions : ℕ) → Stands row places → left ≡ 0 → Placing row (length places) set left positions → positions ≡ positions_of row set
 placed_all row places set left positions s z w =
-    let n : ℕ = length places in
-    let i = s.placement in
-    let from_line : (p : ℕ) → has positions p ≡ true → (p < n) × (has set (get_or row p 0) ≡ true) = λ p on.
-    (let o = w.only p on in
-    let at : position_of row o.0 ≡ p = sym (s.at o.0 o.1) ∙ o.3 in
-    let v = stands n row i o.0 o.1 in
-    (omega (arith, at, v.0), ap (has set) (ap (λ k. get_or row k 0) (sym at) ∙ v.1) ∙ o.2)) in
+    let len : length (map (has set) row) ≡ length places = length-map row (has set) ∙ s.placement.len in
     ones_of-is positions (map (has set) row)
     (λ p lt.
-    let lp : p < n = omega (arith, i.len, length-map row (has set), lt) in
-    let line : ℕ = get_or row p 0 in
-    let v = i.line p lp in
-    let back : get_or places line 0 ≡ p = s.at line v.0 ∙ sym (i_at row n i p lp) in
-    same_bool _ _ (λ on. get_or-map (has set) row p 0 false (omega (arith, i.len)) ∙ (from_line p on).1)
-    (λ on.
-    ap (has positions) (sym back)
-    ∙ w.done line v.0 (sym (get_or-map (has set) row p 0 false (omega (arith, i.len))) ∙ on) (ap (λ k. has k line) z ∙ none_left line)))
-    (λ p past. by_test (has positions p) p refl (λ on. let lt = (from_line p on).0 in omega (arith, i.len, length-map row (has set))))
-  where
-    by_test : (b : Bool) (p : ℕ) → has positions p ≡ b → (has positions p ≡ true → ⊥) → has positions p ≡ false
-    by_test true p e never = absurd (never e)
-    by_test false p e never = e
-
-    i_at : (r : List ℕ) (n : ℕ) (i : IsPlacement n r) (p : ℕ) → p < n → p ≡ position_of r (get_or r p 0)
-    i_at r n i p lt = let w = i.line p lt in sym (position_is n r i (get_or r p 0) w.0 ∙ w.1)
-
-pub take_home : (n m : ℕ) → n ≤ m → take n (home m) ≡ home n
-take_home n m le =
-    let len : length (take n (home m)) ≡ n = length-take-le n (home m) (let e = length-range_with_len 0 m in omega arith) in
-    ext_get_or 0 (take n (home m)) (home n) (len ∙ sym (length-range_with_len 0 n))
-    (λ i lt.
-    get_or-take n (home m) i 0 (omega arith) ∙ get_or-range_with_len 0 m i 0 (omega arith) ∙ sym (get_or-range_with_len 0 n i 0 (omega arith)))
+    let off : has left (get_or row p 0) ≡ false = ap (λ k. has k (get_or row p 0)) z ∙ none_left (get_or row p 0) in
+    sym (or_off (has positions p) (has left (get_or row p 0)) off) ∙ w.each p (omega arith) ∙ sym (get_or-map (has set) row p 0 false (let e = s.placement.len in omega arith)))
+    (λ p past. w.past p (omega arith))
 
 -- ---- the lines that a gate touches
 
@@ -139,52 +72,38 @@ same_pass p q (suc n) same =
     filter-suc q n ∙ ap (λ l. l ++ cond (q n) (n ∷ []) []) (same_pass p q n (λ k lt. same k (omega arith)))
     ∙ ap (λ (b : Bool). filter p (range_with_len 0 n) ++ cond b (n ∷ []) []) (same n (omega arith)) ∙ sym (filter-suc p n)
 
-pass_below : (p q : ℕ → Bool) (m d : ℕ) → ((k : ℕ) → k < m → q k ≡ p k) → ((k : ℕ) → m ≤ k → q k ≡ false) → filter q (range_with_len 0 (m + d)) ≡ filter p (range_with_len 0 m)
-pass_below p q m zero same off = let e : m + 0 ≡ m = omega arith in ap (λ n. filter q (range_with_len 0 n)) e ∙ same_pass p q m same
-pass_below p q m (suc d) same off =
-    let e : m + suc d ≡ suc (m + d) = omega arith in
-    ap (λ n. filter q (range_with_len 0 n)) e ∙ filter-suc q (m + d)
-    ∙ ap (λ (b : Bool). filter q (range_with_len 0 (m + d)) ++ cond b ((m + d) ∷ []) []) (off (m + d) (omega arith))
-    ∙ append-nil (filter q (range_with_len 0 (m + d))) ∙ pass_below p q m d same off
-
-pub touched_all : (row places : List ℕ) (g : Shape) (set positions : ℕ) → Stands row places → length places ≤ 64 → ((line : ℕ) → has set line ≡ touches g line) → positions ≡ positions_of row set
-    → filter (has positions) (range_with_len 0 64) ≡ touched_positions row g
-touched_all row places g set positions s few lines is =
-    let n : ℕ = length row in
-    let i = s.placement in
-    let len = i.len in
-    let e : n + (64 - n) ≡ 64 = omega arith in
-    let off : (k : ℕ) → n ≤ k → has positions k ≡ false =
-    λ k past. ap (λ x. has x k) is ∙ has-ones_of (map (has set) row) k ∙ get_or_past (map (has set) row) k false (omega (arith, length-map row (has set))) in
-    ap (λ k. filter (has positions) (range_with_len 0 k)) (sym e)
-    ∙ pass_below (λ p. touches g (get_or row p 0)) (has positions) n (64 - n)
-    (λ k lt. ap (λ x. has x k) is ∙ has-positions_of (length places) row i set k (omega arith) ∙ lines (get_or row k 0)) off
-
--- they are some, and ascend
-pub record Touched (n : ℕ) (ps : List ℕ) : Type 0 where
-  pub some : 0 < length ps
-  pub ascending : AreAscending 0 n ps
-
-pub touched_by : (row places ps : List ℕ) (g : Shape) → Stands row places → FitsIn g (length places) → ps ≡ touched_positions row g → Touched (length places) ps
-touched_by row places ps g s fits e =
-    let p = gathers (length places) row g s.placement fits in
-    let Q : List ℕ → Type 0 = Touched (length places) in
-    let both : Touched (length places) (touched_positions row g) = record { some = p.some; ascending = p.ascending } in
-    subst Q (sym e) both
+pub touched_all : (row places : List ℕ) (g : Shape) (set positions : ℕ) → Stands row places → ((line : ℕ) → has set line ≡ touches g line) → positions ≡ positions_of row set
+    → filter (has positions) (range_with_len 0 (length places)) ≡ touched_positions row g
+touched_all row places g set positions s lines is =
+    let n : ℕ = length places in
+    same_pass (λ p. touches g (get_or row p 0)) (has positions) n
+    (λ p lt. ap (λ x. has x p) is ∙ has-positions_of n row s.placement set p lt ∙ lines (get_or row p 0))
+    ∙ ap (λ k. filter (λ p. touches g (get_or row p 0)) (range_with_len 0 k)) (sym s.placement.len)
 
 -- ---- home
 
-pub Stands-home : (n : ℕ) → Stands (home n) (home n)
-Stands-home n =
+take_home : (n m : ℕ) → n ≤ m → take n (home m) ≡ home n
+take_home n m le =
+    let len : length (take n (home m)) ≡ n = length-take-le n (home m) (let e = length-range_with_len 0 m in omega arith) in
+    ext_get_or 0 (take n (home m)) (home n) (len ∙ sym (length-range_with_len 0 n))
+    (λ i lt.
+    get_or-take n (home m) i 0 (omega arith) ∙ get_or-range_with_len 0 m i 0 (omega arith) ∙ sym (get_or-range_with_len 0 n i 0 (omega arith)))
+
+-- the table at the start
+pub Stands-home : (n m : ℕ) → n ≤ m → (length (take n (home m)) ≡ n) × Stands (home n) (take n (home m))
+Stands-home n m le =
     let i = IsPlacement-home n in
-    let P : ℕ → Type 0 = λ k. IsPlacement k (home n) in
-    record {
-      placement = subst P (sym i.len) i;
-      at = λ line lt.
-          (let l : line < n = omega (arith, i.len) in
-          let w = stands n (home n) i line l in
-          home_at n line l ∙ sym w.1 ∙ home_at n (position_of (home n) line) w.0);
-    }
+    let len : length (home n) ≡ n = i.len in
+    rw (take_home n m le) (
+      len,
+      record {
+        placement = rw len i;
+        at = λ line lt.
+            (let l : line < n = omega (arith, len) in
+            let w = stands n (home n) i line l in
+            home_at n line l ∙ sym w.1 ∙ home_at n (position_of (home n) line) w.0);
+      },
+    )
 
 -- the lines before l are home, and the others are to go
 pub record Going (n l : ℕ) (s places : List ℕ) (moves : List Move) : Type 0 where
@@ -197,11 +116,7 @@ pub home_next : (n l : ℕ) (now next all s t : List ℕ) → l < n → now ++ w
 unfolding way_home
 home_next n l now next all s t lt so_far added made =
     let e : n - l ≡ suc (n - (l + 1)) = omega arith in
-    let ps : List ℕ = swaps_down (position_of s l) l in
-    let others : List ℕ = range_with_len (l + 1) (n - (l + 1)) in
-    let cut : way_home (range_with_len l (n - l)) s ≡ ps ++ way_home others (swapped ps s) = ap (λ k. way_home (range_with_len l k) s) e in
-    ap (λ l2. l2 ++ way_home others t) added ∙ append_assoc now ps (way_home others t) ∙ ap (λ u. now ++ (ps ++ way_home others u)) made
-    ∙ ap (λ l2. now ++ l2) (sym cut) ∙ so_far
+    grind (arith, append_assoc, way_home, range_with_len)
 
 pub home_end : (n l : ℕ) (s now all : List ℕ) → n ≤ l → now ++ way_home (range_with_len l (n - l)) s ≡ all → now ≡ all
 unfolding way_home
@@ -241,14 +156,11 @@ going_more n l s old new moves next m lt len same to from added are w =
 
 -- ---- gates
 
-pub routed_end : (gates : List Shape) (k : ℕ) (s : List ℕ) → length gates ≤ k → routed_from s (drop k gates) ≡ map neighbours (way_home (home (length s)) s)
-routed_end gates k s le = at_drop_all (routed_from s) gates k le ∙ routed_none s
-
 -- the gates for the way home, which are the last
 pub homeward : (row places : List ℕ) (swaps : List ℕ) (gates : List Shape) (k : ℕ) → Stands row places → length gates ≤ k → swaps ≡ way_home (home (length places)) row
     → routed_from row (drop k gates) ≡ map neighbours swaps
 homeward row places swaps gates k s le e =
-    routed_end gates k row le ∙ ap (λ n. map neighbours (way_home (home n) row)) s.placement.len ∙ ap (map neighbours) (sym e)
+    at_drop_all (routed_from row) gates k le ∙ routed_none row ∙ ap (λ n. map neighbours (way_home (home n) row)) s.placement.len ∙ ap (map neighbours) (sym e)
 
 pub routed_next : (gates : List Shape) (k : ℕ) (g : Shape) (s t ps : List ℕ) → k < length gates → g ≡ get_or gates k g → ps ≡ gathering (touched_positions s g) → t ≡ swapped ps s
     → routed_from s (drop k gates) ≡ map neighbours ps ++ (gate_on t g ∷ routed_from t (drop (k + 1) gates))

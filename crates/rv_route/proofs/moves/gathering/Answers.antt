@@ -1,8 +1,8 @@
-use Rattle.std.proofs.Common.{◌≡◌, ℕ, ◌+◌, ◌-◌, ◌++◌, List, length, get_or, drop, sym, ap, ◌∙◌, arith, refl, append_assoc}
+use Rattle.std.proofs.Common.{◌≡◌, ℕ, ◌+◌, ◌-◌, ◌++◌, List, length, get_or, sym, ap, ◌∙◌, arith, refl, append_assoc}
 use Rattle.std.proofs.lemmas.List.{append-nil, at_drop_all}
 use Rattle.rv_route.specs.Moves.{moves_down, middle}
 use Rattle.rv_route.specs.inside.Standing.{swaps_by, swaps_of}
-use Rattle.rv_route.proofs.inside.Moving.{AreMoves-more, apart, ascending_below, moves_down_none, one_down, one_up, swaps_by-more, swaps_by_none, up_start}
+use Rattle.rv_route.proofs.inside.Moving.{AreMoves-more, apart, ascending_below, length-gathering, moves_down_none, one_down, one_up, swaps_by-more, swaps_by_none, up_start}
 use Rattle.rv_route.proofs.moves.gathering.Goals as goal
 
 pub loop-j-init : goal.loop-j-init
@@ -65,13 +65,10 @@ loop-j-2-preserved c =
     let b : ℕ = get_or ps m 0 + (j - m - 1) in
     let next : get_or ps m 0 + (j + 1 - m - 1) ≡ b + 1 = omega arith in
     let to : b + 1 ≡ get_or ps m 0 + (j - m) = omega arith in
-    let rest : List ℕ = moves_down (drop (j + 1) ps) (b + 1) in
+    let more = swaps_by-more _ _ _ c.push-in-loop-j-2.ensures.items in
+    let one = one_down ps j b c.loop-j-2-test.true (omega arith) in
     record {
-      swaps = ap (λ k. swaps_by c.push-in-loop-j-2.new.self.items ++ moves_down (drop (j + 1) ps) k) next
-          ∙ ap (λ l. l ++ rest) (swaps_by-more _ _ _ c.push-in-loop-j-2.ensures.items)
-          ∙ append_assoc (swaps_by c.loop-j-2.moves.items) (swaps_of (get_or ps j 0) (get_or ps m 0 + (j - m))) rest
-          ∙ ap (λ k. swaps_by c.loop-j-2.moves.items ++ (swaps_of (get_or ps j 0) k ++ rest)) (sym to)
-          ∙ ap (λ l. swaps_by c.loop-j-2.moves.items ++ l) (sym (one_down ps j b c.loop-j-2-test.true (omega arith))) ∙ i.swaps;
+      swaps = grind (arith, append_assoc, more, one, i.swaps);
       within = λ n h. (let last = ascending_below 0 n j ps c.loop-j-2-test.true h in
           AreMoves-more n _ _ _ c.push-in-loop-j-2.ensures.items last (omega arith) (i.within n h));
       len = omega arith;
@@ -83,3 +80,6 @@ returns-clause-moves c =
     let b : ℕ = get_or ps (middle (length ps)) 0 + (c.loop-j-2.j - middle (length ps) - 1) in
     sym (ap (λ l. swaps_by c.loop-j-2.moves.items ++ l) (at_drop_all (λ l. moves_down l b) ps c.loop-j-2.j c.loop-j-2-test.false ∙ moves_down_none b) ∙ append-nil (swaps_by c.loop-j-2.moves.items))
     ∙ c.loop-j-2.invariant.swaps
+
+pub returns-clause-few_swaps : goal.returns-clause-few_swaps
+returns-clause-few_swaps c = rw (returns-clause-moves c) (length-gathering c.args.positions.now c.requires.some c.requires.ascending)

@@ -1,22 +1,20 @@
-use Rattle.std.proofs.Common.{◌≡◌, ℕ, ◌+◌, ◌*◌, ◌^◌, ◌<◌, ◌≤◌, List, length, take, drop, ap, ◌∙◌, sym, subst, arith, refl}
+use Rattle.std.proofs.Common.{ℕ, ◌+◌, ◌*◌, ◌^◌, ◌<◌, ◌≤◌, List, length, drop, ap, ◌∙◌, arith, refl}
 use Rattle.std.proofs.lemmas.List.{length-map}
-use Rattle.std.proofs.lemmas.List.FromFn.{length-range_with_len}
 use Rattle.rv_route.specs.Placement.{home, gate_on}
 use Rattle.rv_route.specs.Moves.{neighbours, swapped}
 use Rattle.rv_route.specs.Routed.{routed_from}
-use Rattle.rv_route.specs.inside.Standing.{Stands, swaps_by}
-use Rattle.rv_route.proofs.inside.Steps.{take_home, Stands-home, homeward, routed_next, length_routed}
+use Rattle.rv_route.specs.inside.Standing.{swaps_by}
+use Rattle.rv_route.proofs.inside.Steps.{Stands-home, homeward, routed_next, length_routed}
 use Rattle.rv_route.proofs.routing.gate_count.Goals as goal
 
 pub loop-gate-init : goal.loop-gate-init
 loop-gate-init c =
-    let start : take c.from.result c.home-table.result ≡ home c.args.lines = rw (c.home-table.ensures, c.from.ensures) (take_home c.args.lines 64 c.requires.few_lines) in
-    let P : List ℕ → Type 0 = Stands (home c.args.lines) in
+    let start = Stands-home c.args.lines 64 c.requires.few_lines in
     record {
       row = home c.args.lines;
       so_far = omega arith;
-      stands = subst P (sym start) (Stands-home c.args.lines);
-      len = ap length start ∙ length-range_with_len 0 c.args.lines;
+      stands = rw (c.home-table.ensures, c.from.ensures) start.1;
+      len = rw (c.home-table.ensures, c.from.ensures) start.0;
       few = omega arith;
     }
 

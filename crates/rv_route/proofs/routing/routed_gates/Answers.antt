@@ -1,21 +1,19 @@
-use Rattle.std.proofs.Common.{◌≡◌, ℕ, List, length, map, take, ◌++◌, ◌∷◌, [], ap, ◌∙◌, sym, subst, refl}
-use Rattle.std.proofs.lemmas.List.FromFn.{length-range_with_len}
+use Rattle.std.proofs.Common.{ℕ, List, map, ◌++◌, ◌∷◌, [], ap, ◌∙◌, sym, refl}
 use Rattle.rv_route.specs.Placement.{home}
 use Rattle.rv_route.specs.Moves.{neighbours, swapped}
 use Rattle.rv_route.specs.Routed.{routed_from}
-use Rattle.rv_route.specs.inside.Standing.{Stands, swaps_by}
-use Rattle.rv_route.proofs.inside.Steps.{take_home, Stands-home, homeward, routed_next, pushed_gates}
+use Rattle.rv_route.specs.inside.Standing.{swaps_by}
+use Rattle.rv_route.proofs.inside.Steps.{Stands-home, homeward, routed_next, pushed_gates}
 use Rattle.rv_route.proofs.routing.routed_gates.Goals as goal
 
 pub loop-gate-init : goal.loop-gate-init
 loop-gate-init c =
-    let start : take c.from.result c.home-table.result ≡ home c.args.lines = rw (c.home-table.ensures, c.from.ensures) (take_home c.args.lines 64 c.requires.few_lines) in
-    let P : List ℕ → Type 0 = Stands (home c.args.lines) in
+    let start = Stands-home c.args.lines 64 c.requires.few_lines in
     record {
       row = home c.args.lines;
       so_far = ap (λ l. l ++ routed_from (home c.args.lines) c.args.gates.now) c.in_ok-made.ensures.items;
-      stands = subst P (sym start) (Stands-home c.args.lines);
-      len = ap length start ∙ length-range_with_len 0 c.args.lines;
+      stands = rw (c.home-table.ensures, c.from.ensures) start.1;
+      len = rw (c.home-table.ensures, c.from.ensures) start.0;
     }
 
 pub gate_on-requires-clause-table : goal.gate_on-requires-clause-table

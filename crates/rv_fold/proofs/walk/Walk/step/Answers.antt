@@ -13,7 +13,7 @@ index-requires c =
     let net = c.args.net.now in
     let at = read_at net.ops c.ops.result.now c.args.place c.ops.ensures c.requires.within in
     let here = parity_there net c.args.place _ at c.args.self.now c.requires.stands c.in-Some.phase c.parity-parity.result (sym c.in-Some.ensures) c.parity-parity.ensures in
-    let starts = c.in_ok-first-in-Some.ensures.first net.lines net.ops c.recall_invariant.ensures.fitting c.requires.stands.classes here in
+    let starts = (c.in_ok-first-in-Some.ensures net.lines net.ops c.recall_invariant.ensures.fitting c.requires.stands.classes here).0 in
     omega (arith, starts.early, c.requires.stands.sums.count, c.in_ok-push.ensures.len)
 
 pub index_mut-requires : goal.index_mut-requires
@@ -21,7 +21,7 @@ index_mut-requires c =
     let net = c.args.net.now in
     let at = read_at net.ops c.ops.result.now c.args.place c.ops.ensures c.requires.within in
     let here = parity_there net c.args.place _ at c.args.self.now c.requires.stands c.in-Some.phase c.parity-parity.result (sym c.in-Some.ensures) c.parity-parity.ensures in
-    let starts = c.in_ok-first-in-Some.ensures.first net.lines net.ops c.recall_invariant.ensures.fitting c.requires.stands.classes here in
+    let starts = (c.in_ok-first-in-Some.ensures net.lines net.ops c.recall_invariant.ensures.fitting c.requires.stands.classes here).0 in
     omega (arith, starts.early, c.requires.stands.sums.count, c.in_ok-push.ensures.len)
 
 pub returns-in_ok-first-in-Some : goal.returns-in_ok-first-in-Some
@@ -30,13 +30,13 @@ returns-in_ok-first-in-Some c =
     let at = read_at net.ops c.ops.result.now c.args.place c.ops.ensures c.requires.within in
     let here = parity_there net c.args.place _ at c.args.self.now c.requires.stands c.in-Some.phase c.parity-parity.result (sym c.in-Some.ensures) c.parity-parity.ensures in
     let first = c.in_ok-first-in-Some.first in
-    let starts : StartsAt net.lines net.ops c.args.place c.parity-parity.result first = c.in_ok-first-in-Some.ensures.first net.lines net.ops c.recall_invariant.ensures.fitting c.requires.stands.classes here in
+    let starts : StartsAt net.lines net.ops c.args.place c.parity-parity.result first = (c.in_ok-first-in-Some.ensures net.lines net.ops c.recall_invariant.ensures.fitting c.requires.stands.classes here).0 in
     let pushed = c.in_ok-push.ensures.items in
     let within : first < length c.push.new.self.items = omega (arith, starts.early, c.requires.stands.sums.count, ap length pushed, length-append c.args.self.now.sums.items (0 ∷ [])) in
     let read : c.index.result.now ≡ get_or c.push.new.self.items first 0 = c.index.ensures ∙ get_or_default_zero c.push.new.self.items first c.index.result.now within in
     past_phase net c.args.place _ at c.args.self.now c.requires.stands c.in-Some.phase c.parity-parity.result first _ (sym c.in-Some.ensures) c.parity-parity.ensures starts
     refl
-    (c.in_ok-first-in-Some.ensures.classes net.lines net.ops c.recall_invariant.ensures.fitting c.requires.stands.classes here)
+    (c.in_ok-first-in-Some.ensures net.lines net.ops c.recall_invariant.ensures.fitting c.requires.stands.classes here).1
     (ap₂ (λ (l : List ℕ) (s : ℕ). set l first s) pushed (c.joined.ensures ∙ ap (λ s. (s + c.in-Some.phase.exponent) % 8) (read ∙ ap (λ (l : List ℕ). get_or l first 0) pushed)))
 
 pub returns-in-None : goal.returns-in-None
