@@ -69,27 +69,19 @@ pub still_live : (nodes new : List Node) (a b : ℕ) → NoTwice (ids_in nodes) 
 still_live nodes new a b d m e =
     ap (live b) (e ∙ first_gone nodes a b m d) ∙ ap (λ x. live x ((m.before ++ m.between) ++ (m.second ∷ m.after))) (sym m.is_second) ∙ listed_at (m.before ++ m.between) m.second m.after
 
-pub both_gone : (nodes one two : List Node) (a b : ℕ) (m : Mate nodes a b) (g h : Shape) → NoTwice (ids_in nodes) → g ≡ node_gate a nodes → h ≡ node_gate b nodes → Some [] ≡ paired g h
-    → one ≡ erased a nodes → two ≡ erased b one → two ≡ coupled nodes a b m
-both_gone nodes one two a b m g h d eg eh j e1 e2 =
-    let empty : [] ≡ m.gates = same_Some [] m.gates (j ∙ ap (λ x. paired x h) (eg ∙ first_is nodes a b m d) ∙ ap (paired m.first.gate) (eh ∙ second_is nodes a b m d) ∙ m.join) in
+pub both_gone : (nodes one two : List Node) (a b : ℕ) (m : Mate nodes a b) → NoTwice (ids_in nodes) → Some [] ≡ Some m.gates → one ≡ erased a nodes → two ≡ erased b one → two ≡ coupled nodes a b m
+both_gone nodes one two a b m d come e1 e2 =
     e2 ∙ ap (erased b) (e1 ∙ first_gone nodes a b m d) ∙ ap (λ x. erased x ((m.before ++ m.between) ++ (m.second ∷ m.after))) (sym m.is_second)
     ∙ gone_at (m.before ++ m.between) m.second m.after (second_apart nodes a b m d) ∙ append_assoc m.before m.between m.after
-    ∙ ap (λ l. m.before ++ (m.between ++ (map (node_of b) l ++ m.after))) empty
+    ∙ ap (λ l. m.before ++ (m.between ++ (map (node_of b) l ++ m.after))) (same_Some [] m.gates come)
 
-pub one_set : (nodes one two : List Node) (a b : ℕ) (m : Mate nodes a b) (g h k : Shape) → NoTwice (ids_in nodes) → g ≡ node_gate a nodes → h ≡ node_gate b nodes → Some (k ∷ []) ≡ paired g h
-    → one ≡ erased a nodes → two ≡ regated b k one → two ≡ coupled nodes a b m
-one_set nodes one two a b m g h k d eg eh j e1 e2 =
-    let single : k ∷ [] ≡ m.gates = same_Some (k ∷ []) m.gates (j ∙ ap (λ x. paired x h) (eg ∙ first_is nodes a b m d) ∙ ap (paired m.first.gate) (eh ∙ second_is nodes a b m d) ∙ m.join) in
+pub one_set : (nodes one two : List Node) (a b : ℕ) (m : Mate nodes a b) (k : Shape) → NoTwice (ids_in nodes) → Some (k ∷ []) ≡ Some m.gates → one ≡ erased a nodes → two ≡ regated b k one → two ≡ coupled nodes a b m
+one_set nodes one two a b m k d come e1 e2 =
     e2 ∙ ap (regated b k) (e1 ∙ first_gone nodes a b m d) ∙ ap (λ x. regated x k ((m.before ++ m.between) ++ (m.second ∷ m.after))) (sym m.is_second)
     ∙ regated_at (m.before ++ m.between) m.second m.after k (second_apart nodes a b m d)
     ∙ ap (λ x. (m.before ++ m.between) ++ (node_of x k ∷ m.after)) m.is_second
     ∙ append_assoc m.before m.between (node_of b k ∷ m.after)
-    ∙ ap (λ l. m.before ++ (m.between ++ (map (node_of b) l ++ m.after))) single
-
--- the place of a pair has its first node
-pub pair_here : (nodes : List Node) (place a b : ℕ) → IsPairSpot nodes place a b → Some a ≡ head (ids_in (drop place nodes))
-pair_here nodes place a b s = grind (arith, ids_in, drop-append_seam, length-map)
+    ∙ ap (λ l. m.before ++ (m.between ++ (map (node_of b) l ++ m.after))) (same_Some (k ∷ []) m.gates come)
 
 -- the gates of the pair, and the nodes before it, after it was made
 pub coupled_gates : (nodes : List Node) (a b : ℕ) (m : Mate nodes a b) → gates_in (coupled nodes a b m) ≡ mated nodes a b m
@@ -117,9 +109,6 @@ second_here nodes a b m =
     let xs : List Node = m.before ++ (m.first ∷ m.between) in
     sym (ap (λ l. head (ids_in (drop (length xs) l))) (before_second nodes a b m) ∙ ap (λ l. head (ids_in l)) (drop-append_seam xs (m.second ∷ m.after)) ∙ ap Some m.is_second)
 
-pub join_of : (nodes : List Node) (a b : ℕ) (m : Mate nodes a b) (g h : Shape) (o : Option (List Shape)) → NoTwice (ids_in nodes) → g ≡ node_gate a nodes → h ≡ node_gate b nodes → o ≡ paired g h → paired m.first.gate m.second.gate ≡ o
-join_of nodes a b m g h o d eg eh j = sym (j ∙ ap (λ x. paired x h) (eg ∙ first_is nodes a b m d) ∙ ap (paired m.first.gate) (eh ∙ second_is nodes a b m d))
-
 -- what the pair comes to fits the lines
 pub made_good : (n : ℕ) (nodes : List Node) (a b : ℕ) (m : Mate nodes a b) → AreGates n (gates_in nodes) → AreGates n m.gates
 made_good n nodes a b m good =
@@ -128,11 +117,6 @@ made_good n nodes a b m good =
     let one = AreGates-last n (gates_in m.before) (m.first.gate ∷ (gates_in m.between ++ (m.second.gate ∷ gates_in m.after))) (subst (λ (l : List Shape). AreGates n l) e good) in
     let two = AreGates-last n (gates_in m.between) (m.second.gate ∷ gates_in m.after) one.2 in
     (joined_sound m.first.gate m.second.gate n m.gates one.0 two.0 one.1 two.1 m.join).good
-
-pub one_good : (n : ℕ) (nodes : List Node) (a b : ℕ) (m : Mate nodes a b) (g h k : Shape) → AreGates n (gates_in nodes) → NoTwice (ids_in nodes) → g ≡ node_gate a nodes → h ≡ node_gate b nodes → Some (k ∷ []) ≡ paired g h → AreGates n (k ∷ [])
-one_good n nodes a b m g h k good d eg eh j =
-    let one : k ∷ [] ≡ m.gates = same_Some (k ∷ []) m.gates (j ∙ ap (λ x. paired x h) (eg ∙ first_is nodes a b m d) ∙ ap (paired m.first.gate) (eh ∙ second_is nodes a b m d) ∙ m.join) in
-    subst (λ (l : List Shape). AreGates n l) (sym one) (made_good n nodes a b m good)
 
 pub coupled_on : (old nodes new : List Node) (a b : ℕ) → old ≡ nodes → ((m : Mate old a b) → new ≡ coupled old a b m) → (m : Mate nodes a b) → new ≡ coupled nodes a b m
 coupled_on old nodes new a b e f = subst (λ (l : List Node). (m : Mate l a b) → new ≡ coupled l a b m) e f
