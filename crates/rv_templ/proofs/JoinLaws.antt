@@ -1,20 +1,19 @@
 -- Pairs of gates: the words stay, and the gates become fewer.
-use Rattle.std.proofs.Common.{◌≡◌, ◌≢◌, ℕ, zero, suc, ◌^◌, ◌<◌, Bool, true, false, not, cond, ◌&&◌, ◌||◌, eqb, List, [], ◌∷◌, length, set, refl, ext_get_or, length-set, sym, ◌∙◌, ap, inl, inr, arith, eq-eqb, ne_eqb, subst}
+use Rattle.std.proofs.Common.{◌≡◌, ◌≢◌, ℕ, zero, suc, ◌^◌, ◌<◌, Bool, true, false, not, cond, ◌&&◌, ◌||◌, eqb, List, [], ◌∷◌, length, set, refl, sym, ◌∙◌, ap, inl, inr, arith, eq-eqb, ne_eqb, subst}
 use Rattle.std.specs.Prelude.{bit_xor, ◌⊎◌, Option, Some, None}
 use Rattle.std.proofs.lemmas.Option.{none-some, same_Some}
-use Rattle.std.proofs.lemmas.Bool.{cases_eq, cases_Bool, cond-true, cond-false, eqb-true, false≢true, false_from_ne_true, or_cases, and_parts, and_from, or_right, or_left, or_parts}
+use Rattle.std.proofs.lemmas.Bool.{cases_eq, cases_Bool, cond-true, cond-false, eqb-true, false≢true, false_from_ne_true, or_cases, and_parts, and_from, or_left, or_parts}
 use Rattle.std.proofs.lemmas.List.{set_comm}
 use Rattle.rv_gate.proofs.LineSets.{has-line, has-or, has-xor}
 use Rattle.rv_templ.specs.Gates.{AreGates}
 use Rattle.rv_gate.specs.declared.word.TheConstants.{MOST_LINES}
 use Rattle.rv_gate.specs.Word.{has, bit_of}
-use Rattle.rv_gate.specs.Gate.{same, holds, flip, xor, exchanged, act, run, inverse, FitsIn, IsGate}
+use Rattle.rv_gate.specs.Gate.{same, holds, flip, xor, exchanged, act, run, inverse, is_flip, FitsIn, IsGate}
 use Rattle.rv_gate.specs.declared.gate.Shape.{Shape}
 use Rattle.rv_gate.specs.declared.gate.Shape.TheVariants.{Flip, Swap, Peres}
-use Rattle.rv_gate.proofs.inside.GateLemmas.{holds_Decides, holds-set, flip-flip, flip_twice, fits_flip}
+use Rattle.rv_gate.proofs.inside.GateLemmas.{holds_Decides, flip-flip, fits_flip}
 use Rattle.rv_gate.proofs.Commuting.{two_flips}
 use Rattle.rv_gate.proofs.InverseLemmas.{run-undoing}
-use Rattle.rv_gate.proofs.Acting.{bit_of-set}
 use Rattle.rv_templ.specs.Pairs.{lone, with_line, apart_on, third_flip, third_at, paired}
 use Rattle.rv_gate.proofs.Bits.{same_true, same_from, same_bool, xor_same, or_true, eqb_refl, or_false}
 
@@ -29,6 +28,15 @@ lone_is set (suc n) line e =
           let s : n ≡ line = same_Some n line (sym (cond-true (eqb set (2 ^ n)) (Some n) (lone set n) (eq-eqb _ _ q)) ∙ e) in
           q ∙ ap (λ k. 2 ^ k) s
       | inr ne ↦ lone_is set n line (sym (cond-false (eqb set (2 ^ n)) (Some n) (lone set n) (ne_eqb _ _ ne)) ∙ e)
+    ]
+
+pub lone_below : (set n line : ℕ) → lone set n ≡ Some line → line < n
+unfolding lone
+lone_below set zero line e = absurd (none-some line e)
+lone_below set (suc n) line e =
+    elim (cases_Bool (eqb set (2 ^ n))) [
+      | inl t ↦ let q = same_Some n line (sym (cond-true (eqb set (2 ^ n)) (Some n) (lone set n) t) ∙ e) in omega (arith, q)
+      | inr f ↦ let l = lone_below set n line (sym (cond-false (eqb set (2 ^ n)) (Some n) (lone set n) f) ∙ e) in omega (arith, l)
     ]
 
 xor_true : (b : Bool) → b ≡ true → not (same b true) ≡ false
@@ -118,7 +126,7 @@ alike_but c w c2 w2 line e k ne =
     (out_same _ _ (sym (has-xor c c2 k) ∙ p.0), out_same _ _ (sym (has-xor w w2 k) ∙ p.1))
 
 -- on the line itself they are not
-differ_on : (c w c2 w2 line : ℕ) → apart_on c w c2 w2 ≡ 2 ^ line → has c line ≡ has c2 line → has w line ≡ has w2 line → ⊥
+pub differ_on : (c w c2 w2 line : ℕ) → apart_on c w c2 w2 ≡ 2 ^ line → has c line ≡ has c2 line → has w line ≡ has w2 line → ⊥
 differ_on c w c2 w2 line e p q =
     let off : has (apart_on c w c2 w2) line ≡ false = has-or (bit_xor c c2) (bit_xor w w2) line ∙ rw (has-xor c c2 line, has-xor w w2 line, p, q) (rw (xor_same (has c2 line), xor_same (has w2 line)) refl) in
     false≢true (sym off ∙ ap (λ s. has s line) e ∙ has-line line line ∙ eqb_refl line)
@@ -150,14 +158,6 @@ pub record Sound (n : ℕ) (g h : Shape) (m : List Shape) : Type 0 where
   pub words : (word : List Bool) → length word ≡ n → run m word ≡ act h (act g word)
   pub shorter : length m < 2
   pub good : AreGates n m
-
--- a gate that is its own inverse twice
-twice_sound : (g : Shape) (n : ℕ) → inverse g ≡ g ∷ [] → IsGate g → FitsIn g n → Sound n g g []
-twice_sound g n same v f = record {
-  words = λ word len. sym (run-undoing g (g ∷ []) (sym same) v word (rw len f));
-  shorter = omega arith;
-  good = tt;
-}
 
 -- the line on which the cubes differ is a control of one
 pub line_used : (c w c2 w2 line : ℕ) → apart_on c w c2 w2 ≡ 2 ^ line
@@ -219,67 +219,97 @@ third_sound c w c2 w2 t n line v v2 f f2 e =
       );
     }
 
-pub third_some : (c w c2 w2 t : ℕ) (o : Option ℕ) (m : List Shape) → third_at c w c2 w2 t o ≡ Some m → (line : ℕ) × (o ≡ Some line) × (third_flip c w c2 w2 t line ∷ [] ≡ m)
+third_some : (c w c2 w2 t : ℕ) (o : Option ℕ) (m : List Shape) → third_at c w c2 w2 t o ≡ Some m → (line : ℕ) × (o ≡ Some line) × (third_flip c w c2 w2 t line ∷ [] ≡ m)
 third_some c w c2 w2 t None m e = absurd (none-some m e)
 third_some c w c2 w2 t (Some line) m e = (line, refl, same_Some _ m e)
-
-same_flip : (c w t c2 w2 t2 : ℕ) → c ≡ c2 → w ≡ w2 → t ≡ t2 → Flip c w t ≡ Flip c2 w2 t2
-same_flip c w t c2 w2 t2 e f g = cc
-
-flips_sound : (c w t c2 w2 t2 n : ℕ) (m : List Shape) → IsGate (Flip c w t) → IsGate (Flip c2 w2 t2) → FitsIn (Flip c w t) n → FitsIn (Flip c2 w2 t2) n
-    → paired (Flip c w t) (Flip c2 w2 t2) ≡ Some m → Sound n (Flip c w t) (Flip c2 w2 t2) m
-unfolding paired
-flips_sound c w t c2 w2 t2 n m v v2 f f2 e =
-    let outer = cond_some (eqb t t2) m _ e in
-    let et : t ≡ t2 = eqb-true t t2 outer.0 in
-    elim (cases_Bool (eqb c c2 && eqb w w2)) [
-      | inl same_ ↦
-          let p = and_parts _ _ same_ in
-          let q : Flip c w t ≡ Flip c2 w2 t2 = same_flip c w t c2 w2 t2 (eqb-true c c2 p.0) (eqb-true w w2 p.1) et in
-          let em : [] ≡ m = same_Some [] m (sym (cond-true (eqb c c2 && eqb w w2) (Some []) _ same_) ∙ outer.1) in
-          subst (λ (x : List Shape). Sound n (Flip c w t) (Flip c2 w2 t2) x) em
-          (subst (λ (x : Shape). Sound n (Flip c w t) x []) q (twice_sound (Flip c w t) n refl v f))
-      | inr other ↦
-          let o = third_some c w c2 w2 t (lone (apart_on c w c2 w2) MOST_LINES) m (sym (cond-false (eqb c c2 && eqb w w2) (Some []) _ other) ∙ outer.1) in
-          let line = lone_is _ MOST_LINES o.0 o.1 in
-          let h2 : Flip c2 w2 t ≡ Flip c2 w2 t2 = same_flip c2 w2 t c2 w2 t2 refl refl et in
-          subst (λ (x : List Shape). Sound n (Flip c w t) (Flip c2 w2 t2) x) o.2
-          (subst (λ (x : Shape). Sound n (Flip c w t) x (third_flip c w c2 w2 t o.0 ∷ [])) h2
-          (third_sound c w c2 w2 t n o.0 v (subst IsGate (sym h2) v2) f (subst (λ (x : Shape). FitsIn x n) (sym h2) f2) line))
-    ]
 
 exchanged_turned : (word : List Bool) (a b : ℕ) → a ≢ b → exchanged word b a ≡ exchanged word a b
 exchanged_turned word a b ne = set_comm word b a (bit_of word a) (bit_of word b) (λ e. ne (sym e))
 
-swaps_sound : (c w a b c2 w2 a2 b2 n : ℕ) (m : List Shape) → IsGate (Swap c w a b) → FitsIn (Swap c w a b) n
-    → paired (Swap c w a b) (Swap c2 w2 a2 b2) ≡ Some m → Sound n (Swap c w a b) (Swap c2 w2 a2 b2) m
+-- ---- which gates join
+
+-- both go: each is its own inverse, and they do the same
+pub record Undone (g h : Shape) (m : List Shape) : Type 0 where
+  pub none : m ≡ []
+  pub own : inverse g ≡ g ∷ []
+  pub alike : IsGate g → (word : List Bool) → act h word ≡ act g word
+  pub kind : is_flip g ≡ is_flip h
+  pub flips : is_flip g ≡ true → h ≡ g
+
+-- flips of one target whose cubes differ on one line
+pub record Third (g h : Shape) (m : List Shape) : Type 0 where
+  pub care : ℕ
+  pub want : ℕ
+  pub care2 : ℕ
+  pub want2 : ℕ
+  pub target : ℕ
+  pub line : ℕ
+  pub first : g ≡ Flip care want target
+  pub second : h ≡ Flip care2 want2 target
+  pub apart : apart_on care want care2 want2 ≡ 2 ^ line
+  pub below : line < MOST_LINES
+  pub come : m ≡ third_flip care want care2 want2 target line ∷ []
+
+pub paired_as : (g h : Shape) (m : List Shape) → paired g h ≡ Some m → Undone g h m ⊎ Third g h m
 unfolding paired
-swaps_sound c w a b c2 w2 a2 b2 n m v f e =
+paired_as (Flip c w t) (Flip c2 w2 t2) m e =
+    let outer = cond_some (eqb t t2) m _ e in
+    elim (cases_Bool (eqb c c2 && eqb w w2)) [
+      | inl same ↦
+          let p = and_parts _ _ same in
+          rw (← eqb-true t t2 outer.0, ← eqb-true c c2 p.0, ← eqb-true w w2 p.1)
+          (inl (record { none = sym (same_Some [] m (sym (cond-true (eqb c c2 && eqb w w2) (Some []) _ same) ∙ outer.1)); own = refl; alike = λ _ word. refl; kind = refl; flips = λ _. refl }))
+      | inr other ↦
+          let o = third_some c w c2 w2 t (lone (apart_on c w c2 w2) MOST_LINES) m (sym (cond-false (eqb c c2 && eqb w w2) (Some []) _ other) ∙ outer.1) in
+          inr (record {
+            care = c;
+            want = w;
+            care2 = c2;
+            want2 = w2;
+            target = t;
+            line = o.0;
+            first = refl;
+            second = ap (Flip c2 w2) (sym (eqb-true t t2 outer.0));
+            apart = lone_is _ MOST_LINES o.0 o.1;
+            below = lone_below _ MOST_LINES o.0 o.1;
+            come = sym o.2;
+          })
+    ]
+paired_as (Swap c w a b) (Swap c2 w2 a2 b2) m e =
     let outer = cond_some _ m (Some []) e in
     let t = three_and (eqb c c2) (eqb w w2) _ outer.0 in
-    let s = twice_sound (Swap c w a b) n refl v f in
-    rw (← same_Some [] m outer.1, ← eqb-true c c2 t.0, ← eqb-true w w2 t.1)
-    (elim (or_cases (eqb a a2 && eqb b b2) (eqb a b2 && eqb b a2) t.2) [
-      | inl same ↦ let p = and_parts _ _ same in rw (← eqb-true a a2 p.0, ← eqb-true b b2 p.1) s
-      | inr turned ↦
-          let p = and_parts _ _ turned in
-          rw (← eqb-true a b2 p.0, ← eqb-true b a2 p.1)
-          (record {
-            words = λ word len. s.words word len ∙ sym (ap (λ v. cond (holds c w (act (Swap c w a b) word)) v (act (Swap c w a b) word)) (exchanged_turned (act (Swap c w a b) word) a b v.2));
-            shorter = s.shorter;
-            good = tt;
-          })
-    ])
+    rw (← eqb-true c c2 t.0, ← eqb-true w w2 t.1)
+    (inl (record {
+      none = sym (same_Some [] m outer.1);
+      own = refl;
+      alike = λ is word.
+          elim (or_cases (eqb a a2 && eqb b b2) (eqb a b2 && eqb b a2) t.2) [
+            | inl same ↦ let p = and_parts _ _ same in rw (← eqb-true a a2 p.0, ← eqb-true b b2 p.1) refl
+            | inr turned ↦ let p = and_parts _ _ turned in rw (← eqb-true a b2 p.0, ← eqb-true b a2 p.1) (ap (λ v. cond (holds c w word) v word) (exchanged_turned word a b is.2))
+          ];
+      kind = refl;
+      flips = λ f. absurd (false≢true f);
+    }))
+paired_as (Flip _ _ _) (Swap _ _ _ _) m e = absurd (none-some m e)
+paired_as (Flip _ _ _) (Peres _ _ _) m e = absurd (none-some m e)
+paired_as (Swap _ _ _ _) (Flip _ _ _) m e = absurd (none-some m e)
+paired_as (Swap _ _ _ _) (Peres _ _ _) m e = absurd (none-some m e)
+paired_as (Peres _ _ _) h m e = absurd (none-some m e)
 
 pub joined_sound : (g h : Shape) (n : ℕ) (m : List Shape) → IsGate g → IsGate h → FitsIn g n → FitsIn h n → paired g h ≡ Some m → Sound n g h m
-unfolding paired
-joined_sound (Flip c w t) (Flip c2 w2 t2) n m v v2 f f2 e = flips_sound c w t c2 w2 t2 n m v v2 f f2 e
-joined_sound (Swap c w a b) (Swap c2 w2 a2 b2) n m v v2 f f2 e = swaps_sound c w a b c2 w2 a2 b2 n m v f e
-joined_sound (Flip _ _ _) (Swap _ _ _ _) n m v v2 f f2 e = absurd (none-some m e)
-joined_sound (Flip _ _ _) (Peres _ _ _) n m v v2 f f2 e = absurd (none-some m e)
-joined_sound (Swap _ _ _ _) (Flip _ _ _) n m v v2 f f2 e = absurd (none-some m e)
-joined_sound (Swap _ _ _ _) (Peres _ _ _) n m v v2 f f2 e = absurd (none-some m e)
-joined_sound (Peres _ _ _) h n m v v2 f f2 e = absurd (none-some m e)
+joined_sound g h n m v v2 f f2 e =
+    elim (paired_as g h m e) [
+      | inl u ↦
+          rw u.none
+          (record {
+            words = λ word len. sym (u.alike v (act g word) ∙ run-undoing g (g ∷ []) (sym u.own) v word (rw len f));
+            shorter = omega arith;
+            good = tt;
+          })
+      | inr k ↦
+          rw (k.first, k.second, k.come)
+          (third_sound k.care k.want k.care2 k.want2 k.target n k.line (rw k.first at v) (rw k.second at v2) (rw k.first at f) (rw k.second at f2) k.apart)
+    ]
 
 -- ---- what the code's `join_flips` needs
 

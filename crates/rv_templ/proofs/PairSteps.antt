@@ -1,10 +1,10 @@
 -- The rewriting keeps the words, shortens the list and ends settled.
-use Rattle.std.proofs.Common.{◌≡◌, ℕ, zero, suc, ◌+◌, ◌*◌, ◌<◌, ◌≤◌, true, false, cond, List, [], ◌∷◌, ◌++◌, length, refl, sym, ◌∙◌, ap, inl, inr, arith, length-append, subst, append_assoc, eqb, ◌^◌, ◌%◌, set, eq-eqb, ne_eqb}
+use Rattle.std.proofs.Common.{◌≡◌, ℕ, zero, suc, ◌+◌, ◌*◌, ◌≤◌, true, false, cond, List, [], ◌∷◌, ◌++◌, refl, sym, ◌∙◌, ap, inl, inr, arith, length-append, subst, append_assoc, eqb, ◌^◌, ◌%◌, set, eq-eqb, ne_eqb}
 use Rattle.std.specs.Prelude.{Option, Some, None}
 use Rattle.std.proofs.lemmas.Nat.{one_shl}
 use Rattle.std.proofs.lemmas.Option.{none-some}
 use Rattle.std.proofs.lemmas.Bool.{cond-true, cond-false}
-use Rattle.rv_templ.specs.Gates.{Same, AreGates}
+use Rattle.rv_templ.specs.Gates.{AreGates}
 use Rattle.rv_gate.specs.Gate.{act, run, FitsIn, IsGate}
 use Rattle.rv_gate.specs.declared.word.TheConstants.{MOST_LINES}
 use Rattle.rv_gate.specs.Commuting.{rule}

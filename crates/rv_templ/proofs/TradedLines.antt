@@ -1,9 +1,8 @@
 -- Two lines traded for each other: in sets, in renamings and in images.
-use Rattle.std.proofs.Common.{◌≡◌, ◌≢◌, ℕ, zero, suc, ◌+◌, ◌/◌, ◌%◌, ◌^◌, ◌<◌, ◌≤◌, Bool, true, false, cond, ◌||◌, eqb, List, [], ◌∷◌, refl, sym, ◌∙◌, ap, inl, inr, arith, eq-eqb, ne_eqb, subst}
+use Rattle.std.proofs.Common.{◌≡◌, ◌≢◌, ℕ, ◌+◌, ◌^◌, ◌<◌, ◌≤◌, Bool, true, false, cond, ◌||◌, eqb, List, [], ◌∷◌, refl, sym, ◌∙◌, ap, inl, inr, arith, eq-eqb, ne_eqb, subst}
 use Rattle.std.specs.Prelude.{bit_or, count_ones}
-use Rattle.std.proofs.lemmas.Bool.{cases_eq, cases_Bool, false≢true, or_left, or_right, cond-true, cond-false, eqb-true}
-use Rattle.std.proofs.lemmas.Nat.{ones_le_self}
-use Rattle.rv_gate.proofs.LineSets.{has-line, has-none, has-or, same_lines}
+use Rattle.std.proofs.lemmas.Bool.{cases_eq, cases_Bool, cond-true, cond-false}
+use Rattle.rv_gate.proofs.LineSets.{has-line, has-or, same_lines}
 use Rattle.rv_gate.proofs.inside.GateLemmas.{has-touched}
 use Rattle.rv_gate.specs.Word.{has}
 use Rattle.rv_gate.specs.Gate.{touches, controls, touched}

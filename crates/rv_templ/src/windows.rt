@@ -176,10 +176,12 @@ fn set_window(linked: &mut Linked, spot: &Spot, templates: &[Vec<Gate>])
     requires templates { AreTemplates (templates_in templates.now) }
     requires spot { IsSpot (templates_in templates.now) linked.old.nodes spot.now.place spot.now.node spot.now.found }
     ensures { linked.new
-        ≡ record linked.old { nodes =
-            window_set spot.now.node spot.now.found.count
-            (gates_for (coming (Some spot.now.node) linked.old.nodes) (templates_in templates.now) spot.now.found)
-            linked.old.nodes } }
+        ≡ record linked.old {
+          nodes =
+              window_set spot.now.node spot.now.found.count
+              (gates_for (coming (Some spot.now.node) linked.old.nodes) (templates_in templates.now) spot.now.found)
+              linked.old.nodes;
+        } }
 {
     recall_spot(linked, spot, templates);
     let mut new = [linked.gate(spot.node); TEMPLATE_GATES];

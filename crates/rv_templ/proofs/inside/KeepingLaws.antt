@@ -9,11 +9,11 @@ use Rattle.rv_links.specs.Nodes.{incidences}
 use Rattle.rv_templ.specs.Gates.{AreGates, Same}
 use Rattle.rv_gate.specs.Word.{has}
 use Rattle.rv_gate.specs.declared.gate.Shape.{Shape}
-use Rattle.rv_templ.specs.Images.{span, turned, new_line, image_of, image, fresh_care, fresh_want, zero_elsewhere, others, allowed, replacement}
+use Rattle.rv_templ.specs.Images.{span, turned, new_line, image_of, image, fresh_care, fresh_want, zero_elsewhere, others, allowed}
 use Rattle.rv_templ.specs.Templates.{AreTemplates}
 use Rattle.rv_templ.specs.Choices.{renaming, template_in, at_turn, at_template, at_count, at_most, window_at, after, Found}
 use Rattle.rv_templ.specs.Windows.{IsWindow}
-use Rattle.rv_templ.specs.inside.Replaced.{Replaced, Here, Improves, gates_for, want_found, care_found}
+use Rattle.rv_templ.specs.inside.Replaced.{Here, Improves, gates_for, want_found, care_found}
 use Rattle.rv_templ.proofs.inside.FoldLemmas.{first_some}
 use Rattle.rv_gate.proofs.AllBelow.{all_below-at}
 use Rattle.rv_templ.proofs.WindowLaws.{allowed_parts, apart_from, window_is, turned_template, length-turned, span_turned, stands, replaces, shorter, replaced_same, within_at, span_from}

@@ -2,7 +2,7 @@
 use Rattle.std.proofs.Common.{arith}
 use Rattle.std.proofs.lemmas.Grind.{common_steps}
 use Rattle.std.proofs.Common.{◌≡◌, ℕ, true, false, eqb, List, map, [], ◌∷◌, ◌++◌, length, take, drop, refl, sym, ◌∙◌, ap, subst, append_assoc}
-use Rattle.std.specs.Prelude.{Option, Some}
+use Rattle.std.specs.Prelude.{Some}
 use Rattle.std.proofs.lemmas.Option.{same_Some}
 use Rattle.std.proofs.lemmas.Bool.{or_parts, or_from}
 use Rattle.std.proofs.lemmas.List.{map-append, length-map}
@@ -11,7 +11,6 @@ use Rattle.rv_templ.specs.Gates.{AreGates}
 use Rattle.rv_gate.specs.declared.gate.Shape.{Shape}
 use Rattle.rv_links.specs.Order.{lists, head, NoTwice}
 use Rattle.rv_links.specs.Nodes.{Node, ids_in, live, node_gate, erased, regated, gates_in}
-use Rattle.rv_templ.specs.Pairs.{paired}
 use Rattle.rv_templ.specs.inside.Mates.{Mate, IsPairSpot, mated}
 use Rattle.rv_templ.specs.inside.Notes.{node_of, coupled}
 use Rattle.rv_templ.proofs.JoinLaws.{joined_sound}

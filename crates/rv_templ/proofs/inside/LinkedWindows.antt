@@ -1,31 +1,25 @@
 -- Windows of linked gates.
 use Rattle.std.proofs.lemmas.Grind.{common_steps}
-use Rattle.std.proofs.Common.{◌≡◌, ℕ, zero, suc, ◌+◌, ◌-◌, ◌*◌, ◌<◌, ◌≤◌, true, eqb, List, [], ◌∷◌, ◌++◌, length, take, drop, set, refl, sym, ◌∙◌, ap, inl, inr, arith, subst, eq-eqb, ne_eqb, append_assoc, take-append-drop, length-drop}
+use Rattle.std.proofs.Common.{◌≡◌, ℕ, zero, suc, ◌+◌, ◌-◌, ◌<◌, ◌≤◌, true, eqb, List, [], ◌∷◌, ◌++◌, length, take, drop, set, refl, sym, ◌∙◌, ap, inl, inr, arith, subst, eq-eqb, ne_eqb, append_assoc, take-append-drop, length-drop}
 use Rattle.std.specs.Prelude.{Option, Some, None}
-use Rattle.std.proofs.lemmas.Bool.{cases_eq, cond-true, cond-false, false≢true, leb-true, or_cases, eqb-true}
+use Rattle.std.proofs.lemmas.Bool.{cases_eq, cond-true, cond-false, false≢true, or_cases, eqb-true}
 use Rattle.std.proofs.lemmas.Option.{none-some, same_Some}
 use Rattle.std.proofs.lemmas.List.{take_more_set, length-take-le, drop-drop, length-map, append_cancel_right}
-use Rattle.rv_gate.specs.declared.word.TheConstants.{MOST_LINES}
 use Rattle.rv_templ.specs.Gates.{AreGates}
 use Rattle.rv_gate.specs.declared.gate.Shape.{Shape}
 use Rattle.rv_links.specs.Order.{lists, head, next_in, NoTwice}
 use Rattle.rv_links.specs.Nodes.{Node, Linkage, IsLinkage, ids_in, live, node_gate, from_node, with_gates, window_set, incidences, gates_in}
 use Rattle.rv_links.proofs.inside.WindowLemmas.{from_step}
-use Rattle.rv_templ.specs.Images.{span, turned, new_line, fresh_care, fresh_want, others, replacement}
 use Rattle.rv_templ.specs.Templates.{AreTemplates}
-use Rattle.rv_templ.specs.Choices.{window_at, after, template_in, Found}
-use Rattle.rv_templ.specs.inside.Replaced.{Replaced, Here, gates_for}
+use Rattle.rv_templ.specs.Choices.{window_at, after, Found}
+use Rattle.rv_templ.specs.inside.Replaced.{Here, gates_for}
 use Rattle.rv_templ.specs.inside.Clean.{Clean, IsSpot}
 use Rattle.rv_templ.specs.inside.Linking.{coming}
-use Rattle.rv_templ.proofs.WindowLaws.{allowed_parts, turned_template, length-turned, shorter, replaces}
-use Rattle.rv_templ.proofs.GateLists.{AreGates-first, AreGates-last}
+use Rattle.rv_templ.proofs.GateLists.{AreGates-last}
 use Rattle.std.proofs.Math.Seq.{drop-append_seam}
 use Rattle.rv_templ.proofs.NodeLists.{apart, next_at, window_at_node}
 use Rattle.rv_templ.proofs.LinkedGates.{linked_gates}
-use Rattle.rv_templ.proofs.inside.ChoiceLemmas.{are_at}
-use Rattle.rv_templ.proofs.MeaningLaws.{small_at}
 use Rattle.rv_templ.proofs.inside.KeepingLaws.{here}
-use Rattle.rv_templ.proofs.inside.Incidences.{incidences-reverse}
 
 -- ---- the gates to come
 

@@ -1,15 +1,14 @@
 -- What look-ups tell of the gates that join with a flip.
-use Rattle.std.proofs.Common.{◌≡◌, ◌≢◌, ℕ, zero, suc, ◌+◌, ◌<◌, ◌≤◌, ◌^◌, true, false, ◌&&◌, eqb, List, [], ◌∷◌, ◌++◌, refl, sym, subst, ◌∙◌, ap, inl, inr, arith, eq-eqb, ne_eqb, append_assoc, Bool}
+use Rattle.std.proofs.Common.{◌≡◌, ◌≢◌, ℕ, zero, suc, ◌<◌, ◌≤◌, ◌^◌, true, false, ◌&&◌, eqb, List, [], ◌∷◌, ◌++◌, refl, sym, subst, ◌∙◌, ap, inl, inr, arith, eq-eqb, ne_eqb, Bool}
 use Rattle.std.specs.Prelude.{◌⊎◌, Option, Some, None, IfSome, bit_or, bit_xor}
-use Rattle.rv_gate.specs.Commuting.{rule}
 use Rattle.rv_gate.specs.declared.circuit.TheConstants.{MOST_GATES}
 use Rattle.rv_links.specs.Doubt.{IsBefore}
 use Rattle.std.proofs.lemmas.Nat.{or_comm, xor_comm}
-use Rattle.std.proofs.lemmas.List.{append-nil}
 use Rattle.std.proofs.lemmas.Option.{none-some, same_Some}
-use Rattle.std.proofs.lemmas.Bool.{cases_Bool, cases_eq, cases_lt, cases_order, cond-true, cond-false, false≢true, and_parts, and_from, or_left, or_cases, eqb-true, false_from_ne_true}
+use Rattle.std.proofs.lemmas.Bool.{cases_Bool, cases_eq, cases_order, cond-true, cond-false, false≢true, and_parts, and_from, or_left, or_cases, eqb-true, false_from_ne_true}
 use Rattle.rv_gate.specs.Word.{has}
-use Rattle.rv_gate.specs.Gate.{IsGate, controls, is_flip, xor}
+use Rattle.rv_gate.specs.Gate.{IsGate, controls, wanted, is_flip, xor}
+use Rattle.rv_templ.specs.Images.{target_of}
 use Rattle.rv_gate.specs.declared.gate.Shape.{Shape}
 use Rattle.rv_gate.specs.declared.gate.Shape.TheVariants.{Flip, Swap, Peres}
 use Rattle.rv_gate.specs.declared.word.TheConstants.{MOST_LINES}
@@ -21,11 +20,11 @@ use Rattle.rv_links.specs.declared.sought.Sought.TheVariants.{Unknown, Nowhere, 
 use Rattle.rv_links.specs.Seeking.{Tells, Reaches, Found}
 use Rattle.rv_links.proofs.inside.WindowLemmas.{live_first as live_front}
 use Rattle.rv_templ.specs.Gates.{AreGates}
-use Rattle.rv_templ.specs.Pairs.{lone, apart_on, paired, partner}
+use Rattle.rv_templ.specs.Pairs.{lone, apart_on, paired}
 use Rattle.rv_templ.specs.inside.Lookups.{Variant}
-use Rattle.rv_templ.specs.inside.Mates.{NoMate, Candidate, Joinless, IsStop, numbers_left}
+use Rattle.rv_templ.specs.inside.Mates.{IsStop, numbers_left}
 use Rattle.rv_templ.specs.inside.Notes.{Apart}
-use Rattle.rv_templ.proofs.JoinLaws.{cond_some, lone_is, line_used, third_some}
+use Rattle.rv_templ.proofs.JoinLaws.{differ_on, line_used, paired_as}
 use Rattle.rv_templ.proofs.NodeLists.{sooner_than, head_least, next_least, next_later, Each, each_of}
 
 -- ---- answers
@@ -100,62 +99,35 @@ variant c w c2 w2 t line e other =
     ]
 
 -- a gate that joins with the flip is the same, or another on one line that one of both has as a control
-pub record Joining (c w t : ℕ) (h : Shape) : Type 0 where
+pub record Joining (g h : Shape) : Type 0 where
   pub line : ℕ
   pub below : line < MOST_LINES
-  pub used : (has c line ≡ true) ⊎ ((is_flip h ≡ true) × (has (controls h) line ≡ true))
-  pub variant : Variant c w t line h
+  pub used : (has (controls g) line ≡ true) ⊎ ((is_flip h ≡ true) × (has (controls h) line ≡ true))
+  pub variant : Variant (controls g) (wanted g) (target_of g) line h
 
-lone_below : (set n line : ℕ) → lone set n ≡ Some line → line < n
-unfolding lone
-lone_below set zero line e = absurd (none-some line e)
-lone_below set (suc n) line e =
-    elim (cases_Bool (eqb set (2 ^ n))) [
-      | inl t ↦ let q = same_Some n line (sym (cond-true (eqb set (2 ^ n)) (Some n) (lone set n) t) ∙ e) in omega (arith, q)
-      | inr f ↦ let l = lone_below set n line (sym (cond-false (eqb set (2 ^ n)) (Some n) (lone set n) f) ∙ e) in omega (arith, l)
-    ]
-
-parts : (c w c2 w2 t line : ℕ) → IsGate (Flip c w t) → IsGate (Flip c2 w2 t) → line < MOST_LINES → apart_on c w c2 w2 ≡ 2 ^ line → (c ≡ c2 → w ≡ w2 → ⊥) → Joining c w t (Flip c2 w2 t)
-parts c w c2 w2 t line v v2 lt e other = record {
+joins_on : (c w c2 w2 t line : ℕ) → IsGate (Flip c w t) → IsGate (Flip c2 w2 t) → line < MOST_LINES → apart_on c w c2 w2 ≡ 2 ^ line → Joining (Flip c w t) (Flip c2 w2 t)
+joins_on c w c2 w2 t line v v2 lt e = record {
   line = line;
   below = lt;
   used = elim (line_used c w c2 w2 line e v.2 v2.2) [ inl u ↦ inl u | inr u ↦ inr (refl, u) ];
-  variant = variant c w c2 w2 t line e other;
+  variant = variant c w c2 w2 t line e (λ p q. differ_on c w c2 w2 line e (ap (λ s. has s line) p) (ap (λ s. has s line) q));
 }
 
-differ : (c w c2 w2 : ℕ) → (eqb c c2 && eqb w w2) ≡ false → c ≡ c2 → w ≡ w2 → ⊥
-differ c w c2 w2 f e g = false≢true (sym f ∙ and_from (eqb c c2) (eqb w w2) (eq-eqb c c2 e) (eq-eqb w w2 g))
+pub joining : (g h : Shape) (m : List Shape) → is_flip g ≡ true → IsGate g → IsGate h → paired g h ≡ Some m → (h ≡ g) ⊎ Joining g h
+joining g h m is v v2 e =
+    elim (paired_as g h m e) [
+      | inl u ↦ inl (u.flips is)
+      | inr k ↦ inr (rw (k.first, k.second) (joins_on k.care k.want k.care2 k.want2 k.target k.line (rw k.first at v) (rw k.second at v2) k.below k.apart))
+    ]
 
-pub joining : (c w t : ℕ) (h : Shape) (m : List Shape) → IsGate (Flip c w t) → IsGate h → paired (Flip c w t) h ≡ Some m → (h ≡ Flip c w t) ⊎ Joining c w t h
-unfolding paired
-joining c w t (Flip c2 w2 t2) m v v2 e =
-    let outer = cond_some (eqb t t2) m _ e in
-    let et : t ≡ t2 = eqb-true t t2 outer.0 in
-    subst (λ (x : ℕ). IsGate (Flip c2 w2 x) → (Flip c2 w2 x ≡ Flip c w t) ⊎ Joining c w t (Flip c2 w2 x)) et
-    (λ v3. elim (cases_Bool (eqb c c2 && eqb w w2)) [
-      | inl same ↦ let p = and_parts (eqb c c2) (eqb w w2) same in inl (ap (λ x. Flip x w2 t) (sym (eqb-true c c2 p.0)) ∙ ap (λ x. Flip c x t) (sym (eqb-true w w2 p.1)))
-      | inr other ↦
-          let o = third_some c w c2 w2 t (lone (apart_on c w c2 w2) MOST_LINES) m (sym (cond-false (eqb c c2 && eqb w w2) (Some []) _ other) ∙ outer.1) in
-          inr (parts c w c2 w2 t o.0 v v3 (lone_below _ MOST_LINES o.0 o.1) (lone_is _ MOST_LINES o.0 o.1) (differ c w c2 w2 other))
-    ]) v2
-joining c w t (Swap _ _ _ _) m v v2 e = absurd (none-some m e)
-joining c w t (Peres _ _ _) m v v2 e = absurd (none-some m e)
-
-pub joining_back : (c w t : ℕ) (h : Shape) (m : List Shape) → IsGate (Flip c w t) → IsGate h → paired h (Flip c w t) ≡ Some m → (h ≡ Flip c w t) ⊎ Joining c w t h
-unfolding paired
-joining_back c w t (Flip c2 w2 t2) m v v2 e =
-    let outer = cond_some (eqb t2 t) m _ e in
-    let et : t ≡ t2 = sym (eqb-true t2 t outer.0) in
-    subst (λ (x : ℕ). IsGate (Flip c2 w2 x) → (Flip c2 w2 x ≡ Flip c w t) ⊎ Joining c w t (Flip c2 w2 x)) et
-    (λ v3. elim (cases_Bool (eqb c2 c && eqb w2 w)) [
-      | inl same ↦ let p = and_parts (eqb c2 c) (eqb w2 w) same in inl (ap (λ x. Flip x w2 t) (eqb-true c2 c p.0) ∙ ap (λ x. Flip c x t) (eqb-true w2 w p.1))
-      | inr other ↦
-          let o = third_some c2 w2 c w t2 (lone (apart_on c2 w2 c w) MOST_LINES) m (sym (cond-false (eqb c2 c && eqb w2 w) (Some []) _ other) ∙ outer.1) in
-          let turned : apart_on c w c2 w2 ≡ 2 ^ o.0 = ap (λ x. bit_or x (bit_xor w w2)) (xor_comm c c2) ∙ ap (bit_or (bit_xor c2 c)) (xor_comm w w2) ∙ lone_is _ MOST_LINES o.0 o.1 in
-          inr (parts c w c2 w2 t o.0 v v3 (lone_below _ MOST_LINES o.0 o.1) turned (λ e f. differ c2 w2 c w other (sym e) (sym f)))
-    ]) v2
-joining_back c w t (Swap _ _ _ _) m v v2 e = absurd (none-some m e)
-joining_back c w t (Peres _ _ _) m v v2 e = absurd (none-some m e)
+pub joining_back : (g h : Shape) (m : List Shape) → is_flip g ≡ true → IsGate g → IsGate h → paired h g ≡ Some m → (h ≡ g) ⊎ Joining g h
+joining_back g h m is v v2 e =
+    elim (paired_as h g m e) [
+      | inl u ↦ inl (sym (u.flips (u.kind ∙ is)))
+      | inr k ↦
+          inr (rw (k.first, k.second) (joins_on k.care2 k.want2 k.care k.want k.target k.line (rw k.second at v) (rw k.first at v2) k.below
+          (ap (λ x. bit_or x (bit_xor k.want2 k.want)) (xor_comm k.care2 k.care) ∙ ap (bit_or (bit_xor k.care k.care2)) (xor_comm k.want2 k.want) ∙ k.apart)))
+    ]
 
 -- ---- a walk along the nodes
 
@@ -211,11 +183,11 @@ some_or None = inl refl
 some_or (Some m) = inr (m, refl)
 
 -- a note is gone, or the gate does not join
-pub loose_or : (c w t : ℕ) (h : Shape) (z : ℕ) → IsGate (Flip c w t) → IsGate h → (h ≡ Flip c w t → z ≡ 0) → (Joining c w t h → z ≡ 0) → (z ≡ 0) ⊎ (paired h (Flip c w t) ≡ None)
+pub loose_or : (c w t : ℕ) (h : Shape) (z : ℕ) → IsGate (Flip c w t) → IsGate h → (h ≡ Flip c w t → z ≡ 0) → (Joining (Flip c w t) h → z ≡ 0) → (z ≡ 0) ⊎ (paired h (Flip c w t) ≡ None)
 loose_or c w t h z v v2 same other =
     elim (some_or (paired h (Flip c w t))) [
       | inl none ↦ inr none
-      | inr some ↦ inl (elim (joining_back c w t h some.0 v v2 some.1) [ inl e ↦ same e | inr k ↦ other k ])
+      | inr some ↦ inl (elim (joining_back (Flip c w t) h some.0 refl v v2 some.1) [ inl e ↦ same e | inr k ↦ other k ])
     ]
 
 apart_each : (notes : List ℕ) (g : Shape) (l : List Node) → Each (λ x h. (noted x notes ≡ 0) ⊎ (paired h g ≡ None)) l → Apart notes (g ∷ []) l

@@ -1,7 +1,7 @@
 -- The notes after a pair was made, and after a window was replaced.
 use Rattle.std.proofs.lemmas.Grind.{common_steps}
 use Rattle.std.proofs.Common.{◌≡◌, ℕ, zero, suc, ◌+◌, ◌-◌, ◌<◌, ◌≤◌, true, false, eqb, List, [], ◌∷◌, ◌++◌, length, map, take, drop, refl, sym, ◌∙◌, ap, inl, inr, arith, subst, append_assoc, take-append-drop, length-drop}
-use Rattle.std.specs.Prelude.{◌⊎◌, Option, Some, None, bit_and, bit_xor}
+use Rattle.std.specs.Prelude.{◌⊎◌, Some, None, bit_and, bit_xor}
 use Rattle.std.proofs.Math.Seq.{take-add}
 use Rattle.std.proofs.lemmas.Nat.{and_comm, xor_comm}
 use Rattle.std.proofs.lemmas.Bool.{false≢true, and_parts, or_cases, eqb-true, cases_eq}
@@ -12,7 +12,7 @@ use Rattle.rv_gate.specs.Commuting.{meet, opposed, rule}
 use Rattle.rv_links.specs.Order.{lists, head, next_in, NoTwice, Rising}
 use Rattle.rv_links.specs.Nodes.{Node, ids_in, gates_in, live, node_gate, noted}
 use Rattle.rv_links.specs.inside.Chains.{nodes_from}
-use Rattle.rv_templ.specs.Pairs.{paired, partner}
+use Rattle.rv_templ.specs.Pairs.{partner}
 use Rattle.rv_templ.specs.inside.Mates.{Mate, NoMate, IsStop, passes}
 use Rattle.rv_templ.specs.inside.Notes.{Fewer, Others, Quiet, Noted, NoneNoted, Apart, Kept, node_of, coupled}
 use Rattle.rv_templ.proofs.JoinedLines.{paired_short}

@@ -26,15 +26,6 @@ use Rattle.rv_templ.proofs.inside.LinkedWindows.{coming_next}
 use Rattle.rv_templ.proofs.inside.VariedLines.{varied_more, none_wide}
 use Rattle.rv_templ.proofs.inside.WindowSteps.{window_begun}
 
--- what holds of the templates up to one
-pub each_more : (P : List Shape → Type 0) (templates : List (Vec Shape)) (t : ℕ) (v : Vec Shape) → t < length templates → v ≡ get_or templates t v
-    → ((k : ℕ) → k < t → P (template_in (templates_in templates) k)) → P v.items → (k : ℕ) → k < t + 1 → P (template_in (templates_in templates) k)
-each_more P templates t v lt e before new k below =
-    elim (cases_eq k t) [
-      | inl same ↦ rw (ap (λ i. template_in (templates_in templates) i) same ∙ template_at templates t v lt e) new
-      | inr other ↦ before k (omega arith)
-    ]
-
 -- ---- lines that vary
 
 union_same : (f g : ℕ → ℕ) (n : ℕ) → ((i : ℕ) → i < n → f i ≡ g i) → union_below f n ≡ union_below g n

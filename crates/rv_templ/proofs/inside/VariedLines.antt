@@ -1,5 +1,5 @@
 -- The lines that are not the same to each gate: an image has no more of them than the template.
-use Rattle.std.proofs.Common.{◌≡◌, ℕ, zero, suc, ◌+◌, ◌/◌, ◌%◌, ◌^◌, ◌*◌, ◌<◌, ◌≤◌, Bool, true, false, cond, ◌||◌, List, length, refl, sym, ◌∙◌, ap, inl, inr, arith, eq-eqb}
+use Rattle.std.proofs.Common.{◌≡◌, ℕ, zero, suc, ◌+◌, ◌/◌, ◌^◌, ◌*◌, ◌<◌, ◌≤◌, Bool, true, false, cond, ◌||◌, List, length, refl, sym, ◌∙◌, ap, inl, inr, arith, eq-eqb}
 use Rattle.std.specs.Prelude.{bit_or, bit_xor, count_ones, leb, None}
 use Rattle.std.proofs.lemmas.Bool.{cases_Bool, false≢true, or_cases, or_left, or_right, eqb-true, false_from_ne_true}
 use Rattle.std.proofs.lemmas.Nat.{ones_le_self}

@@ -1,6 +1,4 @@
-use Rattle.std.proofs.Common.{List, sym, ◌∙◌, arith, subst}
-use Rattle.rv_gate.specs.declared.gate.Shape.{Shape}
-use Rattle.rv_templ.specs.Templates.{IsTemplate}
+use Rattle.std.proofs.Common.{sym, ◌∙◌, arith}
 use Rattle.rv_templ.specs.inside.Library.{templates_in}
 use Rattle.rv_templ.proofs.inside.ChoiceLemmas.{template_at, are_at, length-templates}
 use Rattle.rv_templ.proofs.library.template_of.Goals as goal

@@ -1,5 +1,4 @@
 use Rattle.std.proofs.Common.{ap, sym, ◌∙◌, inr, refl, arith}
-use Rattle.std.specs.Prelude.{Some, None}
 use Rattle.std.proofs.lemmas.Bool.{eqb-true, or_parts}
 use Rattle.rv_links.specs.Order.{next_in}
 use Rattle.rv_links.specs.Nodes.{live, ids_in}

@@ -1,4 +1,4 @@
-use Rattle.std.proofs.Common.{length, ap, sym, ◌∙◌}
+use Rattle.std.proofs.Common.{ap, ◌∙◌}
 use Rattle.rv_templ.specs.Pairs.{paired}
 use Rattle.rv_templ.proofs.LinkedGates.{linked_gates}
 use Rattle.rv_templ.proofs.inside.LinkedPairs.{first_live, second_live, first_is, second_is, made_good}

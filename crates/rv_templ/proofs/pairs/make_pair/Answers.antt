@@ -1,10 +1,6 @@
-use Rattle.std.proofs.Common.{length, [], ◌∷◌, sym, ap, ◌∙◌, subst}
-use Rattle.std.specs.Prelude.{None}
-use Rattle.rv_gate.specs.Gate.{FitsIn}
-use Rattle.rv_gate.specs.Circuit.{Cascade}
+use Rattle.std.proofs.Common.{sym, ap, ◌∙◌}
 use Rattle.std.proofs.lemmas.Option.{none-some, same_Some}
 use Rattle.rv_links.specs.Nodes.{Linkage}
-use Rattle.rv_templ.specs.Gates.{AreGates}
 use Rattle.rv_templ.specs.inside.Joins.{option_of}
 use Rattle.rv_templ.proofs.inside.LinkedPairs.{first_live, still_live, both_gone, one_set}
 use Rattle.rv_templ.proofs.pairs.make_pair.Goals as goal

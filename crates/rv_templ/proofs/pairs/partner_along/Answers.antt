@@ -1,5 +1,5 @@
-use Rattle.std.proofs.Common.{suc, ℕ, inl, inr, ◌∙◌, ap, sym, arith}
-use Rattle.std.specs.Prelude.{Some, None}
+use Rattle.std.proofs.Common.{inl, inr, ◌∙◌, ap, sym}
+use Rattle.std.specs.Prelude.{Some}
 use Rattle.std.proofs.lemmas.Bool.{cases_lt}
 use Rattle.std.proofs.lemmas.Option.{none-some}
 use Rattle.rv_links.specs.Nodes.{node_gate}

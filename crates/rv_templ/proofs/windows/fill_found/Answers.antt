@@ -1,4 +1,3 @@
-use Rattle.std.proofs.Common.{sym}
 use Rattle.rv_templ.proofs.windows.fill_found.Goals as goal
 
 pub fill-requires-clause-window : goal.fill-requires-clause-window

@@ -16,6 +16,9 @@ returns-clause-front c = rw c.set_window.ensures (spot_front _ _ _ _ _ _ c.requi
 
 pub returns-clause-right : goal.returns-clause-right
 returns-clause-right c far none right =
-    rw (c.set_window.ensures, spot_set (templates_in c.args.templates.now) c.args.linked.now.nodes c.args.spot.place c.args.spot.node c.args.spot.found
-    (gates_for (coming (Some c.args.spot.node) c.args.linked.now.nodes) (templates_in c.args.templates.now) c.args.spot.found) c.recall_invariant.ensures.once c.requires.spot)
+    rw (
+      c.set_window.ensures,
+      spot_set (templates_in c.args.templates.now) c.args.linked.now.nodes c.args.spot.place c.args.spot.node c.args.spot.found
+          (gates_for (coming (Some c.args.spot.node) c.args.linked.now.nodes) (templates_in c.args.templates.now) c.args.spot.found) c.recall_invariant.ensures.once c.requires.spot,
+    )
     (window_noted c.args.linked.now.notes c.args.spot.found.count _ (drop c.args.spot.place c.args.linked.now.nodes) far none right)

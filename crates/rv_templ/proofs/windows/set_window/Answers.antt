@@ -1,4 +1,4 @@
-use Rattle.std.proofs.Common.{length, sym, arith}
+use Rattle.std.proofs.Common.{arith}
 use Rattle.rv_templ.proofs.LinkedGates.{all_fit}
 use Rattle.rv_templ.proofs.inside.LinkedWindows.{takes_it}
 use Rattle.rv_templ.proofs.windows.set_window.Goals as goal

@@ -1,5 +1,4 @@
-use Rattle.std.proofs.Common.{length, arith}
-use Rattle.rv_templ.specs.inside.Library.{templates_in}
+use Rattle.std.proofs.Common.{arith}
 use Rattle.rv_templ.proofs.inside.ChoiceLemmas.{length-templates}
 use Rattle.rv_templ.proofs.windows.write_new.Goals as goal
 
