@@ -1,15 +1,13 @@
 -- What two gates come to touches no line that neither of them touches.
-use Rattle.std.proofs.Common.{◌≡◌, ℕ, ◌+◌, ◌<◌, ◌≤◌, Bool, true, false, cond, ◌||◌, ◌&&◌, eqb, List, [], ◌∷◌, length, refl, inl, inr, sym, ◌∙◌, ap, arith}
-use Rattle.std.specs.Prelude.{Option, Some, None}
-use Rattle.std.proofs.lemmas.Option.{none-some, same_Some}
-use Rattle.std.proofs.lemmas.Bool.{cases_eq, or_cases, or_left, or_right, eqb-true}
-use Rattle.rv_gate.specs.declared.word.TheConstants.{MOST_LINES}
+use Rattle.std.proofs.Common.{◌≡◌, ℕ, ◌+◌, ◌<◌, ◌≤◌, true, ◌||◌, List, [], ◌∷◌, length, inl, inr, sym, ◌∙◌, ap, arith}
+use Rattle.std.specs.Prelude.{Some}
+use Rattle.std.proofs.lemmas.Bool.{cases_eq, or_cases, or_left, or_right}
 use Rattle.rv_gate.specs.Gate.{touches}
 use Rattle.rv_gate.specs.declared.gate.Shape.{Shape}
-use Rattle.rv_gate.specs.declared.gate.Shape.TheVariants.{Flip, Swap, Peres}
+use Rattle.rv_gate.specs.declared.gate.Shape.TheVariants.{Flip}
 use Rattle.rv_gate.proofs.inside.GateLemmas.{has-touched}
 use Rattle.rv_links.specs.Nodes.{incidence, incidences}
-use Rattle.rv_templ.specs.Pairs.{lone, with_line, apart_on, third_flip, third_at, paired}
+use Rattle.rv_templ.specs.Pairs.{with_line, third_flip, paired}
 use Rattle.rv_templ.proofs.JoinLaws.{with_line_here, with_line_other, paired_as}
 use Rattle.rv_templ.proofs.inside.Incidences.{incidences-cons, incidences-nil, count_ones-within}
 

@@ -1,16 +1,15 @@
 -- What look-ups tell of the gates that join with a flip.
-use Rattle.std.proofs.Common.{◌≡◌, ◌≢◌, ℕ, zero, suc, ◌<◌, ◌≤◌, ◌^◌, true, false, ◌&&◌, eqb, List, [], ◌∷◌, ◌++◌, refl, sym, subst, ◌∙◌, ap, inl, inr, arith, eq-eqb, ne_eqb, Bool}
+use Rattle.std.proofs.Common.{◌≡◌, ◌≢◌, ℕ, suc, ◌<◌, ◌≤◌, ◌^◌, true, false, eqb, List, [], ◌∷◌, ◌++◌, refl, sym, subst, ◌∙◌, ap, inl, inr, arith, eq-eqb, ne_eqb, Bool}
 use Rattle.std.specs.Prelude.{◌⊎◌, Option, Some, None, IfSome, bit_or, bit_xor}
 use Rattle.rv_gate.specs.declared.circuit.TheConstants.{MOST_GATES}
 use Rattle.rv_links.specs.Doubt.{IsBefore}
 use Rattle.std.proofs.lemmas.Nat.{or_comm, xor_comm}
-use Rattle.std.proofs.lemmas.Option.{none-some, same_Some}
-use Rattle.std.proofs.lemmas.Bool.{cases_Bool, cases_eq, cases_order, cond-true, cond-false, false≢true, and_parts, and_from, or_left, or_cases, eqb-true, false_from_ne_true}
+use Rattle.std.proofs.lemmas.Bool.{cases_Bool, cases_eq, cases_order, cond-true, cond-false, false≢true, or_left, or_cases, false_from_ne_true}
 use Rattle.rv_gate.specs.Word.{has}
 use Rattle.rv_gate.specs.Gate.{IsGate, controls, wanted, is_flip, xor}
 use Rattle.rv_templ.specs.Images.{target_of}
 use Rattle.rv_gate.specs.declared.gate.Shape.{Shape}
-use Rattle.rv_gate.specs.declared.gate.Shape.TheVariants.{Flip, Swap, Peres}
+use Rattle.rv_gate.specs.declared.gate.Shape.TheVariants.{Flip}
 use Rattle.rv_gate.specs.declared.word.TheConstants.{MOST_LINES}
 use Rattle.rv_gate.proofs.LineSets.{same_lines, has-or, has-xor, has-line, has-none, bit_xor-back}
 use Rattle.rv_links.specs.Order.{lists, head, next_in, Rising, NoTwice}
@@ -20,7 +19,7 @@ use Rattle.rv_links.specs.declared.sought.Sought.TheVariants.{Unknown, Nowhere, 
 use Rattle.rv_links.specs.Seeking.{Tells, Reaches, Found}
 use Rattle.rv_links.proofs.inside.WindowLemmas.{live_first as live_front}
 use Rattle.rv_templ.specs.Gates.{AreGates}
-use Rattle.rv_templ.specs.Pairs.{lone, apart_on, paired}
+use Rattle.rv_templ.specs.Pairs.{apart_on, paired}
 use Rattle.rv_templ.specs.inside.Lookups.{Variant}
 use Rattle.rv_templ.specs.inside.Mates.{IsStop, numbers_left}
 use Rattle.rv_templ.specs.inside.Notes.{Apart}
