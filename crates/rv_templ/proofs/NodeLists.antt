@@ -9,21 +9,17 @@ use Rattle.rv_gate.specs.declared.gate.Shape.{Shape}
 use Rattle.rv_links.specs.Order.{lists, head, next_in, NoTwice, Rising}
 use Rattle.rv_links.specs.Nodes.{Node, ids_in, live, node_gate, from_node, erased, regated, with_gates, window_set}
 
+pub listed_at : (before : List Node) (n : Node) (after : List Node) → lists n.id (ids_in (before ++ (n ∷ after))) ≡ true
+listed_at [] n after = or_left (eqb n.id n.id) _ (eq-eqb n.id n.id refl)
+listed_at (m ∷ before) n after = or_right (eqb n.id m.id) _ (listed_at before n after)
+
 pub apart : (before : List Node) (n : Node) (after : List Node) → NoTwice (ids_in (before ++ (n ∷ after))) → lists n.id (ids_in before) ≡ false
 apart [] n after d = refl
 apart (m ∷ before) n after d =
     elim (cases_eq n.id m.id) [
-      | inl e ↦ absurd (false≢true (sym d.0 ∙ ap (λ x. lists x (ids_in (before ++ (n ∷ after)))) (sym e) ∙ listed before n after))
+      | inl e ↦ absurd (false≢true (sym d.0 ∙ ap (λ x. lists x (ids_in (before ++ (n ∷ after)))) (sym e) ∙ listed_at before n after))
       | inr ne ↦ ap (λ b. b || lists n.id (ids_in before)) (ne_eqb n.id m.id ne) ∙ apart before n after d.1
     ]
-  where
-    listed : (before : List Node) (n : Node) (after : List Node) → lists n.id (ids_in (before ++ (n ∷ after))) ≡ true
-    listed [] n after = or_left (eqb n.id n.id) _ (eq-eqb n.id n.id refl)
-    listed (m ∷ before) n after = or_right (eqb n.id m.id) _ (listed before n after)
-
-pub listed_at : (before : List Node) (n : Node) (after : List Node) → lists n.id (ids_in (before ++ (n ∷ after))) ≡ true
-listed_at [] n after = or_left (eqb n.id n.id) _ (eq-eqb n.id n.id refl)
-listed_at (m ∷ before) n after = or_right (eqb n.id m.id) _ (listed_at before n after)
 
 pub next_at : (before : List Node) (n : Node) (after : List Node) → lists n.id (ids_in before) ≡ false → next_in n.id (ids_in (before ++ (n ∷ after))) ≡ head (ids_in after)
 unfolding next_in
@@ -125,24 +121,26 @@ head_least (n ∷ rest) y r on b =
       | inr l ↦ let q = r.0 y l in omega (arith, q, b)
     ]
 
+-- the next node after a live one
+next_is : (nodes : List Node) (x : ℕ) (next : Option ℕ) (s : Stands nodes x) → NoTwice (ids_in nodes) → next ≡ next_in x (ids_in nodes) → next ≡ head (ids_in s.after)
+next_is nodes x next s d e =
+    e ∙ ap (λ i. next_in i (ids_in nodes)) (sym s.is) ∙ ap (λ l. next_in s.node.id (ids_in l)) s.split
+    ∙ next_at s.before s.node s.after (apart s.before s.node s.after (subst (λ (l : List Node). NoTwice (ids_in l)) s.split d))
+
 -- and none is between a node and the next one
 pub next_least : (nodes : List Node) (x : ℕ) (next : Option ℕ) → Rising (ids_in nodes) → NoTwice (ids_in nodes) → live x nodes ≡ true → next ≡ next_in x (ids_in nodes)
     → (y : ℕ) → live y nodes ≡ true → x < y → IsBefore y next → ⊥
 next_least nodes x next r d on e y there lt b =
     let s = stands nodes x on in
     let r2 : Rising (ids_in (s.before ++ (s.node ∷ s.after))) = subst (λ (l : List Node). Rising (ids_in l)) s.split r in
-    let d2 : NoTwice (ids_in (s.before ++ (s.node ∷ s.after))) = subst (λ (l : List Node). NoTwice (ids_in l)) s.split d in
-    let is : next ≡ head (ids_in s.after) = e ∙ ap (λ i. next_in i (ids_in nodes)) (sym s.is) ∙ ap (λ l. next_in s.node.id (ids_in l)) s.split ∙ next_at s.before s.node s.after (apart s.before s.node s.after d2) in
     head_least s.after y (rising_last (s.before ++ (s.node ∷ [])) s.after (subst (λ (l : List Node). Rising (ids_in l)) (sym (append_assoc s.before (s.node ∷ []) s.after)) r2))
-    (is_after s.before s.node s.after y r2 (ap (live y) (sym s.split) ∙ there) (omega (arith, lt, s.is))) (subst (λ (o : Option ℕ). IsBefore y o) is b)
+    (is_after s.before s.node s.after y r2 (ap (live y) (sym s.split) ∙ there) (omega (arith, lt, s.is))) (subst (λ (o : Option ℕ). IsBefore y o) (next_is nodes x next s d e) b)
 
 pub next_later : (nodes : List Node) (x : ℕ) (next : Option ℕ) → Rising (ids_in nodes) → NoTwice (ids_in nodes) → live x nodes ≡ true → next ≡ next_in x (ids_in nodes) → IfSome next (λ b. (live b nodes ≡ true) × (x < b))
 next_later nodes x next r d on e =
     let s = stands nodes x on in
     let r2 : Rising (ids_in (s.before ++ (s.node ∷ s.after))) = subst (λ (l : List Node). Rising (ids_in l)) s.split r in
-    let d2 : NoTwice (ids_in (s.before ++ (s.node ∷ s.after))) = subst (λ (l : List Node). NoTwice (ids_in l)) s.split d in
-    let is : next ≡ head (ids_in s.after) = e ∙ ap (λ i. next_in i (ids_in nodes)) (sym s.is) ∙ ap (λ l. next_in s.node.id (ids_in l)) s.split ∙ next_at s.before s.node s.after (apart s.before s.node s.after d2) in
-    subst (λ (o : Option ℕ). IfSome o (λ b. (live b nodes ≡ true) × (x < b))) (sym is) (later s.before s.node s.after nodes x s.split s.is r2)
+    subst (λ (o : Option ℕ). IfSome o (λ b. (live b nodes ≡ true) × (x < b))) (sym (next_is nodes x next s d e)) (later s.before s.node s.after nodes x s.split s.is r2)
   where
     later : (before : List Node) (n : Node) (after nodes : List Node) (x : ℕ) → nodes ≡ before ++ (n ∷ after) → n.id ≡ x → Rising (ids_in (before ++ (n ∷ after))) → IfSome (head (ids_in after)) (λ b. (live b nodes ≡ true) × (x < b))
     later before n [] nodes x s i r = tt

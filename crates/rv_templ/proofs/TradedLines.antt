@@ -67,10 +67,7 @@ renamed_traded own to to2 v u set x sub each =
 pub both_traded : (own : ℕ) (to to2 : List ℕ) (v u set care x : ℕ) → Part set own → ((j : ℕ) → j < 6 → has own j ≡ true → new_line to2 j ≡ traded v u (new_line to j))
     → has (bit_or (renamed to2 set) (traded_set v u care)) x ≡ has (bit_or (renamed to set) care) (traded v u x)
 both_traded own to to2 v u set care x sub each =
-    has-or (renamed to2 set) (traded_set v u care) x
-    ∙ ap (λ b. b || has (traded_set v u care) x) (renamed_traded own to to2 v u set x sub each)
-    ∙ ap (λ b. has (renamed to set) (traded v u x) || b) (has-traded v u care x)
-    ∙ sym (has-or (renamed to set) care (traded v u x))
+    rw (has-or (renamed to2 set) (traded_set v u care) x, renamed_traded own to to2 v u set x sub each, has-traded v u care x) (sym (has-or (renamed to set) care (traded v u x)))
 
 -- ---- how many lines
 

@@ -12,7 +12,7 @@ use Rattle.rv_templ.specs.declared.joining.Joined.{Joined}
 use Rattle.rv_templ.specs.inside.Joins.{option_of}
 use Rattle.rv_templ.specs.inside.Mates.{Joinless, IsPairSpot}
 use Rattle.rv_templ.specs.inside.Notes.{Fewer, NoneNoted, Kept}
-use Rattle.rv_templ.proofs.inside.CursorLaws.{all_passed}
+use Rattle.rv_templ.proofs.inside.CursorLaws.{all_passed, none_in}
 use Rattle.rv_templ.proofs.inside.LinkedWindows.{head_at, node_more}
 use Rattle.rv_templ.proofs.NodeLists.{apart}
 use Rattle.rv_templ.proofs.inside.LinkedPairs.{place_is, second_here}
@@ -74,10 +74,6 @@ near_found nodes notes low a b x made at gates first second xs ys d le w e same 
     let is : front ++ w.seen ≡ xs = before_once nodes (front ++ w.seen) t.rest t.node second xs ys b d t.split (t.is ∙ same) s eb in
     let rest : w.seen ≡ drop low xs = sym (drop-append_seam front w.seen) ∙ ap (λ k. drop k (front ++ w.seen)) (length-take-le low nodes le) ∙ ap (drop low) is in
     subst (λ (l : List Node). Kept notes first second gates l) rest (w.kept gates first second eo ea eb)
-
-none_in : (after : List Node) → None ≡ head (ids_in after) → after ≡ []
-none_in [] e = refl
-none_in (n ∷ rest) e = absurd cc
 
 pub near_end : (nodes : List Node) (notes : List ℕ) (low a b : ℕ) (made : Joined) (at : Option ℕ) (gates : List Shape) (first second : Node) (xs ys : List Node) → low ≤ length nodes → Near nodes notes low a b made at
     → at ≡ None → option_of made ≡ Some gates → first.id ≡ a → second.id ≡ b → low ≤ length xs → nodes ≡ xs ++ (second ∷ ys) → Kept notes first second gates (drop low xs)

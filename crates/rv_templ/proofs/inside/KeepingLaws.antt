@@ -16,7 +16,7 @@ use Rattle.rv_templ.specs.Windows.{IsWindow}
 use Rattle.rv_templ.specs.inside.Replaced.{Here, Improves, gates_for, want_found, care_found}
 use Rattle.rv_templ.proofs.inside.FoldLemmas.{first_some}
 use Rattle.rv_gate.proofs.AllBelow.{all_below-at}
-use Rattle.rv_templ.proofs.WindowLaws.{allowed_parts, apart_from, window_is, turned_template, length-turned, span_turned, stands, replaces, shorter, replaced_same, within_at, span_from}
+use Rattle.rv_templ.proofs.WindowLaws.{plain_at, allowed_parts, apart_from, window_is, turned_template, length-turned, span_turned, stands, replaces, shorter, replaced_same, within_at, span_from}
 use Rattle.rv_templ.proofs.GateLists.{AreGates-first, AreGates-last, AreGates-append}
 use Rattle.rv_templ.proofs.inside.Incidences.{incidences-append, incidences-reverse}
 use Rattle.rv_templ.proofs.inside.ChoiceLemmas.{are_at}
@@ -128,30 +128,17 @@ kept n gates library found good h =
       no_more = omega (arith, h.no_more, incidences-append new rest, incidences-append window rest, ap incidences whole);
     }
 
-plain_at : (own : ℕ) (to : List ℕ) (i : ℕ) → zero_elsewhere own to ≡ true → i < 6 → has own i ≡ false → new_line to i ≡ 0
-unfolding zero_elsewhere
-plain_at own to i e h off =
-    elim (or_cases (has own i) (eqb (new_line to i) 0) (all_below-at (λ k. has own k || eqb (new_line to k) 0) 6 i e h)) [
-      | inl on ↦ absurd (false≢true (sym off ∙ on))
-      | inr z ↦ eqb-true _ 0 z
-    ]
-
-pub is_window : (n : ℕ) (gates : List Shape) (library : List (List Shape)) (found : Found) → AreTemplates library → n ≤ MOST_LINES → AreGates n gates → Chosen gates library found
+pub is_window : (n : ℕ) (gates : List Shape) (library : List (List Shape)) (found : Found) → Chosen gates library found → Here n library gates found
     → IsWindow gates library found (care_found gates library found) (want_found gates library found)
-is_window n gates library found are most good c =
+is_window n gates library found c h =
     let t0 : List Shape = template_in library found.template in
     let t : List Shape = turned found.turn (template_in library found.template) in
     let window : List Shape = take found.count gates in
-    let rest : List Shape = drop found.count gates in
-    let whole : take found.count gates ++ drop found.count gates ≡ gates = take-append-drop found.count gates in
-    let g2 : AreGates n (take found.count gates ++ drop found.count gates) = subst (λ (l : List Shape). AreGates n l) (sym whole) good in
+    let w = h.replaced in
     let len : length (take found.count gates) ≡ found.count = length-take-le found.count gates c.here in
-    let len_t : length t ≡ length t0 = length-turned found.turn t0 in
-    let is = turned_template found.turn (template_in library found.template) (are_at library found.template are c.template) in
-    let some : 0 < length window = let a = c.some in omega (arith, len) in
-    let room : length window ≤ length t = let a = c.most in omega (arith, len, len_t) in
+    let room : length window ≤ length t = let a = w.room in omega (arith, length-turned found.turn t0) in
     let own : span t ≡ span t0 = span_turned found.turn t0 in
-    let st = stands n window t found.lines (AreGates-first n window rest g2) most is some room c.allowed in
+    let st = stands w.lines window t found.lines w.good w.most (turned_template found.turn t0 w.template) w.some room c.allowed in
     let a = allowed_parts window t found.lines c.allowed in
     let care : ℕ = fresh_care window (span t) found.lines in
     let want : ℕ = fresh_want window (span t) found.lines in

@@ -15,7 +15,7 @@ use Rattle.rv_templ.specs.inside.Mates.{Mate, IsPairSpot, mated}
 use Rattle.rv_templ.specs.inside.Notes.{node_of, coupled}
 use Rattle.rv_templ.proofs.JoinLaws.{joined_sound}
 use Rattle.rv_templ.proofs.GateLists.{AreGates-last}
-use Rattle.rv_templ.proofs.NodeLists.{apart, listed_at, gone_at, regated_at, gate_at_node}
+use Rattle.rv_templ.proofs.NodeLists.{apart, listed_at, gone_at, regated_at, gate_at_node, gate_split}
 
 -- the nodes of a pair
 abbrev pub row : List Node → Node → List Node → Node → List Node → List Node
@@ -32,15 +32,10 @@ pub second_live : (nodes : List Node) (a b : ℕ) → Mate nodes a b → live b 
 second_live nodes a b m = grind (arith, regroup, listed_at)
 
 pub first_is : (nodes : List Node) (a b : ℕ) (m : Mate nodes a b) → NoTwice (ids_in nodes) → node_gate a nodes ≡ m.first.gate
-first_is nodes a b m d =
-    ap (node_gate a) m.split ∙ ap (λ x. node_gate x (row m.before m.first m.between m.second m.after)) (sym m.is_first)
-    ∙ gate_at_node m.before m.first (m.between ++ (m.second ∷ m.after)) (apart m.before m.first (m.between ++ (m.second ∷ m.after)) (subst (λ (l : List Node). NoTwice (ids_in l)) m.split d))
+first_is nodes a b m d = gate_split nodes m.before m.first (m.between ++ (m.second ∷ m.after)) a d m.split m.is_first
 
 pub second_is : (nodes : List Node) (a b : ℕ) (m : Mate nodes a b) → NoTwice (ids_in nodes) → node_gate b nodes ≡ m.second.gate
-second_is nodes a b m d =
-    let s : nodes ≡ (m.before ++ (m.first ∷ m.between)) ++ (m.second ∷ m.after) = m.split ∙ regroup m.before m.between m.after m.first m.second in
-    ap (node_gate b) s ∙ ap (λ x. node_gate x ((m.before ++ (m.first ∷ m.between)) ++ (m.second ∷ m.after))) (sym m.is_second)
-    ∙ gate_at_node (m.before ++ (m.first ∷ m.between)) m.second m.after (apart (m.before ++ (m.first ∷ m.between)) m.second m.after (subst (λ (l : List Node). NoTwice (ids_in l)) s d))
+second_is nodes a b m d = gate_split nodes (m.before ++ (m.first ∷ m.between)) m.second m.after b d (m.split ∙ regroup m.before m.between m.after m.first m.second) m.is_second
 
 -- ---- a pair is made
 

@@ -17,7 +17,7 @@ use Rattle.rv_templ.specs.Templates.{IsTemplate}
 use Rattle.rv_templ.proofs.inside.FoldLemmas.{least_dead, least_step, least_end}
 use Rattle.rv_gate.proofs.AllBelow.{all_below-at}
 use Rattle.rv_templ.proofs.ImageLaws.{Apart, Serves, renamed_has, renamed_at}
-use Rattle.rv_templ.proofs.WindowLaws.{allowed_parts, apart_from, in_span, match_at, serve_at, without_parts}
+use Rattle.rv_templ.proofs.WindowLaws.{plain_at, allowed_parts, apart_from, in_span, match_at, serve_at, without_parts}
 use Rattle.rv_gate.proofs.Bits.{same_from, or_off}
 
 -- the list that a renaming begun by i lines goes on to
@@ -37,11 +37,7 @@ unfolding zero_elsewhere
 drop_plain window template to i v len h off ne rest =
     false_from_ne_true _ (λ e.
     let a = allowed_parts window template (gone_on to i v rest) e in
-    elim (or_cases (has (span template) i) (eqb (new_line (gone_on to i v rest) i) 0)
-    (all_below-at (λ k. has (span template) k || eqb (new_line (gone_on to i v rest) k) 0) 6 i a.zero_elsewhere h)) [
-      | inl on ↦ false≢true (sym off ∙ on)
-      | inr z ↦ ne (sym (next_line to i v rest len h) ∙ eqb-true _ 0 z)
-    ])
+    ne (sym (next_line to i v rest len h) ∙ plain_at (span template) (gone_on to i v rest) i a.zero_elsewhere h off))
 
 pub drop_span : (window template : List Shape) (to : List ℕ) (i v : ℕ) → IsTemplate template → length window ≤ length template → length to ≡ 6 → i < 6 → has (span template) i ≡ true
     → has (span window) v ≡ false → Dropped window template (take i to ++ (v ∷ []))

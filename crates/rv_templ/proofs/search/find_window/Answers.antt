@@ -18,7 +18,8 @@ if_none (Some f) P h = tt
 pub returns-clause-window : goal.returns-clause-window
 returns-clause-window c =
     if_some c.search.result _ (λ f e n most good.
-    is_window n c.args.gates.now (templates_in c.args.templates.now) f c.requires.templates most good (chosen c.args.gates.now (templates_in c.args.templates.now) f (sym c.search.ensures ∙ e)))
+    is_window n c.args.gates.now (templates_in c.args.templates.now) f (chosen c.args.gates.now (templates_in c.args.templates.now) f (sym c.search.ensures ∙ e))
+    (here n (templates_in c.args.templates.now) c.args.gates.now f c.requires.templates most good (sym c.search.ensures ∙ e)))
 
 pub returns-clause-keeps : goal.returns-clause-keeps
 returns-clause-keeps c =
