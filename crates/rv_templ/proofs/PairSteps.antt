@@ -1,10 +1,10 @@
 -- The rewriting keeps the words, shortens the list and ends settled.
-use Rattle.std.proofs.Common.{◌≡◌, ℕ, zero, suc, ◌+◌, ◌*◌, ◌≤◌, true, false, cond, List, [], ◌∷◌, ◌++◌, refl, sym, ◌∙◌, ap, inl, inr, arith, length-append, subst, append_assoc, eqb, ◌^◌, ◌%◌, set, eq-eqb, ne_eqb}
+use Rattle.std.proofs.Common.{◌≡◌, ℕ, zero, suc, ◌+◌, ◌*◌, ◌<◌, ◌≤◌, true, false, cond, List, [], ◌∷◌, ◌++◌, length, refl, sym, ◌∙◌, ap, inl, inr, arith, length-append, subst, append_assoc, eqb, ◌^◌, ◌%◌, set, eq-eqb, ne_eqb}
 use Rattle.std.specs.Prelude.{Option, Some, None}
 use Rattle.std.proofs.lemmas.Nat.{one_shl}
 use Rattle.std.proofs.lemmas.Option.{none-some}
 use Rattle.std.proofs.lemmas.Bool.{cond-true, cond-false}
-use Rattle.rv_templ.specs.Gates.{AreGates}
+use Rattle.rv_templ.specs.Gates.{Same, AreGates}
 use Rattle.rv_gate.specs.Gate.{act, run, FitsIn, IsGate}
 use Rattle.rv_gate.specs.declared.word.TheConstants.{MOST_LINES}
 use Rattle.rv_gate.specs.Commuting.{rule}
@@ -16,16 +16,22 @@ use Rattle.rv_templ.specs.Pairs.{lone, paired, after_gates, partner, pair_step}
 use Rattle.rv_links.specs.Nodes.{incidences}
 use Rattle.rv_templ.proofs.inside.Incidences.{incidences-cons, incidences-nil, incidences-append}
 use Rattle.rv_templ.proofs.JoinLaws.{cond_some, joined_sound}
-use Rattle.rv_templ.specs.inside.Replaced.{Improves}
 use Rattle.rv_templ.proofs.JoinedLines.{joined_no_more}
 use Rattle.rv_templ.proofs.Options.{or_some, map_some, after_some}
 use Rattle.rv_templ.proofs.GateLists.{AreGates-append}
 
+-- what one step of a list keeps
+pub record Better (n : ℕ) (old new : List Shape) : Type 0 where
+  pub words : Same n old new
+  pub fewer : length new < length old
+  pub good : AreGates n new
+  pub no_more : incidences new ≤ incidences old
+
 -- a gate is put before both lists
-pub put_before : (n : ℕ) (h : Shape) (old new : List Shape) → IsGate h → FitsIn h n → Improves n old new → Improves n (h ∷ old) (h ∷ new)
+pub put_before : (n : ℕ) (h : Shape) (old new : List Shape) → IsGate h → FitsIn h n → Better n old new → Better n (h ∷ old) (h ∷ new)
 put_before n h old new v f b =
     record {
-      same = λ word len. b.same (act h word) (length-act h word ∙ len);
+      words = λ word len. b.words (act h word) (length-act h word ∙ len);
       fewer = let l = b.fewer in omega arith;
       good = (v, f, b.good);
       no_more = let l = b.no_more in omega (arith, incidences-cons h old, incidences-cons h new);
@@ -35,7 +41,7 @@ two_before : (g h : Shape) (rest m : List Shape) → incidences m ≤ incidences
 two_before g h rest m le =
     omega (arith, le, incidences-append m rest, incidences-cons g (h ∷ rest), incidences-cons h rest, incidences-cons g (h ∷ []), incidences-cons h [], incidences-nil)
 
-pub partner_better : (n : ℕ) (g : Shape) (rest out : List Shape) → IsGate g → FitsIn g n → AreGates n rest → partner g rest ≡ Some out → Improves n (g ∷ rest) out
+pub partner_better : (n : ℕ) (g : Shape) (rest out : List Shape) → IsGate g → FitsIn g n → AreGates n rest → partner g rest ≡ Some out → Better n (g ∷ rest) out
 unfolding partner
 partner_better n g [] out v f k e = absurd (none-some out e)
 partner_better n g (h ∷ rest) out v f k e =
@@ -45,9 +51,9 @@ partner_better n g (h ∷ rest) out v f k e =
           let m = map_some (λ m. m ++ rest) (paired g h) l.0 l.1 in
           let s = joined_sound g h n m.0 v k.0 f k.1 m.1 in
           let same : m.0 ++ rest ≡ out = m.2 ∙ l.2 in
-          subst (λ (x : List Shape). Improves n (g ∷ h ∷ rest) x) same
+          subst (λ (x : List Shape). Better n (g ∷ h ∷ rest) x) same
           (record {
-            same = λ word len. ap (run rest) (sym (s.words word len)) ∙ sym (run-append m.0 rest word);
+            words = λ word len. ap (run rest) (sym (s.words word len)) ∙ sym (run-append m.0 rest word);
             fewer = let small = s.shorter in omega (arith, length-append m.0 rest);
             good = AreGates-append n m.0 rest s.good k.2;
             no_more = let l = joined_no_more g h m.0 m.1 s.shorter in two_before g h rest m.0 l;
@@ -56,18 +62,18 @@ partner_better n g (h ∷ rest) out v f k e =
           let c = cond_some (rule g h) out _ a in
           let l = after_some (h ∷ []) (partner g rest) out c.1 in
           let b = partner_better n g rest l.0 v f k.2 l.1 in
-          subst (λ (x : List Shape). Improves n (g ∷ h ∷ rest) x) l.2
+          subst (λ (x : List Shape). Better n (g ∷ h ∷ rest) x) l.2
           (record {
-            same = λ word len.
+            words = λ word len.
                 ap (run rest) (rule_agrees g h v k.0 c.0 word (subst (λ (x : ℕ). FitsIn g x) (sym len) f) (subst (λ (x : ℕ). FitsIn h x) (sym len) k.1))
-                ∙ b.same (act h word) (length-act h word ∙ len);
+                ∙ b.words (act h word) (length-act h word ∙ len);
             fewer = let l = b.fewer in omega arith;
             good = (k.0, k.1, b.good);
             no_more = let more = b.no_more in omega (arith, more, incidences-cons g (h ∷ rest), incidences-cons h rest, incidences-cons g rest, incidences-cons h l.0);
           })
     ]
 
-pub step_better : (n : ℕ) (gates out : List Shape) → AreGates n gates → pair_step gates ≡ Some out → Improves n gates out
+pub step_better : (n : ℕ) (gates out : List Shape) → AreGates n gates → pair_step gates ≡ Some out → Better n gates out
 unfolding pair_step
 step_better n [] out k e = absurd (none-some out e)
 step_better n (g ∷ rest) out k e =
@@ -75,7 +81,7 @@ step_better n (g ∷ rest) out k e =
       | inl a ↦ partner_better n g rest out k.0 k.1 k.2 a
       | inr a ↦
           let l = after_some (g ∷ []) (pair_step rest) out a in
-          subst (λ (x : List Shape). Improves n (g ∷ rest) x) l.2 (put_before n g rest l.0 k.0 k.1 (step_better n rest l.0 k.2 l.1))
+          subst (λ (x : List Shape). Better n (g ∷ rest) x) l.2 (put_before n g rest l.0 k.0 k.1 (step_better n rest l.0 k.2 l.1))
     ]
 
 -- ---- the definitions, step by step

@@ -12,28 +12,28 @@ use Rattle.rv_templ.specs.Templates.{AreTemplates}
 use Rattle.rv_templ.specs.Choices.{window_at, after}
 use Rattle.rv_templ.specs.Windows.{NoWindow}
 use Rattle.rv_templ.specs.Simplified.{window_step, step, after_steps, simplified, NoStepLeft, again}
-use Rattle.rv_templ.proofs.PairSteps.{step_better, put_before}
-use Rattle.rv_templ.specs.inside.Replaced.{Improves}
+use Rattle.rv_templ.proofs.PairSteps.{Better, step_better, put_before}
 use Rattle.rv_templ.proofs.SettledPairs.{settled_no_pair}
 use Rattle.rv_templ.proofs.MeaningLaws.{no_window}
 use Rattle.rv_templ.proofs.inside.KeepingLaws.{here, kept}
 use Rattle.rv_templ.proofs.Options.{or_some, map_some, map_none, after_some, after_none}
 use Rattle.rv_gate.proofs.FirstAnswer.{or_none}
 
-pub window_better : (n : ℕ) (library : List (List Shape)) (gates out : List Shape) → AreTemplates library → n ≤ MOST_LINES → AreGates n gates → window_step library gates ≡ Some out → Improves n gates out
+pub window_better : (n : ℕ) (library : List (List Shape)) (gates out : List Shape) → AreTemplates library → n ≤ MOST_LINES → AreGates n gates → window_step library gates ≡ Some out → Better n gates out
 unfolding window_step
 window_better n library [] out are most k e = absurd (none-some out e)
 window_better n library (g ∷ rest) out are most k e =
     elim (or_some (option_map (after (g ∷ rest) library) (window_at (g ∷ rest) library)) (after_gates (g ∷ []) (window_step library rest)) out e) [
       | inl at ↦
           let f = map_some (after (g ∷ rest) library) (window_at (g ∷ rest) library) out at in
-          subst (λ (l : List Shape). Improves n (g ∷ rest) l) f.2 (kept n (g ∷ rest) library f.0 k (here n library (g ∷ rest) f.0 are most k f.1))
+          let q = kept n (g ∷ rest) library f.0 k (here n library (g ∷ rest) f.0 are most k f.1) in
+          subst (λ (l : List Shape). Better n (g ∷ rest) l) f.2 (record { words = q.same; fewer = q.fewer; good = q.good; no_more = q.no_more })
       | inr later ↦
           let l = after_some (g ∷ []) (window_step library rest) out later in
-          subst (λ (o : List Shape). Improves n (g ∷ rest) o) l.2 (put_before n g rest l.0 k.0 k.1 (window_better n library rest l.0 are most k.2 l.1))
+          subst (λ (o : List Shape). Better n (g ∷ rest) o) l.2 (put_before n g rest l.0 k.0 k.1 (window_better n library rest l.0 are most k.2 l.1))
     ]
 
-pub change_better : (n : ℕ) (library : List (List Shape)) (gates out : List Shape) → AreTemplates library → n ≤ MOST_LINES → AreGates n gates → step library gates ≡ Some out → Improves n gates out
+pub change_better : (n : ℕ) (library : List (List Shape)) (gates out : List Shape) → AreTemplates library → n ≤ MOST_LINES → AreGates n gates → step library gates ≡ Some out → Better n gates out
 change_better n library gates out are most k e =
     elim (or_some (pair_step gates) (window_step library gates) out e) [
       | inl pair ↦ step_better n gates out k pair

@@ -101,7 +101,7 @@ stepping_more library n gates list next before (Some k2) are few s made none kep
     record {
       value = s.value ∙ simplified_on n library list next are few s.good made;
       good = better.good;
-      same = λ word len. s.same word len ∙ better.same word len;
+      same = λ word len. s.same word len ∙ better.words word len;
       fewer = let l = better.fewer in let k = s.fewer in omega arith;
       no_more = let l = better.no_more in let k = s.no_more in omega arith;
       settled = tt;
