@@ -1,25 +1,24 @@
 -- Lines that are the same to each gate of a window: where a renaming that goes on with one of them comes to nothing,
 -- so does one that goes on with another.
-use Rattle.std.proofs.Common.{◌≡◌, ◌≢◌, ℕ, zero, suc, ◌+◌, ◌-◌, ◌<◌, ◌≤◌, Bool, true, false, cond, ◌&&◌, ◌||◌, eqb, List, [], ◌∷◌, ◌++◌, length, take, drop, refl, sym, ◌∙◌, ap, inl, inr, arith, subst, take-append-drop, length-append, append_assoc, leb-true}
+use Rattle.std.proofs.Common.{◌≡◌, ◌≢◌, ℕ, zero, suc, ◌+◌, ◌-◌, ◌<◌, ◌≤◌, Bool, true, false, cond, eqb, List, [], ◌∷◌, ◌++◌, length, take, drop, refl, sym, ◌∙◌, ap, inl, inr, arith, subst, take-append-drop, length-append, append_assoc, leb-true}
 use Rattle.std.specs.Prelude.{bit_or, Option, Some, None}
-use Rattle.std.proofs.lemmas.Bool.{cases_eq, cases_lt, cases_Bool, false≢true, and_parts, or_cases, cond-true, cond-false, eqb-true, false_from_ne_true}
+use Rattle.std.proofs.lemmas.Bool.{cases_eq, cases_lt, cases_Bool, false≢true, and_parts, cond-true, cond-false, false_from_ne_true}
 use Rattle.std.proofs.lemmas.List.{get_or-append-add, length-take-le, length-map, append-nil}
 use Rattle.rv_gate.specs.declared.word.TheConstants.{MOST_LINES}
 use Rattle.rv_gate.proofs.LineSets.{same_lines}
 use Rattle.rv_gate.specs.Word.{has}
-use Rattle.rv_gate.specs.Gate.{same, touches, controls, wanted, IsFlip}
+use Rattle.rv_gate.specs.Gate.{touches, controls, wanted, IsFlip}
 use Rattle.rv_gate.specs.declared.gate.Shape.{Shape}
 use Rattle.rv_gate.specs.declared.gate.Shape.TheVariants.{Flip}
 use Rattle.rv_gate.specs.FirstAnswer.{first}
 use Rattle.rv_templ.specs.Folds.{least}
 use Rattle.rv_templ.specs.Gates.{gate_in}
-use Rattle.rv_templ.specs.Images.{target_of, span, new_line, renamed, image_of, fresh_care, fresh_want, zero_elsewhere, others, allowed}
+use Rattle.rv_templ.specs.Images.{target_of, span, new_line, renamed, image_of, fresh_care, fresh_want, others, allowed}
 use Rattle.rv_templ.specs.Templates.{IsTemplate}
 use Rattle.rv_templ.specs.Windows.{IsRenaming}
 use Rattle.rv_templ.specs.inside.Pruning.{same_role, Suits}
 use Rattle.rv_gate.proofs.FirstAnswer.{first_hit, none_first}
 use Rattle.rv_templ.proofs.inside.FoldLemmas.{least_end, least_step}
-use Rattle.rv_gate.proofs.AllBelow.{all_below-at}
 use Rattle.rv_templ.proofs.ImageLaws.{Part, Serves, Serve, renamed_has}
 use Rattle.rv_templ.proofs.MeaningLaws.{Small, small_at, small_from, least_none, allowed_from}
 use Rattle.rv_templ.proofs.inside.PruningLaws.{gone_on, next_line, line_before, drop_plain, none_dead, on_with, role_in}

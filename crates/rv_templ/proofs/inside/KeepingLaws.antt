@@ -1,7 +1,7 @@
 -- What the chosen window is, and what its replacement keeps.
-use Rattle.std.proofs.Common.{◌≡◌, ℕ, zero, suc, ◌*◌, ◌<◌, ◌≤◌, true, false, ◌||◌, eqb, List, [], ◌++◌, length, take, drop, sym, ◌∙◌, ap, inl, inr, arith, subst, take-append-drop, length-append}
+use Rattle.std.proofs.Common.{◌≡◌, ℕ, zero, suc, ◌*◌, ◌<◌, ◌≤◌, true, List, [], ◌++◌, length, take, drop, sym, ◌∙◌, ap, inl, inr, arith, subst, take-append-drop, length-append}
 use Rattle.std.specs.Prelude.{Some}
-use Rattle.std.proofs.lemmas.Bool.{and_parts, leb-true, ltb-true, eqb-true, or_cases, false≢true}
+use Rattle.std.proofs.lemmas.Bool.{and_parts, leb-true, ltb-true}
 use Rattle.std.proofs.lemmas.Option.{none-some}
 use Rattle.std.proofs.lemmas.List.{length-take-le, take-map}
 use Rattle.rv_gate.specs.declared.word.TheConstants.{MOST_LINES}
@@ -9,13 +9,12 @@ use Rattle.rv_links.specs.Nodes.{incidences}
 use Rattle.rv_templ.specs.Gates.{AreGates, Same}
 use Rattle.rv_gate.specs.Word.{has}
 use Rattle.rv_gate.specs.declared.gate.Shape.{Shape}
-use Rattle.rv_templ.specs.Images.{span, turned, new_line, image_of, image, fresh_care, fresh_want, zero_elsewhere, others, allowed}
+use Rattle.rv_templ.specs.Images.{span, turned, image_of, image, fresh_care, fresh_want, others, allowed}
 use Rattle.rv_templ.specs.Templates.{AreTemplates}
 use Rattle.rv_templ.specs.Choices.{renaming, template_in, at_turn, at_template, at_count, at_most, window_at, after, Found}
 use Rattle.rv_templ.specs.Windows.{IsWindow}
 use Rattle.rv_templ.specs.inside.Replaced.{Here, Improves, gates_for, want_found, care_found}
 use Rattle.rv_templ.proofs.inside.FoldLemmas.{first_some}
-use Rattle.rv_gate.proofs.AllBelow.{all_below-at}
 use Rattle.rv_templ.proofs.WindowLaws.{plain_at, allowed_parts, apart_from, window_is, turned_template, length-turned, span_turned, stands, replaces, shorter, replaced_same, within_at, span_from}
 use Rattle.rv_templ.proofs.GateLists.{AreGates-first, AreGates-last, AreGates-append}
 use Rattle.rv_templ.proofs.inside.Incidences.{incidences-append, incidences-reverse}

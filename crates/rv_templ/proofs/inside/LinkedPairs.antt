@@ -15,7 +15,7 @@ use Rattle.rv_templ.specs.inside.Mates.{Mate, IsPairSpot, mated}
 use Rattle.rv_templ.specs.inside.Notes.{node_of, coupled}
 use Rattle.rv_templ.proofs.JoinLaws.{joined_sound}
 use Rattle.rv_templ.proofs.GateLists.{AreGates-last}
-use Rattle.rv_templ.proofs.NodeLists.{apart, listed_at, gone_at, regated_at, gate_at_node, gate_split}
+use Rattle.rv_templ.proofs.NodeLists.{apart, listed_at, gone_at, regated_at, gate_split}
 
 -- the nodes of a pair
 abbrev pub row : List Node → Node → List Node → Node → List Node → List Node

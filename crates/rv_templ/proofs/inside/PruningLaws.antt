@@ -1,8 +1,8 @@
 -- Renamings that were begun, and can't come to an allowed window.
-use Rattle.std.proofs.Common.{◌≡◌, ◌≢◌, ℕ, suc, ◌+◌, ◌-◌, ◌<◌, ◌≤◌, Bool, true, false, ◌||◌, eqb, List, [], ◌∷◌, ◌++◌, length, take, set, sym, ◌∙◌, ap, inl, inr, arith, append_assoc}
+use Rattle.std.proofs.Common.{◌≡◌, ◌≢◌, ℕ, suc, ◌+◌, ◌-◌, ◌<◌, ◌≤◌, Bool, true, false, eqb, List, [], ◌∷◌, ◌++◌, length, take, set, sym, ◌∙◌, ap, arith, append_assoc}
 use Rattle.std.specs.Prelude.{Option, Some, None}
 use Rattle.std.proofs.lemmas.List.{get_or-take, get_or_append_left, get_or_at, length-take-le, take_all, take_more_set}
-use Rattle.std.proofs.lemmas.Bool.{false≢true, and_from, or_cases, cond-true, cond-false, eqb-true, false_from_ne_true}
+use Rattle.std.proofs.lemmas.Bool.{false≢true, and_from, cond-true, cond-false, false_from_ne_true}
 use Rattle.rv_gate.specs.declared.word.TheConstants.{MOST_LINES}
 use Rattle.rv_gate.proofs.LineSets.{has-or}
 use Rattle.rv_templ.specs.Gates.{gate_in}
@@ -15,7 +15,6 @@ use Rattle.rv_templ.specs.Images.{target_of, span, new_line, renamed, difference
 use Rattle.rv_templ.specs.inside.Pruning.{Dropped, same_role, alike}
 use Rattle.rv_templ.specs.Templates.{IsTemplate}
 use Rattle.rv_templ.proofs.inside.FoldLemmas.{least_dead, least_step, least_end}
-use Rattle.rv_gate.proofs.AllBelow.{all_below-at}
 use Rattle.rv_templ.proofs.ImageLaws.{Apart, Serves, renamed_has, renamed_at}
 use Rattle.rv_templ.proofs.WindowLaws.{plain_at, allowed_parts, apart_from, in_span, match_at, serve_at, without_parts}
 use Rattle.rv_gate.proofs.Bits.{same_from, or_off}
