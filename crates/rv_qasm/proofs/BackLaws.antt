@@ -2,7 +2,7 @@
 use Rattle.std.proofs.lemmas.Grind.{common_steps}
 use Rattle.std.proofs.Common.{◌≡◌, ◌≢◌, ℕ, suc, ◌+◌, ◌^◌, ◌<◌, ◌≤◌, Bool, true, false, ◌&&◌, ◌||◌, cond, SomeIff, bit_or, List, [], ◌∷◌, ◌++◌, length, take, get_or, set, option_to_list, Option, Some, None, refl, sym, ap, ◌∙◌, arith, append-nil, eqb, subst}
 use Rattle.std.proofs.lemmas.Bool.{ne_eqb, eqb-true}
-use Rattle.std.proofs.lemmas.List.{set-get_or, length-set, take_more}
+use Rattle.std.proofs.lemmas.List.{set-get_or, take_more}
 use Rattle.std.proofs.lemmas.List.Elements.{All-head, All-tail}
 use Rattle.std.proofs.lemmas.List.Sums.{prefix_len-le-length}
 use Rattle.std.proofs.lemmas.Grind.{flat_map-append}
@@ -12,7 +12,7 @@ use Rattle.rv_gate.specs.Word.{bit_of, has}
 use Rattle.rv_gate.specs.declared.gate.Shape.{Shape}
 use Rattle.rv_gate.specs.declared.gate.Shape.TheVariants as gate
 use Rattle.rv_gate.specs.declared.word.TheConstants.{MOST_LINES}
-use Rattle.rv_gate.proofs.inside.GateLemmas.{holds_none}
+use Rattle.rv_gate.proofs.inside.GateLemmas.{length-act, holds_none}
 use Rattle.rv_gate.proofs.InverseLemmas.{holds_one_line, holds_two_lines}
 use Rattle.rv_gate.proofs.LineSets.{has-line, has-lines, has-none}
 use Rattle.rv_net.specs.Amplitude.{amplitude, count_h}
@@ -53,93 +53,6 @@ acts_swap word a b = rw (holds_none word) refl
 acts_cswap : (word : List Bool) (c a b : ℕ) → c < length word → act (gate.Swap (2 ^ c) (2 ^ c) a b) word ≡ goes_to (Cswap c a b) word
 acts_cswap word c a b lc = ap (λ t. cond t (exchanged word a b) word) (holds_one_line c word lc) ∙ crossed word a b (bit_of word c)
 
--- ---- operations that move words denote their gates
-
--- an operation that is not classical is the first of them
-abbrev Classical : List Op → Type 0
-Classical ops = classical_length ops ≡ length ops
-
-amp_none : (n : ℕ) (rest : List Op) (x y image : List Bool) (op : Op)
-    → amplitude rest (goes_to op x) y ≡ cond (same_word (run (classical_gates rest) (goes_to op x)) y) unity nought
-    → image ≡ goes_to op x
-    → amplitude rest (goes_to op x) y ≡ cond (same_word (run (classical_gates rest) image) y) unity nought
-amp_none n rest x y image op e is = rw is e
-
-amp_classical : (n : ℕ) (ops : List Op) (x y : List Bool) → length x ≡ n → All (λ op. OpFitsIn op n) ops → Classical ops
-    → amplitude ops x y ≡ cond (same_word (run (classical_gates ops) x) y) unity nought
-unfolding amplitude times_w_power
-amp_classical n [] x y len fits all = refl
-amp_classical n (X a ∷ rest) x y len fits all =
-    amp_none n rest x y (act (gate.Flip 0 0 a) x) (X a)
-    (amp_classical n rest (goes_to (X a) x) y (length-set x a _ ∙ len) (All-tail (λ op. OpFitsIn op n) (X a) rest fits) (omega (arith, all)))
-    (acts_x x a)
-amp_classical n (Cx a b ∷ rest) x y len fits all =
-    let fit = All-head (λ op. OpFitsIn op n) (Cx a b) rest fits in
-    amp_none n rest x y (act (gate.Flip (2 ^ a) (2 ^ a) b) x) (Cx a b)
-    (amp_classical n rest (goes_to (Cx a b) x) y (length-set x b _ ∙ len) (All-tail (λ op. OpFitsIn op n) (Cx a b) rest fits) (omega (arith, all)))
-    (acts_cx x a b (omega (arith, fit.0, len)))
-amp_classical n (Ccx a b c ∷ rest) x y len fits all =
-    let fit = All-head (λ op. OpFitsIn op n) (Ccx a b c) rest fits in
-    amp_none n rest x y (act (gate.Flip (bit_or (2 ^ a) (2 ^ b)) (bit_or (2 ^ a) (2 ^ b)) c) x) (Ccx a b c)
-    (amp_classical n rest (goes_to (Ccx a b c) x) y (length-set x c _ ∙ len) (All-tail (λ op. OpFitsIn op n) (Ccx a b c) rest fits) (omega (arith, all)))
-    (acts_ccx x a b c (omega (arith, fit.0, len)) (omega (arith, fit.1, len)))
-amp_classical n (Swap a b ∷ rest) x y len fits all =
-    amp_none n rest x y (act (gate.Swap 0 0 a b) x) (Swap a b)
-    (amp_classical n rest (goes_to (Swap a b) x) y (length-set (set x a _) b _ ∙ length-set x a _ ∙ len) (All-tail (λ op. OpFitsIn op n) (Swap a b) rest fits) (omega (arith, all)))
-    (acts_swap x a b)
-amp_classical n (Cswap c a b ∷ rest) x y len fits all =
-    let fit = All-head (λ op. OpFitsIn op n) (Cswap c a b) rest fits in
-    amp_none n rest x y (act (gate.Swap (2 ^ c) (2 ^ c) a b) x) (Cswap c a b)
-    (amp_classical n rest (goes_to (Cswap c a b) x) y (length-set (set x a _) b _ ∙ length-set x a _ ∙ len) (All-tail (λ op. OpFitsIn op n) (Cswap c a b) rest fits) (omega (arith, all)))
-    (acts_cswap x c a b (omega (arith, fit.0, len)))
-amp_classical n (Y a ∷ rest) x y len fits all = absurd (omega (arith, all))
-amp_classical n (Z a ∷ rest) x y len fits all = absurd (omega (arith, all))
-amp_classical n (H a ∷ rest) x y len fits all = absurd (omega (arith, all))
-amp_classical n (S a ∷ rest) x y len fits all = absurd (omega (arith, all))
-amp_classical n (Sdg a ∷ rest) x y len fits all = absurd (omega (arith, all))
-amp_classical n (T a ∷ rest) x y len fits all = absurd (omega (arith, all))
-amp_classical n (Tdg a ∷ rest) x y len fits all = absurd (omega (arith, all))
-amp_classical n (Cz a b ∷ rest) x y len fits all = absurd (omega (arith, all))
-
-no_h : (ops : List Op) → Classical ops → count_h ops ≡ 0
-unfolding count_h
-no_h [] all = refl
-no_h (X a ∷ rest) all = no_h rest (omega (arith, all))
-no_h (Cx a b ∷ rest) all = no_h rest (omega (arith, all))
-no_h (Ccx a b c ∷ rest) all = no_h rest (omega (arith, all))
-no_h (Swap a b ∷ rest) all = no_h rest (omega (arith, all))
-no_h (Cswap c a b ∷ rest) all = no_h rest (omega (arith, all))
-no_h (Y a ∷ rest) all = absurd (omega (arith, all))
-no_h (Z a ∷ rest) all = absurd (omega (arith, all))
-no_h (H a ∷ rest) all = absurd (omega (arith, all))
-no_h (S a ∷ rest) all = absurd (omega (arith, all))
-no_h (Sdg a ∷ rest) all = absurd (omega (arith, all))
-no_h (T a ∷ rest) all = absurd (omega (arith, all))
-no_h (Tdg a ∷ rest) all = absurd (omega (arith, all))
-no_h (Cz a b ∷ rest) all = absurd (omega (arith, all))
-
-pub denotes_gates : (n : ℕ) (ops : List Op) → All (λ op. OpFitsIn op n) ops → Classical ops → Denotes n ops (run (classical_gates ops))
-unfolding Denotes power
-denotes_gates n ops fits all x y ex ey =
-    amp_classical n ops x y ex fits all
-    ∙ ap (λ k. cond (same_word (run (classical_gates ops) x) y) (power root2 k) nought) (sym (no_h ops all))
-
-pub one_gate_each : (ops : List Op) → Classical ops → length (classical_gates ops) ≡ length ops
-one_gate_each [] all = refl
-one_gate_each (X a ∷ rest) all = ap suc (one_gate_each rest (omega (arith, all)))
-one_gate_each (Cx a b ∷ rest) all = ap suc (one_gate_each rest (omega (arith, all)))
-one_gate_each (Ccx a b c ∷ rest) all = ap suc (one_gate_each rest (omega (arith, all)))
-one_gate_each (Swap a b ∷ rest) all = ap suc (one_gate_each rest (omega (arith, all)))
-one_gate_each (Cswap c a b ∷ rest) all = ap suc (one_gate_each rest (omega (arith, all)))
-one_gate_each (Y a ∷ rest) all = absurd (omega (arith, all))
-one_gate_each (Z a ∷ rest) all = absurd (omega (arith, all))
-one_gate_each (H a ∷ rest) all = absurd (omega (arith, all))
-one_gate_each (S a ∷ rest) all = absurd (omega (arith, all))
-one_gate_each (Sdg a ∷ rest) all = absurd (omega (arith, all))
-one_gate_each (T a ∷ rest) all = absurd (omega (arith, all))
-one_gate_each (Tdg a ∷ rest) all = absurd (omega (arith, all))
-one_gate_each (Cz a b ∷ rest) all = absurd (omega (arith, all))
-
 -- ---- its gate fits
 
 pub alone : (a b : ℕ) → a ≢ b → has (2 ^ a) b ≡ false
@@ -164,37 +77,101 @@ pub made : {A : Type 0} (o : Option A) (P : Type 0) (x : A) → SomeIff o P x �
 made None P x is holds = absurd (is holds)
 made (Some y) P x is holds = ap Some is.1
 
--- what makes its gate a gate
-pub is_gate : (op : Op) (n : ℕ) → n ≤ MOST_LINES → OpFitsIn op n → (g : Shape) → classical_gate op ≡ Some g → IsGate g
-is_gate (X a) n few fits g e = subst IsGate (some_same e) (omega arith, has-none a, λ line on. on)
-is_gate (Cx a b) n few fits g e = subst IsGate (some_same e) (omega (arith, fits.1), alone a b fits.2, λ line on. on)
-is_gate (Ccx a b c) n few fits g e = subst IsGate (some_same e) (omega (arith, fits.2), neither a b c fits.4 fits.5, λ line on. on)
-is_gate (Swap a b) n few fits g e = subst IsGate (some_same e) (omega (arith, fits.0), omega (arith, fits.1), fits.2, has-none a, has-none b, λ line on. on)
-is_gate (Cswap c a b) n few fits g e = subst IsGate (some_same e) (omega (arith, fits.1), omega (arith, fits.2), fits.5, alone c a fits.3, alone c b fits.4, λ line on. on)
-is_gate (Y a) n few fits g e = (cc e)
-is_gate (Z a) n few fits g e = (cc e)
-is_gate (H a) n few fits g e = (cc e)
-is_gate (S a) n few fits g e = (cc e)
-is_gate (Sdg a) n few fits g e = (cc e)
-is_gate (T a) n few fits g e = (cc e)
-is_gate (Tdg a) n few fits g e = (cc e)
-is_gate (Cz a b) n few fits g e = (cc e)
+-- ---- what the gate of an operation does for it
 
--- the gate of an operation touches its lines alone
-pub fits_too : (op : Op) (n : ℕ) → OpFitsIn op n → (g : Shape) → classical_gate op ≡ Some g → FitsIn g n
-fits_too (X a) n fits g e = subst (λ g. FitsIn g n) (some_same e) (λ line there. below_one line a n fits (rw has-none at there))
-fits_too (Cx a b) n fits g e = subst (λ g. FitsIn g n) (some_same e) (λ line there. below_two line a b n fits.0 fits.1 (rw has-line at there))
-fits_too (Ccx a b c) n fits g e = subst (λ g. FitsIn g n) (some_same e) (λ line there. below_three line a b c n fits.0 fits.1 fits.2 (rw has-lines at there))
-fits_too (Swap a b) n fits g e = subst (λ g. FitsIn g n) (some_same e) (λ line there. below_two line a b n fits.0 fits.1 (rw has-none at there))
-fits_too (Cswap c a b) n fits g e = subst (λ g. FitsIn g n) (some_same e) (λ line there. below_three line c a b n fits.0 fits.1 fits.2 (rw has-line at there))
-fits_too (Y a) n fits g e = (cc e)
-fits_too (Z a) n fits g e = (cc e)
-fits_too (H a) n fits g e = (cc e)
-fits_too (S a) n fits g e = (cc e)
-fits_too (Sdg a) n fits g e = (cc e)
-fits_too (T a) n fits g e = (cc e)
-fits_too (Tdg a) n fits g e = (cc e)
-fits_too (Cz a b) n fits g e = (cc e)
+pub record Moves (op : Op) (n : ℕ) (g : Shape) : Type 0 where
+  pub gate : n ≤ MOST_LINES → IsGate g
+  pub fits : FitsIn g n
+  pub acts : (x : List Bool) → length x ≡ n → act g x ≡ goes_to op x
+  pub amp : (rest : List Op) (x y : List Bool) → amplitude (op ∷ rest) x y ≡ amplitude rest (goes_to op x) y
+  pub no_h : (rest : List Op) → count_h (op ∷ rest) ≡ count_h rest
+
+pub moves : (op : Op) (n : ℕ) → OpFitsIn op n → (g : Shape) → classical_gate op ≡ Some g → Moves op n g
+unfolding amplitude times_w_power count_h
+moves (X a) n fits g e = subst (Moves (X a) n) (some_same e) (record {
+  gate = λ few. (omega (arith, few, fits), has-none a, λ line on. on);
+  fits = λ line there. below_one line a n fits (rw has-none at there);
+  acts = λ x len. acts_x x a;
+  amp = λ rest x y. refl;
+  no_h = λ rest. refl;
+})
+moves (Cx a b) n fits g e = subst (Moves (Cx a b) n) (some_same e) (record {
+  gate = λ few. (omega (arith, few, fits.1), alone a b fits.2, λ line on. on);
+  fits = λ line there. below_two line a b n fits.0 fits.1 (rw has-line at there);
+  acts = λ x len. acts_cx x a b (omega (arith, fits.0, len));
+  amp = λ rest x y. refl;
+  no_h = λ rest. refl;
+})
+moves (Ccx a b c) n fits g e = subst (Moves (Ccx a b c) n) (some_same e) (record {
+  gate = λ few. (omega (arith, few, fits.2), neither a b c fits.4 fits.5, λ line on. on);
+  fits = λ line there. below_three line a b c n fits.0 fits.1 fits.2 (rw has-lines at there);
+  acts = λ x len. acts_ccx x a b c (omega (arith, fits.0, len)) (omega (arith, fits.1, len));
+  amp = λ rest x y. refl;
+  no_h = λ rest. refl;
+})
+moves (Swap a b) n fits g e = subst (Moves (Swap a b) n) (some_same e) (record {
+  gate = λ few. (omega (arith, few, fits.0), omega (arith, few, fits.1), fits.2, has-none a, has-none b, λ line on. on);
+  fits = λ line there. below_two line a b n fits.0 fits.1 (rw has-none at there);
+  acts = λ x len. acts_swap x a b;
+  amp = λ rest x y. refl;
+  no_h = λ rest. refl;
+})
+moves (Cswap c a b) n fits g e = subst (Moves (Cswap c a b) n) (some_same e) (record {
+  gate = λ few. (omega (arith, few, fits.1), omega (arith, few, fits.2), fits.5, alone c a fits.3, alone c b fits.4, λ line on. on);
+  fits = λ line there. below_three line c a b n fits.0 fits.1 fits.2 (rw has-line at there);
+  acts = λ x len. acts_cswap x c a b (omega (arith, fits.0, len));
+  amp = λ rest x y. refl;
+  no_h = λ rest. refl;
+})
+moves (Y a) n fits g e = cc e
+moves (Z a) n fits g e = cc e
+moves (H a) n fits g e = cc e
+moves (S a) n fits g e = cc e
+moves (Sdg a) n fits g e = cc e
+moves (T a) n fits g e = cc e
+moves (Tdg a) n fits g e = cc e
+moves (Cz a b) n fits g e = cc e
+
+-- ---- operations that move words denote their gates
+
+-- an operation that is not classical is the first of them
+abbrev Classical : List Op → Type 0
+Classical ops = classical_length ops ≡ length ops
+
+first_is : (op : Op) (rest : List Op) → Classical (op ∷ rest) → (g : Shape) × (classical_gate op ≡ Some g) × Classical rest
+first_is op rest all = by (classical_gate op) refl
+  where
+    by : (o : Option Shape) → classical_gate op ≡ o → (g : Shape) × (classical_gate op ≡ Some g) × Classical rest
+    by (Some g) e = let more = rw e at all in (g, e, omega (arith, more))
+    by None e = let none = rw e at all in absurd (omega (arith, none))
+
+amp_classical : (n : ℕ) (ops : List Op) (x y : List Bool) → length x ≡ n → All (λ op. OpFitsIn op n) ops → Classical ops
+    → amplitude ops x y ≡ cond (same_word (run (classical_gates ops) x) y) unity nought
+unfolding amplitude times_w_power
+amp_classical n [] x y len fits all = refl
+amp_classical n (op ∷ rest) x y len fits all =
+    let s = first_is op rest all in
+    let m = moves op n (All-head (λ op. OpFitsIn op n) op rest fits) s.0 s.1 in
+    let long : length (goes_to op x) ≡ n = ap length (sym (m.acts x len)) ∙ length-act s.0 x ∙ len in
+    m.amp rest x y ∙ amp_classical n rest (goes_to op x) y long (All-tail (λ op. OpFitsIn op n) op rest fits) s.2
+    ∙ rw (s.1, m.acts x len) refl
+
+no_h : (n : ℕ) (ops : List Op) → All (λ op. OpFitsIn op n) ops → Classical ops → count_h ops ≡ 0
+unfolding count_h
+no_h n [] fits all = refl
+no_h n (op ∷ rest) fits all =
+    let s = first_is op rest all in
+    (moves op n (All-head (λ op. OpFitsIn op n) op rest fits) s.0 s.1).no_h rest ∙ no_h n rest (All-tail (λ op. OpFitsIn op n) op rest fits) s.2
+
+pub denotes_gates : (n : ℕ) (ops : List Op) → All (λ op. OpFitsIn op n) ops → Classical ops → Denotes n ops (run (classical_gates ops))
+unfolding Denotes power
+denotes_gates n ops fits all x y ex ey =
+    amp_classical n ops x y ex fits all
+    ∙ ap (λ k. cond (same_word (run (classical_gates ops) x) y) (power root2 k) nought) (sym (no_h n ops fits all))
+
+pub one_gate_each : (ops : List Op) → Classical ops → length (classical_gates ops) ≡ length ops
+one_gate_each [] all = refl
+one_gate_each (op ∷ rest) all = let s = first_is op rest all in rw s.1 (ap suc (one_gate_each rest s.2))
 
 -- ---- gate by gate
 

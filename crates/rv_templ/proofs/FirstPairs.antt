@@ -23,15 +23,10 @@ record IsPartner (g : Shape) (rest out : List Shape) : Type 0 where
   joins : paired g (get_or rest b no_gate) ≡ Some come
   is : out ≡ take b rest ++ (come ++ drop (suc b) rest)
 
-passes_more : (g h : Shape) (rest : List Shape) (b : ℕ) → rule g h ≡ true → ((k : ℕ) → k < b → rule g (get_or rest k no_gate) ≡ true) → (k : ℕ) → k < suc b
-    → rule g (get_or (h ∷ rest) k no_gate) ≡ true
-passes_more g h rest b here more zero lt = here
-passes_more g h rest b here more (suc k) lt = more k (omega (arith, lt))
-
-misses_more : (g h : Shape) (rest : List Shape) (b : ℕ) → paired g h ≡ None → ((k : ℕ) → k < b → paired g (get_or rest k no_gate) ≡ None) → (k : ℕ) → k < suc b
-    → paired g (get_or (h ∷ rest) k no_gate) ≡ None
-misses_more g h rest b here more zero lt = here
-misses_more g h rest b here more (suc k) lt = more k (omega (arith, lt))
+-- what holds of the gate at each place below b, and of one before them
+one_more : (P : Shape → Type 0) (h : Shape) (rest : List Shape) (b : ℕ) → P h → ((k : ℕ) → k < b → P (get_or rest k no_gate)) → (k : ℕ) → k < suc b → P (get_or (h ∷ rest) k no_gate)
+one_more P h rest b here more zero lt = here
+one_more P h rest b here more (suc k) lt = more k (omega (arith, lt))
 
 partner_is : (g : Shape) (rest out : List Shape) → partner g rest ≡ Some out → IsPartner g rest out
 unfolding partner
@@ -56,8 +51,8 @@ partner_is g (h ∷ rest) out e = by (paired g h) refl e (λ o is. partner_is g 
         let r = rec l.0 l.1 in record {
           b = suc r.b;
           within = let lt = r.within in omega (arith, lt);
-          passes = passes_more g h rest r.b c.0 r.passes;
-          misses = misses_more g h rest r.b misses r.misses;
+          passes = one_more (λ x. rule g x ≡ true) h rest r.b c.0 r.passes;
+          misses = one_more (λ x. paired g x ≡ None) h rest r.b misses r.misses;
           come = r.come;
           joins = r.joins;
           is = sym l.2 ∙ ap (λ more. h ∷ more) r.is;

@@ -1,28 +1,25 @@
 -- Nodes that stand after others.
 use Rattle.std.proofs.Common.{◌≡◌, ℕ, ◌<◌, true, false, ◌||◌, eqb, List, [], ◌∷◌, ◌++◌, refl, sym, subst, ◌∙◌, ap, inl, inr, arith, eq-eqb, ne_eqb, append_assoc}
-use Rattle.std.proofs.lemmas.Bool.{cases_eq, cases_order, cond-true, cond-false, false≢true, or_cases, or_parts, or_left, or_right, eqb-true}
+use Rattle.std.proofs.lemmas.Bool.{cases_eq, cond-true, cond-false, false≢true, or_cases, or_parts, or_left, or_right, eqb-true}
 use Rattle.std.specs.Prelude.{Option, Some, IfSome}
 use Rattle.rv_links.specs.Doubt.{IsBefore}
+use Rattle.std.proofs.lemmas.List.{append-nil}
 use Rattle.std.proofs.lemmas.Option.{none-some, same_Some}
 use Rattle.rv_gate.specs.declared.gate.Shape.{Shape}
 use Rattle.rv_links.specs.Order.{lists, head, next_in, NoTwice, Rising}
 use Rattle.rv_links.specs.Nodes.{Node, ids_in, live, node_gate, from_node, erased, regated, with_gates, window_set}
 
+pub listed_at : (before : List Node) (n : Node) (after : List Node) → lists n.id (ids_in (before ++ (n ∷ after))) ≡ true
+listed_at [] n after = or_left (eqb n.id n.id) _ (eq-eqb n.id n.id refl)
+listed_at (m ∷ before) n after = or_right (eqb n.id m.id) _ (listed_at before n after)
+
 pub apart : (before : List Node) (n : Node) (after : List Node) → NoTwice (ids_in (before ++ (n ∷ after))) → lists n.id (ids_in before) ≡ false
 apart [] n after d = refl
 apart (m ∷ before) n after d =
     elim (cases_eq n.id m.id) [
-      | inl e ↦ absurd (false≢true (sym d.0 ∙ ap (λ x. lists x (ids_in (before ++ (n ∷ after)))) (sym e) ∙ listed before n after))
+      | inl e ↦ absurd (false≢true (sym d.0 ∙ ap (λ x. lists x (ids_in (before ++ (n ∷ after)))) (sym e) ∙ listed_at before n after))
       | inr ne ↦ ap (λ b. b || lists n.id (ids_in before)) (ne_eqb n.id m.id ne) ∙ apart before n after d.1
     ]
-  where
-    listed : (before : List Node) (n : Node) (after : List Node) → lists n.id (ids_in (before ++ (n ∷ after))) ≡ true
-    listed [] n after = or_left (eqb n.id n.id) _ (eq-eqb n.id n.id refl)
-    listed (m ∷ before) n after = or_right (eqb n.id m.id) _ (listed before n after)
-
-pub listed_at : (before : List Node) (n : Node) (after : List Node) → lists n.id (ids_in (before ++ (n ∷ after))) ≡ true
-listed_at [] n after = or_left (eqb n.id n.id) _ (eq-eqb n.id n.id refl)
-listed_at (m ∷ before) n after = or_right (eqb n.id m.id) _ (listed_at before n after)
 
 pub next_at : (before : List Node) (n : Node) (after : List Node) → lists n.id (ids_in before) ≡ false → next_in n.id (ids_in (before ++ (n ∷ after))) ≡ head (ids_in after)
 unfolding next_in
@@ -111,19 +108,6 @@ is_after (m ∷ before) n after y r on lt =
       | inr l ↦ is_after before n after y r.1 l lt
     ]
 
--- one with a lesser number is before it
-pub is_before : (before : List Node) (n : Node) (after : List Node) (y : ℕ) → Rising (ids_in (before ++ (n ∷ after))) → live y (before ++ (n ∷ after)) ≡ true → y < n.id → live y before ≡ true
-is_before [] n after y r on lt =
-    elim (or_cases (eqb y n.id) (lists y (ids_in after)) on) [
-      | inl e ↦ let q = eqb-true y n.id e in absurd (omega (arith, q, lt))
-      | inr l ↦ let q = r.0 y l in absurd (omega (arith, q, lt))
-    ]
-is_before (m ∷ before) n after y r on lt =
-    elim (or_cases (eqb y m.id) (lists y (ids_in (before ++ (n ∷ after)))) on) [
-      | inl e ↦ or_left (eqb y m.id) _ e
-      | inr l ↦ or_right (eqb y m.id) _ (is_before before n after y r.1 l lt)
-    ]
-
 pub rising_last : (xs ys : List Node) → Rising (ids_in (xs ++ ys)) → Rising (ids_in ys)
 rising_last [] ys r = r
 rising_last (x ∷ xs) ys r = rising_last xs ys r.1
@@ -137,24 +121,26 @@ head_least (n ∷ rest) y r on b =
       | inr l ↦ let q = r.0 y l in omega (arith, q, b)
     ]
 
+-- the next node after a live one
+next_is : (nodes : List Node) (x : ℕ) (next : Option ℕ) (s : Stands nodes x) → NoTwice (ids_in nodes) → next ≡ next_in x (ids_in nodes) → next ≡ head (ids_in s.after)
+next_is nodes x next s d e =
+    e ∙ ap (λ i. next_in i (ids_in nodes)) (sym s.is) ∙ ap (λ l. next_in s.node.id (ids_in l)) s.split
+    ∙ next_at s.before s.node s.after (apart s.before s.node s.after (subst (λ (l : List Node). NoTwice (ids_in l)) s.split d))
+
 -- and none is between a node and the next one
 pub next_least : (nodes : List Node) (x : ℕ) (next : Option ℕ) → Rising (ids_in nodes) → NoTwice (ids_in nodes) → live x nodes ≡ true → next ≡ next_in x (ids_in nodes)
     → (y : ℕ) → live y nodes ≡ true → x < y → IsBefore y next → ⊥
 next_least nodes x next r d on e y there lt b =
     let s = stands nodes x on in
     let r2 : Rising (ids_in (s.before ++ (s.node ∷ s.after))) = subst (λ (l : List Node). Rising (ids_in l)) s.split r in
-    let d2 : NoTwice (ids_in (s.before ++ (s.node ∷ s.after))) = subst (λ (l : List Node). NoTwice (ids_in l)) s.split d in
-    let is : next ≡ head (ids_in s.after) = e ∙ ap (λ i. next_in i (ids_in nodes)) (sym s.is) ∙ ap (λ l. next_in s.node.id (ids_in l)) s.split ∙ next_at s.before s.node s.after (apart s.before s.node s.after d2) in
     head_least s.after y (rising_last (s.before ++ (s.node ∷ [])) s.after (subst (λ (l : List Node). Rising (ids_in l)) (sym (append_assoc s.before (s.node ∷ []) s.after)) r2))
-    (is_after s.before s.node s.after y r2 (ap (live y) (sym s.split) ∙ there) (omega (arith, lt, s.is))) (subst (λ (o : Option ℕ). IsBefore y o) is b)
+    (is_after s.before s.node s.after y r2 (ap (live y) (sym s.split) ∙ there) (omega (arith, lt, s.is))) (subst (λ (o : Option ℕ). IsBefore y o) (next_is nodes x next s d e) b)
 
 pub next_later : (nodes : List Node) (x : ℕ) (next : Option ℕ) → Rising (ids_in nodes) → NoTwice (ids_in nodes) → live x nodes ≡ true → next ≡ next_in x (ids_in nodes) → IfSome next (λ b. (live b nodes ≡ true) × (x < b))
 next_later nodes x next r d on e =
     let s = stands nodes x on in
     let r2 : Rising (ids_in (s.before ++ (s.node ∷ s.after))) = subst (λ (l : List Node). Rising (ids_in l)) s.split r in
-    let d2 : NoTwice (ids_in (s.before ++ (s.node ∷ s.after))) = subst (λ (l : List Node). NoTwice (ids_in l)) s.split d in
-    let is : next ≡ head (ids_in s.after) = e ∙ ap (λ i. next_in i (ids_in nodes)) (sym s.is) ∙ ap (λ l. next_in s.node.id (ids_in l)) s.split ∙ next_at s.before s.node s.after (apart s.before s.node s.after d2) in
-    subst (λ (o : Option ℕ). IfSome o (λ b. (live b nodes ≡ true) × (x < b))) (sym is) (later s.before s.node s.after nodes x s.split s.is r2)
+    subst (λ (o : Option ℕ). IfSome o (λ b. (live b nodes ≡ true) × (x < b))) (sym (next_is nodes x next s d e)) (later s.before s.node s.after nodes x s.split s.is r2)
   where
     later : (before : List Node) (n : Node) (after nodes : List Node) (x : ℕ) → nodes ≡ before ++ (n ∷ after) → n.id ≡ x → Rising (ids_in (before ++ (n ∷ after))) → IfSome (head (ids_in after)) (λ b. (live b nodes ≡ true) × (x < b))
     later before n [] nodes x s i r = tt
@@ -162,12 +148,6 @@ next_later nodes x next r d on e =
       ap (live m.id) (s ∙ sym (append_assoc before (n ∷ []) (m ∷ after))) ∙ listed_at (before ++ (n ∷ [])) m after,
       (let lt = later_than before n (m ∷ after) m.id r (listed_at [] m after) in omega (arith, lt, i)),
     )
-
--- what holds of the nodes before one, and of it, holds of those before the next
-pub walk_more : (P : ℕ → Type 0) (nodes : List Node) (here : ℕ) (next : Option ℕ) → ((x : ℕ) → live x nodes ≡ true → x < here → P x) → P here → ((x : ℕ) → live x nodes ≡ true → here < x → IsBefore x next → P x)
-    → (x : ℕ) → live x nodes ≡ true → IsBefore x next → P x
-walk_more P nodes here next before is gap x on b =
-    elim (cases_order x here) [ inl e ↦ subst P (sym e) is | inr o ↦ (elim o [ inl lt ↦ before x on lt | inr gt ↦ gap x on gt b ]) ]
 
 pub gate_split : (nodes before : List Node) (n : Node) (after : List Node) (x : ℕ) → NoTwice (ids_in nodes) → nodes ≡ before ++ (n ∷ after) → n.id ≡ x → node_gate x nodes ≡ n.gate
 gate_split nodes before n after x d s i =
@@ -196,3 +176,56 @@ each_of P nodes front (m ∷ rest) back e d all =
       subst (λ (g : Shape). P m.id g) is (all m.id (listed_at [] m rest) on),
       each_of P nodes (front ++ (m ∷ [])) rest back (e ∙ sym (append_assoc front (m ∷ []) (rest ++ back))) d (λ x l on2. all x (or_right (eqb x m.id) _ l) on2),
     )
+
+-- what holds of those after a node
+pub after_each : (P : ℕ → Shape → Type 0) (nodes : List Node) (a : ℕ) (s : Stands nodes a) → Rising (ids_in nodes) → NoTwice (ids_in nodes)
+    → ((x : ℕ) → live x nodes ≡ true → a < x → P x (node_gate x nodes)) → Each P s.after
+after_each P nodes a s r d all =
+    each_of P nodes (s.before ++ (s.node ∷ [])) s.after []
+    (s.split ∙ sym (append_assoc s.before (s.node ∷ []) s.after) ∙ ap (λ l. (s.before ++ (s.node ∷ [])) ++ l) (sym (append-nil s.after))) d
+    (λ x l on. all x on (let q = later_than s.before s.node s.after x (subst (λ (l : List Node). Rising (ids_in l)) s.split r) l in omega (arith, q, s.is)))
+
+-- two nodes, and those between
+pub record Between (nodes : List Node) (a b : ℕ) : Type 0 where
+  pub before : List Node
+  pub first : Node
+  pub between : List Node
+  pub second : Node
+  pub after : List Node
+  pub split : nodes ≡ before ++ (first ∷ (between ++ (second ∷ after)))
+  pub whole : nodes ≡ (before ++ (first ∷ between)) ++ (second ∷ after)
+  pub is_first : first.id ≡ a
+  pub is_second : second.id ≡ b
+  pub gate_first : node_gate a nodes ≡ first.gate
+  pub gate_second : node_gate b nodes ≡ second.gate
+
+pub between_of : (nodes : List Node) (a b : ℕ) → Rising (ids_in nodes) → NoTwice (ids_in nodes) → live a nodes ≡ true → live b nodes ≡ true → a < b → Between nodes a b
+between_of nodes a b r d on there lt =
+    let s = stands nodes a on in
+    let t = stands s.after b (is_after s.before s.node s.after b (subst (λ (l : List Node). Rising (ids_in l)) s.split r) (ap (live b) (sym s.split) ∙ there) (omega (arith, s.is, lt))) in
+    let split : nodes ≡ s.before ++ (s.node ∷ (t.before ++ (t.node ∷ t.after))) = s.split ∙ ap (λ l. s.before ++ (s.node ∷ l)) t.split in
+    let whole : nodes ≡ (s.before ++ (s.node ∷ t.before)) ++ (t.node ∷ t.after) = split ∙ sym (append_assoc s.before (s.node ∷ t.before) (t.node ∷ t.after)) in
+    record {
+      before = s.before;
+      first = s.node;
+      between = t.before;
+      second = t.node;
+      after = t.after;
+      split = split;
+      whole = whole;
+      is_first = s.is;
+      is_second = t.is;
+      gate_first = gate_split nodes s.before s.node _ a d split s.is;
+      gate_second = gate_split nodes (s.before ++ (s.node ∷ t.before)) t.node t.after b d whole t.is;
+    }
+
+pub between_each : (P : ℕ → Shape → Type 0) (nodes : List Node) (a b : ℕ) (k : Between nodes a b) → Rising (ids_in nodes) → NoTwice (ids_in nodes)
+    → ((x : ℕ) → live x nodes ≡ true → a < x → x < b → P x (node_gate x nodes)) → Each P k.between
+between_each P nodes a b k r d all =
+    let tail : List Node = k.second ∷ k.after in
+    let front : List Node = k.before ++ (k.first ∷ []) in
+    each_of P nodes front k.between tail (k.split ∙ sym (append_assoc k.before (k.first ∷ []) (k.between ++ tail))) d
+    (λ x l on.
+    let q = later_than k.before k.first (k.between ++ tail) x (subst (λ (l : List Node). Rising (ids_in l)) k.split r) (live_first x k.between tail l) in
+    let p = sooner_than (k.before ++ (k.first ∷ k.between)) k.second k.after x (subst (λ (l : List Node). Rising (ids_in l)) k.whole r) (live_last x k.before (k.first ∷ k.between) (or_right (eqb x k.first.id) _ l)) in
+    all x on (omega (arith, q, k.is_first)) (omega (arith, p, k.is_second)))

@@ -15,7 +15,7 @@ use Rattle.rv_templ.specs.Simplified.{window_step, step, after_steps, simplified
 use Rattle.rv_templ.proofs.PairSteps.{Better, step_better, put_before}
 use Rattle.rv_templ.proofs.SettledPairs.{settled_no_pair}
 use Rattle.rv_templ.proofs.MeaningLaws.{no_window}
-use Rattle.rv_templ.proofs.inside.KeepingLaws.{chosen, kept}
+use Rattle.rv_templ.proofs.inside.KeepingLaws.{here, kept}
 use Rattle.rv_templ.proofs.Options.{or_some, map_some, map_none, after_some, after_none}
 use Rattle.rv_gate.proofs.FirstAnswer.{or_none}
 
@@ -24,9 +24,9 @@ unfolding window_step
 window_better n library [] out are most k e = absurd (none-some out e)
 window_better n library (g ∷ rest) out are most k e =
     elim (or_some (option_map (after (g ∷ rest) library) (window_at (g ∷ rest) library)) (after_gates (g ∷ []) (window_step library rest)) out e) [
-      | inl here ↦
-          let f = map_some (after (g ∷ rest) library) (window_at (g ∷ rest) library) out here in
-          let q = kept n (g ∷ rest) library f.0 are most k (chosen (g ∷ rest) library f.0 f.1) in
+      | inl at ↦
+          let f = map_some (after (g ∷ rest) library) (window_at (g ∷ rest) library) out at in
+          let q = kept n (g ∷ rest) library f.0 k (here n library (g ∷ rest) f.0 are most k f.1) in
           subst (λ (l : List Shape). Better n (g ∷ rest) l) f.2 (record { words = q.same; fewer = q.fewer; good = q.good; no_more = q.no_more })
       | inr later ↦
           let l = after_some (g ∷ []) (window_step library rest) out later in

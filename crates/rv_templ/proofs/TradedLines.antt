@@ -1,9 +1,8 @@
 -- Two lines traded for each other: in sets, in renamings and in images.
-use Rattle.std.proofs.Common.{◌≡◌, ◌≢◌, ℕ, zero, suc, ◌+◌, ◌/◌, ◌%◌, ◌^◌, ◌<◌, ◌≤◌, Bool, true, false, cond, ◌||◌, eqb, List, [], ◌∷◌, refl, sym, ◌∙◌, ap, inl, inr, arith, eq-eqb, ne_eqb, subst}
+use Rattle.std.proofs.Common.{◌≡◌, ◌≢◌, ℕ, ◌+◌, ◌^◌, ◌<◌, ◌≤◌, Bool, true, false, cond, ◌||◌, eqb, List, [], ◌∷◌, refl, sym, ◌∙◌, ap, inl, inr, arith, eq-eqb, ne_eqb, subst}
 use Rattle.std.specs.Prelude.{bit_or, count_ones}
-use Rattle.std.proofs.lemmas.Bool.{cases_eq, cases_Bool, false≢true, or_left, or_right, cond-true, cond-false, eqb-true}
-use Rattle.std.proofs.lemmas.Nat.{ones_le_self}
-use Rattle.rv_gate.proofs.LineSets.{has-line, has-none, has-or, same_lines}
+use Rattle.std.proofs.lemmas.Bool.{cases_eq, cases_Bool, cond-true, cond-false}
+use Rattle.rv_gate.proofs.LineSets.{has-line, has-or, same_lines}
 use Rattle.rv_gate.proofs.inside.GateLemmas.{has-touched}
 use Rattle.rv_gate.specs.Word.{has}
 use Rattle.rv_gate.specs.Gate.{touches, controls, touched}
@@ -11,12 +10,11 @@ use Rattle.rv_gate.specs.declared.gate.Shape.{Shape}
 use Rattle.rv_links.specs.Nodes.{incidence, incidences}
 use Rattle.rv_templ.specs.Images.{target_of, new_line, renamed, image_of, image}
 use Rattle.rv_templ.specs.Pairs.{with_line}
-use Rattle.rv_templ.proofs.inside.Incidences.{incidences-cons, count_ones-within, one_line}
+use Rattle.rv_templ.proofs.inside.Incidences.{incidences-cons, ones_law, one_line}
 use Rattle.rv_templ.proofs.ImageLaws.{Part, Serves, Serve, renamed_has, renamed_from}
 use Rattle.rv_templ.proofs.JoinLaws.{with_line_here, with_line_other}
 use Rattle.rv_templ.proofs.inside.PruningLaws.{eqb_same}
-use Rattle.rv_gate.proofs.Bits.{same_bool}
-use Rattle.rv_gate.proofs.CountOnes.{ones_halves, odd, even, has_half}
+use Rattle.rv_gate.proofs.Bits.{same_bool, eqb_refl}
 
 -- the line that stands for a line after v and u were traded
 abbrev pub traded : ℕ → ℕ → ℕ → ℕ
@@ -69,39 +67,9 @@ renamed_traded own to to2 v u set x sub each =
 pub both_traded : (own : ℕ) (to to2 : List ℕ) (v u set care x : ℕ) → Part set own → ((j : ℕ) → j < 6 → has own j ≡ true → new_line to2 j ≡ traded v u (new_line to j))
     → has (bit_or (renamed to2 set) (traded_set v u care)) x ≡ has (bit_or (renamed to set) care) (traded v u x)
 both_traded own to to2 v u set care x sub each =
-    has-or (renamed to2 set) (traded_set v u care) x
-    ∙ ap (λ b. b || has (traded_set v u care) x) (renamed_traded own to to2 v u set x sub each)
-    ∙ ap (λ b. has (renamed to set) (traded v u x) || b) (has-traded v u care x)
-    ∙ sym (has-or (renamed to set) care (traded v u x))
+    rw (has-or (renamed to2 set) (traded_set v u care) x, renamed_traded own to to2 v u set x sub each, has-traded v u care x) (sym (has-or (renamed to set) care (traded v u x)))
 
 -- ---- how many lines
-
--- two sets without a common line, within a third
-ones_apart : (k p q r : ℕ) → p ≤ k → ((i : ℕ) → has q i ≡ true → has p i ≡ true) → ((i : ℕ) → has r i ≡ true → has p i ≡ true) → ((i : ℕ) → has q i ≡ true → has r i ≡ false)
-    → count_ones q + count_ones r ≤ count_ones p
-ones_apart zero p q r le hq hr off =
-    let z : p ≡ 0 = omega arith in
-    let none : (s : ℕ) → ((i : ℕ) → has s i ≡ true → has p i ≡ true) → s ≡ 0 = λ s h.
-    same_lines s 0 (λ i. same_bool _ _ (λ e. ap (λ n. has n i) (sym z) ∙ h i e) (λ e. absurd (false≢true (sym (has-none i) ∙ e)))) in
-    let eq = ap count_ones (none q hq) in
-    let er = ap count_ones (none r hr) in
-    let ep = ap count_ones z in
-    omega (arith, eq, er, ep, ones_le_self 0)
-ones_apart (suc k) p q r le hq hr off =
-    let rest = ones_apart k (p / 2) (q / 2) (r / 2) (omega arith)
-    (λ i e. has_half p i ∙ hq (suc i) (sym (has_half q i) ∙ e))
-    (λ i e. has_half p i ∙ hr (suc i) (sym (has_half r i) ∙ e))
-    (λ i e. has_half r i ∙ off (suc i) (sym (has_half q i) ∙ e)) in
-    let low : q % 2 + r % 2 ≤ p % 2 =
-    elim (cases_Bool (has q 0)) [
-      | inl on ↦ let a = odd p (hq 0 on) in let b = even r (off 0 on) in omega arith
-      | inr none ↦ let a = even q none in
-          (elim (cases_Bool (has r 0)) [
-            | inl on ↦ let b = odd p (hr 0 on) in omega arith
-            | inr gone ↦ let b = even r gone in omega arith
-          ])
-    ] in
-    omega (arith, rest, low, ones_halves p, ones_halves q, ones_halves r)
 
 -- as many after the trade
 count_traded : (p q v u : ℕ) → ((x : ℕ) → has q x ≡ has p (traded v u x)) → count_ones q ≤ count_ones p
@@ -129,28 +97,10 @@ count_traded p q v u at =
     -- v is a line of p, and u comes in its place
     moved : (v u : ℕ) → u ≢ v → has p v ≡ true → has p u ≡ false → ((x : ℕ) → has q x ≡ has p (traded v u x)) → count_ones q ≤ count_ones p
     moved v u ne on off at =
-        let rest : ℕ = with_line p v false in
-        let in_p : (x : ℕ) → has rest x ≡ true → has p x ≡ true = λ x e.
-        elim (cases_eq x v) [
-          | inl s ↦ absurd (false≢true (sym (with_line_here p v false) ∙ ap (has rest) (sym s) ∙ e))
-          | inr a ↦ sym (with_line_other p v false x a) ∙ e
-        ] in
-        let big : count_ones rest + count_ones (2 ^ v) ≤ count_ones p =
-        ones_apart p p rest (2 ^ v) (omega arith) in_p (λ x e. ap (has p) (eqb-true x v (sym (has-line v x) ∙ e)) ∙ on)
-        (λ x e. elim (cases_Bool (has (2 ^ v) x)) [
-          | inl there ↦ absurd (false≢true (sym (with_line_here p v false) ∙ ap (has rest) (sym (eqb-true x v (sym (has-line v x) ∙ there))) ∙ e))
-          | inr gone ↦ gone
-        ]) in
-        let small : count_ones q ≤ count_ones rest + count_ones (2 ^ u) =
-        count_ones-within q rest (2 ^ u) (λ x e.
-        elim (cases_eq x u) [
-          | inl s ↦ or_right (has rest x) _ (has-line u x ∙ eq-eqb x u s)
-          | inr b ↦ (elim (cases_eq x v) [
-            | inl s ↦ absurd (false≢true (sym off ∙ ap (has p) (sym (traded_left v u) ∙ ap (traded v u) (sym s)) ∙ sym (at x) ∙ e))
-            | inr a ↦ or_left (has rest x) _ (with_line_other p v false x a ∙ ap (has p) (sym (traded_other v u x a b)) ∙ sym (at x) ∙ e)
-          ])
-        ]) in
-        omega (arith, big, small, one_line v, one_line u)
+        let le = ones_law (q + 2 ^ v) q (2 ^ v) p (2 ^ u) (omega arith) (omega arith) (λ i. rw (at i, has-line v i, has-line u i)
+        (traded_law (λ x y. cond (has p y) 1 0 + cond (eqb x v) 1 0 ≤ cond (has p x) 1 0 + cond (eqb x u) 1 0) v u i
+        (rw (off, on, eqb_refl v) (omega arith)) (rw (on, off, ne_eqb u v ne, eqb_refl u) (omega arith)) (λ y a b. rw (ne_eqb y v a, ne_eqb y u b) (omega arith)))) in
+        omega (arith, le, one_line v, one_line u)
 
 -- ---- images
 

@@ -1,5 +1,5 @@
 -- Windows of images: replacing one keeps what a list does.
-use Rattle.std.proofs.Common.{◌≡◌, ℕ, zero, suc, ◌+◌, ◌-◌, ◌*◌, ◌<◌, ◌≤◌, Bool, true, false, not, ◌&&◌, eqb, List, [], ◌∷◌, ◌++◌, length, take, drop, reverse, refl, sym, ◌∙◌, ap, inl, inr, arith, subst, take-append-drop, eq-eqb, length-append, length-drop, ext_get_or}
+use Rattle.std.proofs.Common.{◌≡◌, ℕ, zero, suc, ◌+◌, ◌-◌, ◌*◌, ◌<◌, ◌≤◌, Bool, true, false, not, ◌&&◌, ◌||◌, eqb, List, [], ◌∷◌, ◌++◌, length, take, drop, reverse, refl, sym, ◌∙◌, ap, inl, inr, arith, subst, take-append-drop, eq-eqb, length-append, length-drop, ext_get_or}
 use Rattle.std.specs.Prelude.{◌⊎◌, bit_or, leb}
 use Rattle.std.proofs.lemmas.List.{get_or_append_left, get_or-append-add, get_or-append_right, reverse-append, get_or-map, get_or-take, length-map, length-take-le, length-reverse, get_or-drop}
 use Rattle.std.proofs.lemmas.Bool.{cases_lt, cases_eq, false≢true, and_parts, and_from, or_cases, or_left, or_right, eqb-true, not-true, not_from_true, false_from_ne_true}
@@ -232,6 +232,14 @@ allowed_parts window template to e =
     let two = and_parts (zero_elsewhere own to && distinct own to) _ three.0 in
     let one = and_parts (zero_elsewhere own to) _ two.0 in
     record { zero_elsewhere = one.0; distinct = one.1; fits_window = two.1; within = three.1; fewer = four.1 }
+
+pub plain_at : (own : ℕ) (to : List ℕ) (i : ℕ) → zero_elsewhere own to ≡ true → i < 6 → has own i ≡ false → new_line to i ≡ 0
+unfolding zero_elsewhere
+plain_at own to i e h off =
+    elim (or_cases (has own i) (eqb (new_line to i) 0) (all_below-at (λ k. has own k || eqb (new_line to k) 0) 6 i e h)) [
+      | inl on ↦ absurd (false≢true (sym off ∙ on))
+      | inr z ↦ eqb-true _ 0 z
+    ]
 
 clash_off : (x y : Bool) (a b : ℕ) → x ≡ true → y ≡ true → a ≡ b → not (x && y && eqb a b) ≡ true → ⊥
 clash_off x y a b hx hy e n = false≢true (sym (not_from_true (x && y && eqb a b) (and_from (x && y) (eqb a b) (and_from x y hx hy) (eq-eqb a b e))) ∙ n)

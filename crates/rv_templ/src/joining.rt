@@ -1,5 +1,5 @@
 //! What two gates come to that stand side by side.
-ghost use Rattle.std.specs.Prelude.{◌≡◌, ℕ, ◌^◌, ◌<◌, ◌≤◌, IfSome, not, ◌&&◌, ◌||◌, ◌==◌};
+ghost use Rattle.std.specs.Prelude.{◌≡◌, ℕ, ◌^◌, ◌<◌, ◌≤◌, List, IsTrue, IsFalse, Some, None, IfSome, not, ◌&&◌, ◌||◌, ◌==◌};
 ghost use Rattle.rv_gate.specs.declared.word.TheConstants.{MOST_LINES};
 ghost use Rattle.rv_gate.specs.Word.{has};
 ghost use Rattle.rv_gate.specs.Gate.{IsGate, xor};
@@ -158,5 +158,17 @@ fn join_flips(care: LineSet, want: LineSet, care2: LineSet, want2: LineSet, targ
                 None => unreachable!(),
             }
         }
+    }
+}
+
+/// Whether the gates are a pair where they stand side by side.
+pub fn joins(g: Gate, h: Gate) -> bool
+    ensures some { IsTrue result → (m : List Shape) × (paired g h ≡ Some m) }
+    ensures none { IsFalse result → paired g h ≡ None }
+{
+    match join(g, h) {
+        Joined::Apart => false,
+        Joined::Both => true,
+        Joined::One(_) => true,
     }
 }

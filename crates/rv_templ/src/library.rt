@@ -3,6 +3,7 @@ ghost use Rattle.std.specs.Prelude.{option_map, IfSome, IfOk, OnOk, OnErr};
 ghost use Rattle.rv_templ.specs.declared.image.TheConstants.{TEMPLATE_GATES, TEMPLATE_LINES};
 ghost use Rattle.rv_gate.specs.Gate.{is_flip, run_on_number};
 ghost use Rattle.rv_templ.specs.BuiltIn.{built_in};
+ghost use Rattle.rv_templ.specs.Choices.{template_in};
 ghost use Rattle.rv_templ.specs.Templates.{IsTemplate, AreTemplates, first_other, first_changed, template_fault};
 ghost use Rattle.rv_templ.specs.inside.Library.{templates_in};
 
@@ -78,6 +79,15 @@ impl Library {
     {
         &self.templates
     }
+}
+
+/// The template at a place.
+pub(crate) fn template_of(templates: &[Vec<Gate>], t: usize) -> &[Gate]
+    requires { t < length templates.now }
+    ensures value { result.now ≡ template_in (templates_in templates.now) t }
+    ensures template { AreTemplates (templates_in templates.now) → IsTemplate result.now }
+{
+    templates[t].as_slice()
 }
 
 // Puts a copy of these gates after the templates.

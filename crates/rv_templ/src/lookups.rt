@@ -9,7 +9,7 @@ ghost use Rattle.rv_links.specs.Nodes.{live, node_gate};
 ghost use Rattle.rv_links.specs.Seeking.{Reaches, Found};
 ghost use Rattle.rv_templ.specs.inside.Lookups.{Partner, Seen, SeenOn, SeenAll};
 
-use crate::joining::{Joined, join};
+use crate::joining::joins;
 use rv_gate::{Gate, LineSet, MOST_LINES, Shape, has};
 use rv_links::{Linked, NodeId, Sought};
 
@@ -90,10 +90,9 @@ pub fn look_up(linked: &Linked, node: NodeId, gate: Gate) -> Sought
     match best {
         Sought::Unknown => best,
         Sought::Nowhere => best,
-        Sought::At(other) => match join(gate, linked.gate(other)) {
-            Joined::Both => best,
-            Joined::One(_) => best,
-            Joined::Apart => Sought::Unknown,
-        },
+        Sought::At(other) => {
+            let joins = joins(gate, linked.gate(other));
+            if joins { best } else { Sought::Unknown }
+        }
     }
 }

@@ -9,19 +9,19 @@ ghost use Rattle.rv_gate.specs.declared.gate.Shape.{Shape};
 ghost use Rattle.rv_gate.specs.Gate.{FitsIn};
 ghost use Rattle.rv_gate.specs.Commuting.{rule};
 ghost use Rattle.rv_links.specs.Order.{next_in};
-ghost use Rattle.rv_links.specs.Nodes.{Node, live, node_gate, noted, ids_in};
+ghost use Rattle.rv_links.specs.Nodes.{Node, live, node_gate, noted, ids_in, gates_in};
 ghost use Rattle.rv_links.specs.inside.Chains.{nodes_from};
 ghost use Rattle.rv_templ.specs.Pairs.{paired};
 ghost use Rattle.rv_templ.specs.inside.Joins.{option_of};
 ghost use Rattle.rv_templ.specs.inside.Linking.{IsCursor};
 ghost use Rattle.rv_templ.specs.inside.Lookups.{LooseAll};
-ghost use Rattle.rv_templ.specs.inside.Mates.{NoMate, Joinless, IsStop, IsPairSpot};
+ghost use Rattle.rv_templ.specs.inside.Mates.{Mate, NoMate, Joinless, IsStop, IsPairSpot, passes};
 ghost use Rattle.rv_templ.specs.inside.Notes.{Quiet, Noted, AllNoted, NoneNoted, Fewer, Others, Apart, Kept, coupled};
 
 use crate::along::{Cursor, back, front, gate_count, node_at};
-use crate::joining::{Joined, join};
+use crate::joining::{Joined, joins};
 use crate::loosening::loosen_joined;
-use crate::pairs::Pair;
+use crate::pairs::{Pair, joined};
 use crate::stops::commutes_before;
 use rv_gate::{Gate, MOST_GATES};
 use rv_links::{Linked, NodeId};
@@ -112,11 +112,7 @@ fn is_apart(gate: Gate, made: &Joined) -> bool
     match *made {
         Joined::Apart => false,
         Joined::Both => true,
-        Joined::One(new) => match join(gate, new) {
-            Joined::Both => false,
-            Joined::One(_) => false,
-            Joined::Apart => true,
-        },
+        Joined::One(new) => !joins(gate, new),
     }
 }
 
@@ -194,17 +190,12 @@ fn forget_if_joined(linked: &mut Linked, node: NodeId, new: Gate) -> bool
     if linked.note(node) == 0 {
         return false;
     }
-    match join(linked.gate(node), new) {
-        Joined::Apart => false,
-        Joined::Both => {
-            linked.set_note(node, 0);
-            true
-        }
-        Joined::One(_) => {
-            linked.set_note(node, 0);
-            true
-        }
+    let joins = joins(linked.gate(node), new);
+    if !joins {
+        return false;
     }
+    linked.set_note(node, 0);
+    true
 }
 
 // Forgets the notes of nodes before `b` that make a pair with the gate. Tells whether a note went.
@@ -266,18 +257,19 @@ fn forget_made(linked: &mut Linked, b: NodeId, made: &Joined) -> bool
     }
 }
 
-// Whether both gates commute with every gate before a node.
-fn are_free(linked: &Linked, first: Gate, second: Gate, b: NodeId) -> bool
-    requires { IsTrue (live b linked.now.nodes) }
-    ensures first { IsTrue result → (id : ℕ) → IsTrue (live id linked.now.nodes) → id < b
-        → rule first (node_gate id linked.now.nodes) ≡ true }
-    ensures second { IsTrue result → (id : ℕ) → IsTrue (live id linked.now.nodes) → id < b
-        → rule second (node_gate id linked.now.nodes) ≡ true }
+// Whether both gates of a pair commute with every gate before the second one.
+fn are_free(linked: &Linked, a: NodeId, b: NodeId) -> bool
+    requires { Mate linked.now.nodes a b }
+    ensures first { IsTrue result → (m : Mate linked.now.nodes a b)
+        → IsTrue (passes m.first.gate (gates_in (m.before ++ (m.first ∷ m.between)))) }
+    ensures second { IsTrue result → (m : Mate linked.now.nodes a b)
+        → IsTrue (passes m.second.gate (gates_in (m.before ++ (m.first ∷ m.between)))) }
 {
-    if !commutes_before(linked, first, b) {
+    linked.recall_invariant();
+    if !commutes_before(linked, linked.gate(a), b) {
         return false;
     }
-    commutes_before(linked, second, b)
+    commutes_before(linked, linked.gate(b), b)
 }
 
 /// Forgets what may be wrong after the pair is made, where `here` is its place and all gates before it have a note.
@@ -298,11 +290,9 @@ pub fn forget_pair(linked: &mut Linked, pair: &Pair, here: Cursor, far: usize) -
 {
     linked.recall_invariant();
     let (a, b) = (pair.a, pair.b);
-    let first = linked.gate(a);
-    let second = linked.gate(b);
-    let made = join(first, second);
+    let made = joined(linked, a, b);
+    let free = are_free(linked, a, b);
     linked.set_note(b, 0);
-    let free = are_free(linked, first, second, b);
     if free {
         let gone = forget_made(linked, b, &made);
         return if gone { front() } else { here };

@@ -5,12 +5,14 @@ ghost use Rattle.rv_links.specs.Order.{next_in};
 ghost use Rattle.rv_links.specs.Nodes.{live, node_gate, noted, ids_in, gates_in};
 ghost use Rattle.rv_links.specs.inside.Chains.{nodes_from};
 ghost use Rattle.rv_templ.specs.inside.Notes.{Noted, AllNoted, Others, coupled};
+ghost use Rattle.rv_templ.specs.Gates.{AreGates};
+ghost use Rattle.rv_templ.specs.inside.Joins.{option_of};
 ghost use Rattle.rv_templ.specs.inside.Linking.{IsCursor};
 ghost use Rattle.rv_templ.specs.Pairs.{pair_step};
 ghost use Rattle.rv_templ.specs.inside.Mates.{Mate, NoMate, Candidate, IsStop, IsPairSpot};
 
 use crate::along::{Cursor, node_at};
-use crate::joining::{Joined, join};
+use crate::joining::{Joined, join, joins};
 use crate::lookups::look_up;
 use crate::notes::note_quiet;
 use crate::stops::stop_of;
@@ -57,10 +59,9 @@ fn partner_along(linked: &Linked, node: NodeId, stop: Option<u32>) -> Option<Nod
     let gate = linked.gate(node);
     let mut at = linked.next(node);
     while let Some(other) = at {
-        match join(gate, linked.gate(other)) {
-            Joined::Both => return Some(other),
-            Joined::One(_) => return Some(other),
-            Joined::Apart => {}
+        let joins = joins(gate, linked.gate(other));
+        if joins {
+            return Some(other);
         }
         let last = is_stop(stop, linked.number(other));
         if last {
@@ -119,6 +120,16 @@ fn partner_of(linked: &Linked, node: NodeId, stop: Option<u32>) -> Option<NodeId
     }
 }
 
+/// What the gates of a pair come to.
+pub fn joined(linked: &Linked, a: NodeId, b: NodeId) -> Joined
+    requires { Mate linked.now.nodes a b }
+    ensures value { (m : Mate linked.now.nodes a b) → option_of result ≡ Some m.gates }
+    ensures good { (m : Mate linked.now.nodes a b) → AreGates (length linked.now.frame.names) m.gates }
+{
+    linked.recall_invariant();
+    join(linked.gate(a), linked.gate(b))
+}
+
 /// Makes the pair of two nodes.
 pub fn make_pair(linked: &mut Linked, a: NodeId, b: NodeId)
     requires { Mate linked.old.nodes a b }
@@ -127,9 +138,7 @@ pub fn make_pair(linked: &mut Linked, a: NodeId, b: NodeId)
     ensures notes { linked.new.notes ≡ linked.old.notes }
 {
     linked.recall_invariant();
-    let first = linked.gate(a);
-    let second = linked.gate(b);
-    match join(first, second) {
+    match joined(linked, a, b) {
         Joined::Both => {
             linked.erase(a);
             linked.erase(b);

@@ -14,9 +14,10 @@ ghost use Rattle.rv_templ.specs.Templates.{IsTemplate, AreTemplates};
 ghost use Rattle.rv_templ.specs.inside.Library.{templates_in};
 ghost use Rattle.rv_templ.specs.Windows.{IsWindow, NoWindow};
 ghost use Rattle.rv_templ.specs.inside.Replaced.{Improves, want_found, care_found};
-ghost use Rattle.rv_templ.specs.Choices.{at_template, at_count, window_at, after};
+ghost use Rattle.rv_templ.specs.Choices.{renaming, at_template, at_count, window_at, after};
 
 use crate::image::{Renaming, TEMPLATE_LINES, span, target_of, turned_gate};
+use crate::library::template_of;
 use crate::matching::allowed;
 use crate::varied::{varied, varied_turned};
 use rv_gate::{Gate, LineSet, MOST_LINES, has};
@@ -244,6 +245,31 @@ impl Found {
     }
 }
 
+// The least renaming by which the window is one of the template that was turned by `r`.
+fn renaming(
+    window: &[Gate],
+    template: &[Gate],
+    r: usize,
+    own: LineSet,
+    touched: LineSet,
+    vary: LineSet,
+) -> Option<Renaming>
+    requires template { IsTemplate template.now }
+    requires turn { r < length template.now }
+    requires some { 0 < length window.now }
+    requires room { length window.now ≤ length template.now }
+    requires own { own ≡ span template.now }
+    requires touched { touched ≡ span window.now }
+    requires vary { vary ≡ varied window.now (length window.now) }
+    ensures { result ≡ renaming window.now (turned r template.now) }
+{
+    let may = may_match(window, template, r, vary);
+    if !may {
+        return None;
+    }
+    explore(window, template, r, own, touched, [0; TEMPLATE_LINES], 0)
+}
+
 // The window of a template with the least turn and renaming. A template that touches fewer lines than vary in the
 // window is passed over at once.
 fn at_template(window: &[Gate], templates: &[Vec<Gate>], t: usize, vary: LineSet) -> Option<Found>
@@ -254,7 +280,7 @@ fn at_template(window: &[Gate], templates: &[Vec<Gate>], t: usize, vary: LineSet
     requires vary { vary ≡ varied window.now (length window.now) }
     ensures { result ≡ at_template window.now (templates_in templates.now) t }
 {
-    let template = templates[t].as_slice();
+    let template = template_of(templates, t);
     let count = window.len();
     if template.len() < count {
         return None;
@@ -268,24 +294,13 @@ fn at_template(window: &[Gate], templates: &[Vec<Gate>], t: usize, vary: LineSet
     }
     let touched = span(window);
     for r in 0..template.len() {
-        let may = may_match(window, template, r, vary);
-        if may {
-            if let Some(lines) = explore(
-                window,
-                template,
-                r,
-                own,
-                touched,
-                [0; TEMPLATE_LINES],
-                0,
-            ) {
-                return Some(Found {
-                    count,
-                    template: t,
-                    turn: r,
-                    lines,
-                });
-            }
+        if let Some(lines) = renaming(window, template, r, own, touched, vary) {
+            return Some(Found {
+                count,
+                template: t,
+                turn: r,
+                lines,
+            });
         }
     }
     None

@@ -4,6 +4,7 @@ ghost use Rattle.rv_templ.specs.inside.Library.{templates_in};
 ghost use Rattle.rv_templ.specs.inside.Sizes.{AreSizes};
 
 use crate::image::{TEMPLATE_GATES, span};
+use crate::library::template_of;
 use rv_gate::Gate;
 
 /// How many gates templates have and how many lines they touch.
@@ -26,7 +27,7 @@ pub fn sizes_of(templates: &[Vec<Gate>]) -> Sizes
     let mut least = TEMPLATE_GATES;
     let mut wide = 0;
     for t in 0..templates.len() {
-        let template = templates[t].as_slice();
+        let template = template_of(templates, t);
         let len = template.len();
         most = len.max(most);
         least = len.min(least);

@@ -70,7 +70,7 @@ pub fn commutes_before(linked: &Linked, gate: Gate, b: NodeId) -> bool
         if !free {
             return false;
         }
-        at = linked.next_in_doubt(gate, node);
+        at = next_to_ask(linked, gate, node, MOST_ASKED);
     }
     true
 }

@@ -3,7 +3,7 @@ ghost use Rattle.std.specs.Prelude.{◌≡◌, ℕ, ◌+◌, ◌-◌, ◌*◌, �
 ghost use Rattle.std.specs.Prelude.{IsTrue, IsFalse, Some, None, IfSome, MatchOption, count_ones};
 ghost use Rattle.rv_templ.specs.declared.image.TheConstants.{TEMPLATE_GATES, TEMPLATE_LINES};
 ghost use Rattle.rv_gate.specs.declared.word.TheConstants.{MOST_LINES};
-ghost use Rattle.rv_links.specs.Nodes.{live, gates_in};
+ghost use Rattle.rv_links.specs.Nodes.{live, gates_in, window_set};
 ghost use Rattle.rv_templ.specs.Images.{turned, new_line, replacement};
 ghost use Rattle.rv_templ.specs.Templates.{AreTemplates};
 ghost use Rattle.rv_templ.specs.inside.Library.{templates_in};
@@ -14,10 +14,11 @@ ghost use Rattle.rv_templ.specs.inside.Pruning.{varied};
 ghost use Rattle.rv_templ.specs.inside.Sizes.{AreSizes};
 ghost use Rattle.rv_templ.specs.inside.Linking.{coming, IsCursor};
 ghost use Rattle.rv_templ.specs.inside.Notes.{Noted, NoneNoted};
-ghost use Rattle.rv_templ.specs.inside.Replaced.{Replaced};
+ghost use Rattle.rv_templ.specs.inside.Replaced.{Replaced, Here, gates_for};
 
 use crate::along::{Cursor, node_at};
 use crate::image::TEMPLATE_GATES;
+use crate::library::template_of;
 use crate::replacement::fill;
 use crate::search::{Found, find_window};
 use crate::sizes::Sizes;
@@ -140,8 +141,52 @@ fn fill_found(window: &[Gate], templates: &[Vec<Gate>], found: Found, room: &mut
         ≡ replacement window.now (turned found.turn (template_in (templates_in templates.now) found.template))
         found.lines }
 {
-    let template = templates[found.template].as_slice();
+    let template = template_of(templates, found.template);
     fill(window, template, found.turn, found.lines, room)
+}
+
+// What is known of a window that is to be replaced.
+fn recall_spot(linked: &Linked, spot: &Spot, templates: &[Vec<Gate>])
+    requires templates { AreTemplates (templates_in templates.now) }
+    requires spot { IsSpot (templates_in templates.now) linked.now.nodes spot.now.place spot.now.node spot.now.found }
+    ensures { Here (length linked.now.frame.names) (templates_in templates.now)
+        (coming (Some spot.now.node) linked.now.nodes) spot.now.found }
+{
+    linked.recall_invariant();
+}
+
+// Writes the gates that come in the place of a window, and answers how many they are.
+fn write_new(linked: &Linked, spot: &Spot, templates: &[Vec<Gate>], new: &mut [Gate]) -> usize
+    requires templates { AreTemplates (templates_in templates.now) }
+    requires spot { IsSpot (templates_in templates.now) linked.now.nodes spot.now.place spot.now.node spot.now.found }
+    requires full { TEMPLATE_GATES ≤ length new.old }
+    ensures count { result
+        ≡ length (gates_for (coming (Some spot.now.node) linked.now.nodes) (templates_in templates.now) spot.now.found) }
+    ensures gates { take result new.new
+        ≡ gates_for (coming (Some spot.now.node) linked.now.nodes) (templates_in templates.now) spot.now.found }
+{
+    recall_spot(linked, spot, templates);
+    let mut room = [linked.gate(spot.node); TEMPLATE_GATES];
+    let n = copy_from(linked, spot.node, &mut room, spot.found.len());
+    fill_found(&room[..n], templates, spot.found, new)
+}
+
+// Sets the gates of a window.
+fn set_window(linked: &mut Linked, spot: &Spot, templates: &[Vec<Gate>])
+    requires templates { AreTemplates (templates_in templates.now) }
+    requires spot { IsSpot (templates_in templates.now) linked.old.nodes spot.now.place spot.now.node spot.now.found }
+    ensures { linked.new
+        ≡ record linked.old {
+          nodes =
+              window_set spot.now.node spot.now.found.count
+              (gates_for (coming (Some spot.now.node) linked.old.nodes) (templates_in templates.now) spot.now.found)
+              linked.old.nodes;
+        } }
+{
+    recall_spot(linked, spot, templates);
+    let mut new = [linked.gate(spot.node); TEMPLATE_GATES];
+    let count = write_new(linked, spot, templates, &mut new);
+    linked.replace_window(spot.node, spot.found.len() as u32, &new[..count]);
 }
 
 /// Replaces a window.
@@ -159,11 +204,6 @@ pub fn replace(linked: &mut Linked, spot: Spot, templates: &[Vec<Gate>])
         → Noted linked.old.notes (drop spot.place linked.new.nodes) far }
 {
     linked.recall_invariant();
-    let first = linked.gate(spot.node);
-    let mut room = [first; TEMPLATE_GATES];
-    let len = spot.found.len();
-    let n = copy_from(linked, spot.node, &mut room, len);
-    let mut new = [first; TEMPLATE_GATES];
-    let count = fill_found(&room[..n], templates, spot.found, &mut new);
-    linked.replace_window(spot.node, len as u32, &new[..count]);
+    recall_spot(linked, &spot, templates);
+    set_window(linked, &spot, templates);
 }

@@ -3,7 +3,7 @@ use Rattle.std.proofs.Common.{◌≡◌, ℕ, zero, suc, ◌+◌, ◌<◌, true,
 use Rattle.std.specs.List.{range_with_len}
 use Rattle.std.specs.Prelude.{All}
 use Rattle.std.proofs.lemmas.List.{get_or-drop, drop-drop}
-use Rattle.std.proofs.lemmas.Bool.{cases_eq, cond-true, cond-false, false≢true, false_from_ne_true}
+use Rattle.std.proofs.lemmas.Bool.{cases_eq, cond-true, cond-false, false_from_ne_true}
 use Rattle.rv_gate.specs.declared.gate.Shape.{Shape}
 use Rattle.rv_gate.specs.Gate.{FitsIn, IsGate}
 use Rattle.rv_gate.specs.Circuit.{Cascade, IsCascade}
@@ -11,9 +11,9 @@ use Rattle.rv_links.specs.Order.{lists, NoTwice, Rising}
 use Rattle.rv_links.specs.inside.Ring.{Order}
 use Rattle.rv_links.specs.Nodes.{Node, ids_in, gates_in, regated}
 use Rattle.rv_links.specs.inside.Chains.{blank, gate_at, nodes_of, IsLinked}
-use Rattle.rv_links.proofs.inside.RingLemmas.{lists_cases, lists_not}
+use Rattle.rv_links.proofs.inside.RingLemmas.{lists_not}
 use Rattle.rv_links.proofs.inside.LinkedLemmas.{ids_of_nodes}
-use Rattle.rv_links.proofs.inside.IndexLemmas.{rising_range}
+use Rattle.rv_links.proofs.inside.IndexLemmas.{in_range, rising_range}
 
 -- ---- a node gets another gate
 
@@ -63,16 +63,8 @@ regate_linked lines gates order id g k on fit ok =
 
 -- ---- a linked cascade is made
 
-pub lists_range : (a n x : ℕ) → lists x (range_with_len a n) ≡ true → x < a + n
-lists_range a zero x h = absurd (false≢true h)
-lists_range a (suc n) x h =
-    elim (lists_cases x a (range_with_len (a + 1) n) h) [
-      | inl e ↦ omega arith
-      | inr l ↦ let lt = lists_range (a + 1) n x l in omega arith
-    ]
-
 pub fresh_in_range : (n : ℕ) → lists n (range_with_len 0 n) ≡ false
-fresh_in_range n = false_from_ne_true _ (λ l. let lt = lists_range 0 n n l in absurd (omega arith))
+fresh_in_range n = false_from_ne_true _ (λ l. let r = in_range 0 n n l in absurd (omega (arith, r.1)))
 
 pub range_more : (a n : ℕ) → range_with_len a (n + 1) ≡ range_with_len a n ++ (a + n) ∷ []
 range_more a zero = ap (λ (k : ℕ). k ∷ []) (omega arith)
@@ -89,7 +81,7 @@ once_rising (x ∷ xs) r = (false_from_ne_true _ (λ l. let lt = r.0 x l in absu
 pub linked_range : (c : Cascade) (lines : ℕ) (gates : List Shape) (order : Order) → IsCascade c → lines ≡ length c.names → gates ≡ c.gates → order.room ≡ length gates → order.ids ≡ range_with_len 0 (length gates)
     → IsLinked lines gates order
 linked_range c lines gates order k el eg room ids =
-    let below : (x : ℕ) → lists x order.ids ≡ true → x < length gates = λ x l. let lt = lists_range 0 (length gates) x (sym (ap (lists x) ids) ∙ l) in omega arith in
+    let below : (x : ℕ) → lists x order.ids ≡ true → x < length gates = λ x l. let r = in_range 0 (length gates) x (sym (ap (lists x) ids) ∙ l) in omega (arith, r.1) in
     let fits : All (λ g. FitsIn g lines) gates = rw (el, eg) k.fitting in
     let valid : All IsGate gates = rw eg k.valid in
     record {

@@ -300,26 +300,6 @@ ids_are next prev room ids k =
 pub is_ring : (next prev : List ℕ) (room : ℕ) (ids : List ℕ) → IsChain next prev room ids → IsRing next prev room
 is_ring next prev room ids k = rw (ids_are next prev room ids k) k
 
-cut_of : (next prev : List ℕ) (room : ℕ) (ids : List ℕ) (x : ℕ) → IsChain next prev room ids → lists x ids ≡ true
-    → Cut (λ i. get_or next i 0) (λ i. get_or prev i 0)
-    (λ i. get_or (set (set next (get_or prev x 0) (get_or next x 0)) x x) i 0)
-    (λ i. get_or (set prev (get_or next x 0) (get_or prev x 0)) i 0) x
-cut_of next prev room ids x k on =
-    let p : ℕ = get_or prev x 0 in
-    let n : ℕ = get_or next x 0 in
-    let lx = k.below x on in
-    let lp : p ≤ room = k.prev_in_room x in
-    let ln : n ≤ room = k.next_in_room x in
-    let pl : p < length next = omega (arith, k.long_next) in
-    let nl : n < length prev = omega (arith, k.long_prev) in
-    let px : p ≢ x = prev_not_self (λ i. get_or next i 0) (λ i. get_or prev i 0) room ids room x k.joined k.once (end_outside next prev room ids k) on in
-    record {
-      over = get_or-set_other (set next p n) x p x 0 px ∙ get_or-set_same next p n 0 pl;
-      back = get_or-set_same prev n p 0 nl;
-      keeps_next = λ i ip ix. get_or-set_other (set next p n) x i x 0 ix ∙ get_or-set_other next p i n 0 ip;
-      keeps_prev = λ i i_n. get_or-set_other prev n i p 0 i_n;
-    }
-
 pub remove_chain : (next prev : List ℕ) (room : ℕ) (ids : List ℕ) (x : ℕ) → IsChain next prev room ids → lists x ids ≡ true
     → IsChain (set (set next (get_or prev x 0) (get_or next x 0)) x x) (set prev (get_or next x 0) (get_or prev x 0)) room (without x ids)
 remove_chain next prev room ids x k on =
@@ -332,13 +312,21 @@ remove_chain next prev room ids x k on =
     let nl : n < length prev = omega (arith, k.long_prev) in
     let xl : x < length (set next p n) = omega (arith, k.long_next, length-set next p n) in
     let out = end_outside next prev room ids k in
+    let px : p ≢ x = prev_not_self (λ i. get_or next i 0) (λ i. get_or prev i 0) room ids room x k.joined k.once out on in
+    let over : Cut (λ i. get_or next i 0) (λ i. get_or prev i 0) (λ i. get_or (set (set next p n) x x) i 0) (λ i. get_or (set prev n p) i 0) x =
+    record {
+      over = get_or-set_other (set next p n) x p x 0 px ∙ get_or-set_same next p n 0 pl;
+      back = get_or-set_same prev n p 0 nl;
+      keeps_next = λ i ip ix. get_or-set_other (set next p n) x i x 0 ix ∙ get_or-set_other next p i n 0 ip;
+      keeps_prev = λ i i_n. get_or-set_other prev n i p 0 i_n;
+    } in
     record {
       long_next = length-set (set next p n) x x ∙ length-set next p n ∙ k.long_next;
       long_prev = length-set prev n p ∙ k.long_prev;
       small = k.small;
       next_in_room = set_in_room (set next p n) room x x (set_in_room next room p n k.next_in_room pl ln) xl (omega arith);
       prev_in_room = set_in_room prev room n p k.prev_in_room nl lp;
-      joined = cut _ _ _ _ x (cut_of next prev room ids x k on) room ids room k.joined k.once out out on;
+      joined = cut _ _ _ _ x over room ids room k.joined k.once out out on;
       once = NoTwice-without x ids k.once;
       below = λ y l. k.below y (lists_without x y ids l);
       absent = λ y lt l.
@@ -355,59 +343,41 @@ remove_chain next prev room ids x k on =
           ];
     }
 
-put_of : (next prev : List ℕ) (room x b n : ℕ) → length next ≡ room + 1 → length prev ≡ room + 1 → x < room → b ≤ room → n ≤ room → x ≢ b → x ≢ n
-    → Put (λ i. get_or next i 0) (λ i. get_or prev i 0) (λ i. get_or (set (set next x n) b x) i 0) (λ i. get_or (set (set prev x b) n x) i 0) x b n
-put_of next prev room x b n ln lp lx lb l_n xb xn =
-    let bl : b < length (set next x n) = omega (arith, length-set next x n) in
-    let nl : n < length (set prev x b) = omega (arith, length-set prev x b) in
-    let xl : x < length next = omega arith in
-    let xl2 : x < length prev = omega arith in
-    record {
-      over = get_or-set_same (set next x n) b x 0 bl;
-      from = get_or-set_other (set next x n) b x x 0 xb ∙ get_or-set_same next x n 0 xl;
-      back = get_or-set_same (set prev x b) n x 0 nl;
-      to = get_or-set_other (set prev x b) n x x 0 xn ∙ get_or-set_same prev x b 0 xl2;
-      keeps_next = λ i ib ix. get_or-set_other (set next x n) b i x 0 ib ∙ get_or-set_other next x i n 0 ix;
-      keeps_prev = λ i i_n ix. get_or-set_other (set prev x b) n i x 0 i_n ∙ get_or-set_other prev x i b 0 ix;
-    }
-
-put_chain : (next prev : List ℕ) (room : ℕ) (ids : List ℕ) (x b n : ℕ) (more : List ℕ) → IsChain next prev room ids → x < room → b ≤ room → n ≤ room
-    → lists x ids ≡ false → (b ≡ room) ⊎ (lists b ids ≡ true)
-    → Joined (λ i. get_or (set (set next x n) b x) i 0) (λ i. get_or (set (set prev x b) n x) i 0) room more room
-    → NoTwice more → ((y : ℕ) → lists y more ≡ (eqb y x || lists y ids))
-    → IsChain (set (set next x n) b x) (set (set prev x b) n x) room more
-put_chain next prev room ids x b n more k lx lb l_n nx there j d same =
-    let xl : x < length next = omega (arith, k.long_next) in
-    let xl2 : x < length prev = omega (arith, k.long_prev) in
-    let bl : b < length (set next x n) = omega (arith, k.long_next, length-set next x n) in
-    let nl : n < length (set prev x b) = omega (arith, k.long_prev, length-set prev x b) in
-    record {
-      long_next = length-set (set next x n) b x ∙ length-set next x n ∙ k.long_next;
-      long_prev = length-set (set prev x b) n x ∙ length-set prev x b ∙ k.long_prev;
-      small = k.small;
-      next_in_room = set_in_room (set next x n) room b x (set_in_room next room x n k.next_in_room xl l_n) bl (omega arith);
-      prev_in_room = set_in_room (set prev x b) room n x (set_in_room prev room x b k.prev_in_room xl2 lb) nl (omega arith);
-      joined = j;
-      once = d;
-      below = λ y l. elim (lists_cases y x ids (sym (same y) ∙ l)) [ inl e ↦ omega arith | inr i ↦ k.below y i ];
-      absent = λ y lt l.
-          let o = lists_not y x ids (sym (same y) ∙ l) in
-          let yb : y ≢ b = elim there [ inl e ↦ (λ q. omega arith) | inr i ↦ differ_from y b ids o.1 i ] in
-          get_or-set_other (set next x n) b y x 0 yb ∙ get_or-set_other next x y n 0 o.0 ∙ k.absent y lt o.1;
-    }
-
 pub push_back_chain : (next prev : List ℕ) (room : ℕ) (ids : List ℕ) (x : ℕ) → IsChain next prev room ids → x < room → lists x ids ≡ false
     → IsChain (set (set next x room) (get_or prev room 0) x) (set (set prev x (get_or prev room 0)) room x) room (ids ++ x ∷ [])
 push_back_chain next prev room ids x k lx nx =
     let b : ℕ = get_or prev room 0 in
+    let lb : b ≤ room = k.prev_in_room room in
     let xr : x ≢ room = λ e. omega arith in
     let out = end_outside next prev room ids k in
     let last = last_within (λ i. get_or next i 0) (λ i. get_or prev i 0) room ids room k.joined in
-    let xb : x ≢ b = elim last [ inl e ↦ (λ q. omega arith) | inr i ↦ differ_from x b ids nx i ] in
-    let p = put_of next prev room x b room k.long_next k.long_prev lx (k.prev_in_room room) (omega arith) xb xr in
-    put_chain next prev room ids x b room (ids ++ x ∷ []) k lx (k.prev_in_room room) (omega arith) nx last
-    (put_last (λ i. get_or next i 0) (λ i. get_or prev i 0) _ _ x room p room ids k.joined k.once out out xr nx)
-    (NoTwice-push x ids nx k.once) (λ y. lists_push x y ids)
+    let differ : (y : ℕ) → y < room → lists y ids ≡ false → y ≢ b = λ y lt off. elim last [ inl e ↦ (λ q. omega arith) | inr i ↦ differ_from y b ids off i ] in
+    let xl : x < length next = omega (arith, k.long_next) in
+    let xl2 : x < length prev = omega (arith, k.long_prev) in
+    let bl : b < length (set next x room) = omega (arith, k.long_next, length-set next x room) in
+    let nl : room < length (set prev x b) = omega (arith, k.long_prev, length-set prev x b) in
+    let put : Put (λ i. get_or next i 0) (λ i. get_or prev i 0) (λ i. get_or (set (set next x room) b x) i 0) (λ i. get_or (set (set prev x b) room x) i 0) x b room =
+    record {
+      over = get_or-set_same (set next x room) b x 0 bl;
+      from = get_or-set_other (set next x room) b x x 0 (differ x lx nx) ∙ get_or-set_same next x room 0 xl;
+      back = get_or-set_same (set prev x b) room x 0 nl;
+      to = get_or-set_other (set prev x b) room x x 0 xr ∙ get_or-set_same prev x b 0 xl2;
+      keeps_next = λ i ib ix. get_or-set_other (set next x room) b i x 0 ib ∙ get_or-set_other next x i room 0 ix;
+      keeps_prev = λ i i_n ix. get_or-set_other (set prev x b) room i x 0 i_n ∙ get_or-set_other prev x i b 0 ix;
+    } in
+    record {
+      long_next = length-set (set next x room) b x ∙ length-set next x room ∙ k.long_next;
+      long_prev = length-set (set prev x b) room x ∙ length-set prev x b ∙ k.long_prev;
+      small = k.small;
+      next_in_room = set_in_room (set next x room) room b x (set_in_room next room x room k.next_in_room xl (omega arith)) bl (omega arith);
+      prev_in_room = set_in_room (set prev x b) room room x (set_in_room prev room x b k.prev_in_room xl2 lb) nl (omega arith);
+      joined = put_last (λ i. get_or next i 0) (λ i. get_or prev i 0) _ _ x room put room ids k.joined k.once out out xr nx;
+      once = NoTwice-push x ids nx k.once;
+      below = λ y l. elim (lists_cases y x ids (sym (lists_push x y ids) ∙ l)) [ inl e ↦ omega arith | inr i ↦ k.below y i ];
+      absent = λ y lt l.
+          let o = lists_not y x ids (sym (lists_push x y ids) ∙ l) in
+          get_or-set_other (set next x room) b y x 0 (differ y lt o.1) ∙ get_or-set_other next x y room 0 o.0 ∙ k.absent y lt o.1;
+    }
 
 within : (xs : List ℕ) (room : ℕ) → length xs ≡ room + 1 → ((i : ℕ) → i < room + 1 → get_or xs i 0 ≡ i) → (i : ℕ) → get_or xs i 0 ≤ room
 within xs room len f i = grind (arith, cases_lt, get_or_past)

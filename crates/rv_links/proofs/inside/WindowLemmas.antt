@@ -141,9 +141,6 @@ unfolding from_node
 from_cons None n rest h = refl
 from_cons (Some b) n rest h = cond-false (eqb b n.id) _ _ (ne_eqb b n.id (h b refl))
 
-head_in : (ids : List ℕ) (b : ℕ) → head ids ≡ Some b → lists b ids ≡ true
-head_in ids b e = head_listed ids b e
-
 pub from_step : (a : ℕ) (nodes : List Node) → NoTwice (ids_in nodes) → live a nodes ≡ true
     → from_node a nodes ≡ (let n : Node = record { id = a; gate = node_gate a nodes } in n) ∷ nodes_from (next_in a (ids_in nodes)) nodes
 unfolding from_node next_in node_gate
@@ -152,7 +149,7 @@ from_step a (n ∷ rest) d on =
     elim (cases_eq a n.id) [
       | inl e ↦
           rw (eq-eqb a n.id e)
-          (ap (λ l. n ∷ l) (sym (from_cons (head (ids_in rest)) n rest (λ b h q. differ_from n.id b (ids_in rest) d.0 (head_in (ids_in rest) b h) (sym q)) ∙ start_from rest))
+          (ap (λ l. n ∷ l) (sym (from_cons (head (ids_in rest)) n rest (λ b h q. differ_from n.id b (ids_in rest) d.0 (head_listed (ids_in rest) b h) (sym q)) ∙ start_from rest))
           ∙ ap (λ i. (let m : Node = record { id = i; gate = n.gate } in m) ∷ nodes_from (head (ids_in rest)) (n ∷ rest)) (sym e))
       | inr ne ↦
           let l : live a rest ≡ true = elim (lists_cases a n.id (ids_in rest) on) [ inl e ↦ absurd (ne e) | inr l ↦ l ] in

@@ -29,43 +29,34 @@ looked_up name (entry ∷ entries) =
 abbrev pub whole : Extent → Qubits
 whole e = record { first = e.before; count = e.size; is_whole = true }
 
-pub found_whole : (name : List ℕ) (before : ℕ) (entries : List (Vec ℕ × Extent)) (total : ℕ) → Follow before entries total → before + size_of_all (registers_of entries) ≤ MOST_LINES
-    → option_map whole (lookup (λ (key : Vec ℕ). bytes_eq name key.items) entries) ≡ register_at before name (registers_of entries)
-found_whole name before [] total follow few = refl
-found_whole name before (entry ∷ entries) total follow few =
-    let sum = first_size (register_of entry) (registers_of entries) in
-    let here : min (before + entry.1.size) MOST_PLACES ≡ before + entry.1.size = omega (arith, sum, few) in
-    let rest = found_whole name (before + entry.1.size) entries total (rw (sym here) follow.1) (omega (arith, sum, few)) in
-    elim (bytes_eq name entry.0.items) as (λ t. option_map whole (cond t (Some entry.1) (lookup (λ (key : Vec ℕ). bytes_eq name key.items) entries))
-    ≡ cond t (Some (record { first = before; count = entry.1.size; is_whole = true })) (register_at (before + entry.1.size) name (registers_of entries))) [
-      | true ↦ ap (λ (b : ℕ). Some (record { first = b; count = entry.1.size; is_whole = true })) follow.0
-      | false ↦ rest
-    ]
-
--- it lies among all places
-pub found_within : (name : List ℕ) (before : ℕ) (entries : List (Vec ℕ × Extent)) (total : ℕ) → Follow before entries total → before + size_of_all (registers_of entries) ≤ MOST_LINES
-    → IfSome (lookup (λ (key : Vec ℕ). bytes_eq name key.items) entries) (λ e. e.before + e.size ≤ before + size_of_all (registers_of entries))
-found_within name before [] total follow few = tt
-found_within name before (entry ∷ entries) total follow few =
+-- the answer is that of the registers in turn, and lies among all places
+found_both : (name : List ℕ) (before : ℕ) (entries : List (Vec ℕ × Extent)) (total : ℕ) → Follow before entries total → before + size_of_all (registers_of entries) ≤ MOST_LINES
+    → (option_map whole (lookup (λ (key : Vec ℕ). bytes_eq name key.items) entries) ≡ register_at before name (registers_of entries))
+    × IfSome (lookup (λ (key : Vec ℕ). bytes_eq name key.items) entries) (λ e. e.before + e.size ≤ before + size_of_all (registers_of entries))
+found_both name before [] total follow few = (refl, tt)
+found_both name before (entry ∷ entries) total follow few =
     let sum = first_size (register_of entry) (registers_of entries) in
     let here : min (before + entry.1.size) MOST_PLACES ≡ before + entry.1.size = omega (arith, sum, few) in
     let same : before + entry.1.size + size_of_all (registers_of entries) ≡ before + size_of_all (registers_of (entry ∷ entries)) = omega (arith, sum) in
-    let rest = found_within name (before + entry.1.size) entries total (rw (sym here) follow.1) (omega (arith, same, few)) in
-    elim (bytes_eq name entry.0.items) as (λ t. IfSome (cond t (Some entry.1) (lookup (λ (key : Vec ℕ). bytes_eq name key.items) entries)) (λ e. e.before + e.size ≤ before + size_of_all (registers_of (entry ∷ entries)))) [
-      | true ↦ omega (arith, sum, follow.0)
-      | false ↦ rw same at rest
+    let rest = found_both name (before + entry.1.size) entries total (rw (sym here) follow.1) (omega (arith, same, few)) in
+    elim (bytes_eq name entry.0.items) as (λ t.
+    (option_map whole (cond t (Some entry.1) (lookup (λ (key : Vec ℕ). bytes_eq name key.items) entries))
+    ≡ cond t (Some (record { first = before; count = entry.1.size; is_whole = true })) (register_at (before + entry.1.size) name (registers_of entries)))
+    × IfSome (cond t (Some entry.1) (lookup (λ (key : Vec ℕ). bytes_eq name key.items) entries)) (λ e. e.before + e.size ≤ before + size_of_all (registers_of (entry ∷ entries)))) [
+      | true ↦ (ap (λ (b : ℕ). Some (record { first = b; count = entry.1.size; is_whole = true })) follow.0, omega (arith, sum, follow.0))
+      | false ↦ (rest.0, rw same at rest.1)
     ]
 
 -- the register of a name, among all
 pub found : (name : List ℕ) (entries : List (Vec ℕ × Extent)) (total : ℕ) (registers : List Register) → Follow 0 entries total → registers_of entries ≡ registers → size_of_all registers ≤ MOST_LINES
     → option_map whole (lookup (λ (key : Vec ℕ). bytes_eq name key.items) entries) ≡ register_at 0 name registers
-found name entries total registers follow is few = found_whole name 0 entries total follow (omega (arith, ap size_of_all is, few)) ∙ ap (register_at 0 name) is
+found name entries total registers follow is few = (found_both name 0 entries total follow (omega (arith, ap size_of_all is, few))).0 ∙ ap (register_at 0 name) is
 
 pub found_end : (name : List ℕ) (entries : List (Vec ℕ × Extent)) (total : ℕ) (registers : List Register) → Follow 0 entries total → registers_of entries ≡ registers → size_of_all registers ≤ MOST_LINES
     → (e : Extent) → Some e ≡ lookup (λ (key : Vec ℕ). bytes_eq name key.items) entries → e.before + e.size ≤ size_of_all registers
 found_end name entries total registers follow is few e some =
     let all : 0 + size_of_all (registers_of entries) ≡ size_of_all registers = omega (arith, ap size_of_all is) in
-    rw all at (rw (sym some) at (found_within name 0 entries total follow (omega (arith, all, few))))
+    let both = found_both name 0 entries total follow (omega (arith, all, few)) in rw all at (rw (sym some) at both.1)
 
 -- one register more after the others
 pub follow_more : (before : ℕ) (entries : List (Vec ℕ × Extent)) (total : ℕ) (name : Vec ℕ) (size : ℕ) → Follow before entries total

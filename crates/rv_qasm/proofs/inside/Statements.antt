@@ -59,6 +59,19 @@ takes : (tokens : List (List ℕ)) (first line : ℕ) (begun : List TokenOnLine)
     → tokens ≡ map (λ token. token.bytes) (begun ++ on_its_line line (h ∷ r) ∷ []) → with_byte tokens c ≡ map (λ token. token.bytes) (begun ++ on_its_line line (h ∷ (r ++ c ∷ [])) ∷ [])
 takes tokens first line begun h r c is = ap (λ l. with_byte l c) is ∙ map-more begun line (h ∷ r) c
 
+grown : (tokens : List (List ℕ)) (first line : ℕ) (new : Mode) (begun : List TokenOnLine) (text : List ℕ) (h : ℕ) (r : List ℕ) (c : ℕ)
+    → ((r : List ℕ) → shown new line h r ≡ on_its_line line (h ∷ r) ∷ []) → ((r : List ℕ) → text_of new h r ≡ h ∷ r)
+    → tokens ≡ map (λ token. token.bytes) (begun ++ on_its_line line (h ∷ r) ∷ []) → IsFirst first (begun ++ on_its_line line (h ∷ r) ∷ []) → text ≡ h ∷ r → IsOpen new h (r ++ c ∷ [])
+    → Opened (record { tokens = with_byte tokens c; first = first; line = line; mode = new }) begun (text ++ c ∷ [])
+grown tokens first line new begun text h r c s t is is_first text_is stays = record {
+  head = h;
+  rest = r ++ c ∷ [];
+  tokens = rw (s (r ++ c ∷ [])) (takes tokens first line begun h r c is);
+  first = rw (s (r ++ c ∷ [])) (first-more begun first line (h ∷ r) (h ∷ (r ++ c ∷ [])) is_first);
+  is_open = stays;
+  text_is = rw (t (r ++ c ∷ [])) (ap (λ l. l ++ c ∷ []) text_is);
+}
+
 digit_left : (c : ℕ) → (is_ascii_digit c || nat_eq c dot) ≡ true → nat_eq c dot ≡ false → is_ascii_digit c ≡ true
 digit_left c on other = elim (or_cases (is_ascii_digit c) (nat_eq c dot) on) [ inl digit ↦ digit | inr is_dot ↦ absurd (both_ways (nat_eq c dot) other is_dot) ]
 
@@ -73,84 +86,46 @@ digits_grow tokens first line begun text c true e o on = record {
   is_open = o.is_open;
   text_is = ap (λ l. l ++ c ∷ []) o.text_is ∙ ap (λ k. o.head ∷ (o.rest ++ k ∷ [])) (eqb-true c dot e);
 }
-digits_grow tokens first line begun text c false e o on = record {
-  head = o.head;
-  rest = o.rest ++ c ∷ [];
-  tokens = takes tokens first line begun o.head o.rest c o.tokens;
-  first = first-more begun first line (o.head ∷ o.rest) (o.head ∷ (o.rest ++ c ∷ [])) o.first;
-  is_open = (o.is_open.0, list_all-push is_ascii_digit o.rest c o.is_open.1 (digit_left c on e));
-  text_is = ap (λ l. l ++ c ∷ []) o.text_is;
-}
+digits_grow tokens first line begun text c false e o on =
+    grown tokens first line Digits begun text o.head o.rest c (λ r. refl) (λ r. refl) o.tokens o.first o.text_is (o.is_open.0, list_all-push is_ascii_digit o.rest c o.is_open.1 (digit_left c on e))
 
 quoted_grow : (tokens : List (List ℕ)) (first line : ℕ) (begun : List TokenOnLine) (text : List ℕ) (c : ℕ) (t : Bool) → nat_eq c quote ≡ t
     → Opened (record { tokens = tokens; first = first; line = line; mode = Quoted }) begun text → goes_on Quoted c ≡ true
     → Opened (record { tokens = with_byte tokens c; first = first; line = line; mode = cond t Done Quoted }) begun (text ++ c ∷ [])
-quoted_grow tokens first line begun text c true e o on = record {
-  head = o.head;
-  rest = o.rest ++ c ∷ [];
-  tokens = takes tokens first line begun o.head o.rest c o.tokens;
-  first = first-more begun first line (o.head ∷ o.rest) (o.head ∷ (o.rest ++ c ∷ [])) o.first;
-  is_open = rw (o.is_open.0, eqb-true c quote e) (refl, string_token o.rest o.is_open.1);
-  text_is = ap (λ l. l ++ c ∷ []) o.text_is;
-}
-quoted_grow tokens first line begun text c false e o on = record {
-  head = o.head;
-  rest = o.rest ++ c ∷ [];
-  tokens = takes tokens first line begun o.head o.rest c o.tokens;
-  first = first-more begun first line (o.head ∷ o.rest) (o.head ∷ (o.rest ++ c ∷ [])) o.first;
-  is_open = (o.is_open.0, list_all-push in_string o.rest c o.is_open.1 (rw (e, not-true (nat_eq c line_feed) on) refl));
-  text_is = ap (λ l. l ++ c ∷ []) o.text_is;
-}
+quoted_grow tokens first line begun text c true e o on =
+    grown tokens first line Done begun text o.head o.rest c (λ r. refl) (λ r. refl) o.tokens o.first o.text_is (rw (o.is_open.0, eqb-true c quote e) (refl, string_token o.rest o.is_open.1))
+quoted_grow tokens first line begun text c false e o on =
+    grown tokens first line Quoted begun text o.head o.rest c (λ r. refl) (λ r. refl) o.tokens o.first o.text_is
+    (o.is_open.0, list_all-push in_string o.rest c o.is_open.1 (rw (e, not-true (nat_eq c line_feed) on) refl))
 
 grows : (tokens : List (List ℕ)) (first line : ℕ) (mode : Mode) (begun : List TokenOnLine) (text : List ℕ) (c : ℕ) → let b : Begun = record { tokens = tokens; first = first; line = line; mode = mode } in
     Opened b begun text → goes_on mode c ≡ true → Opened (continued b mode c) begun (text ++ c ∷ [])
 grows tokens first line Between begun text c o on = absurd cc
 grows tokens first line Done begun text c o on = absurd cc
-grows tokens first line Name begun text c o on = record {
-  head = o.head;
-  rest = o.rest ++ c ∷ [];
-  tokens = takes tokens first line begun o.head o.rest c o.tokens;
-  first = first-more begun first line (o.head ∷ o.rest) (o.head ∷ (o.rest ++ c ∷ [])) o.first;
-  is_open = (o.is_open.0, list_all-push is_in_name o.rest c o.is_open.1 on);
-  text_is = ap (λ l. l ++ c ∷ []) o.text_is;
-}
+grows tokens first line Name begun text c o on =
+    grown tokens first line Name begun text o.head o.rest c (λ r. refl) (λ r. refl) o.tokens o.first o.text_is (o.is_open.0, list_all-push is_in_name o.rest c o.is_open.1 on)
 grows tokens first line Digits begun text c o on = digits_grow tokens first line begun text c (nat_eq c dot) refl o on
-grows tokens first line Point begun text c o on = record {
-  head = o.head;
-  rest = (o.rest ++ dot ∷ []) ++ c ∷ [];
-  tokens = takes (with_byte tokens dot) first line begun o.head (o.rest ++ dot ∷ []) c (takes tokens first line begun o.head o.rest dot o.tokens);
-  first = first-more begun first line (o.head ∷ o.rest) (o.head ∷ ((o.rest ++ dot ∷ []) ++ c ∷ [])) o.first;
-  is_open = (o.is_open.0, record { whole = o.rest; first = c; others = []; is = append_assoc o.rest (dot ∷ []) (c ∷ []); digits = o.is_open.1; digit = on; more = refl });
-  text_is = ap (λ l. l ++ c ∷ []) o.text_is;
-}
-grows tokens first line Decimals begun text c o on = let d = o.is_open.1 in record {
-  head = o.head;
-  rest = o.rest ++ c ∷ [];
-  tokens = takes tokens first line begun o.head o.rest c o.tokens;
-  first = first-more begun first line (o.head ∷ o.rest) (o.head ∷ (o.rest ++ c ∷ [])) o.first;
-  is_open = (
-    o.is_open.0,
-    record {
-      whole = d.whole;
-      first = d.first;
-      others = d.others ++ c ∷ [];
-      is = ap (λ l. l ++ c ∷ []) d.is ∙ append_assoc d.whole (dot ∷ d.first ∷ d.others) (c ∷ []);
-      digits = d.digits;
-      digit = d.digit;
-      more = list_all-push is_ascii_digit d.others c d.more on;
-    },
-  );
-  text_is = ap (λ l. l ++ c ∷ []) o.text_is;
-}
+grows tokens first line Point begun text c o on =
+    grown (with_byte tokens dot) first line Decimals begun text o.head (o.rest ++ dot ∷ []) c (λ r. refl) (λ r. refl) (takes tokens first line begun o.head o.rest dot o.tokens)
+    (first-more begun first line (o.head ∷ o.rest) (o.head ∷ (o.rest ++ dot ∷ [])) o.first) o.text_is
+    (o.is_open.0, record { whole = o.rest; first = c; others = []; is = append_assoc o.rest (dot ∷ []) (c ∷ []); digits = o.is_open.1; digit = on; more = refl })
+grows tokens first line Decimals begun text c o on =
+    let d = o.is_open.1 in
+    grown tokens first line Decimals begun text o.head o.rest c (λ r. refl) (λ r. refl) o.tokens o.first o.text_is (
+      o.is_open.0,
+      record {
+        whole = d.whole;
+        first = d.first;
+        others = d.others ++ c ∷ [];
+        is = ap (λ l. l ++ c ∷ []) d.is ∙ append_assoc d.whole (dot ∷ d.first ∷ d.others) (c ∷ []);
+        digits = d.digits;
+        digit = d.digit;
+        more = list_all-push is_ascii_digit d.others c d.more on;
+      },
+    )
 grows tokens first line Quoted begun text c o on = quoted_grow tokens first line begun text c (nat_eq c quote) refl o on
-grows tokens first line Minus begun text c o on = record {
-  head = o.head;
-  rest = o.rest ++ c ∷ [];
-  tokens = takes tokens first line begun o.head o.rest c o.tokens;
-  first = first-more begun first line (o.head ∷ o.rest) (o.head ∷ (o.rest ++ c ∷ [])) o.first;
-  is_open = rw (o.is_open.0, o.is_open.1, eqb-true c greater on) (refl, arrow_token);
-  text_is = ap (λ l. l ++ c ∷ []) o.text_is;
-}
+grows tokens first line Minus begun text c o on =
+    grown tokens first line Done begun text o.head o.rest c (λ r. refl) (λ r. refl) o.tokens o.first o.text_is (rw (o.is_open.0, o.is_open.1, eqb-true c greater on) (refl, arrow_token))
 grows tokens first line Slash begun text c o on = record {
   head = 0;
   rest = [];
@@ -197,28 +172,14 @@ nothing_open tokens first line Slash begun text o =
 pub with_nothing_open-mode : (b : Begun) (mode : Mode) → with_nothing_open b mode ≡ record { tokens = (with_nothing_open b mode).tokens; first = (with_nothing_open b mode).first; line = b.line; mode = Between }
 with_nothing_open-mode b mode = grind arith
 
--- nothing is open after these tokens
+-- no token is open after these
 free : (tokens : List (List ℕ)) (first line : ℕ) (all : List TokenOnLine) → tokens ≡ map (λ token. token.bytes) all → IsFirst first all
     → Opened (record { tokens = tokens; first = first; line = line; mode = Between }) all []
-free tokens first line all is is_first = record {
-  head = 0;
-  rest = [];
-  tokens = is ∙ ap (map (λ token. token.bytes)) (sym (append-nil all));
-  first = subst (IsFirst first) (sym (append-nil all)) is_first;
-  is_open = tt;
-  text_is = refl;
-}
+free tokens first line all is is_first = record { head = 0; rest = []; tokens = rw (append-nil all) is; first = rw (append-nil all) is_first; is_open = tt; text_is = refl }
 
 slashed : (tokens : List (List ℕ)) (first line : ℕ) (all : List TokenOnLine) → tokens ≡ map (λ token. token.bytes) all → IsFirst first all
     → Opened (record { tokens = tokens; first = first; line = line; mode = Slash }) all (slash ∷ [])
-slashed tokens first line all is is_first = record {
-  head = 0;
-  rest = [];
-  tokens = is ∙ ap (map (λ token. token.bytes)) (sym (append-nil all));
-  first = subst (IsFirst first) (sym (append-nil all)) is_first;
-  is_open = tt;
-  text_is = refl;
-}
+slashed tokens first line all is is_first = record { head = 0; rest = []; tokens = rw (append-nil all) is; first = rw (append-nil all) is_first; is_open = tt; text_is = refl }
 
 module _ (tokens : List (List ℕ)) (first line : ℕ) (all : List TokenOnLine) (is : tokens ≡ map (λ token. token.bytes) all) (is_first : IsFirst first all) (c : ℕ)
     (blank : is_blank (line_feed ∷ []) c ≡ false) (no_slash : nat_eq c slash ≡ false) (no_end : nat_eq c semicolon ≡ false) where

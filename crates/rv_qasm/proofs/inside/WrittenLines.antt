@@ -111,6 +111,9 @@ among P (word ∷ words) name is all = elim (or_cases (bytes_eq name word) (is_o
   | inr later ↦ among P words name later all.1
 ]
 
+both : {A B : Type 0} → A → B → A × B
+both a b = (a, b)
+
 record IsPlainGate (size : ℕ) (name : List ℕ) : Type 0 where
   gate : IsGate name size
   token : IsToken name
@@ -119,57 +122,32 @@ record IsPlainGate (size : ℕ) (name : List ℕ) : Type 0 where
 
 on_one : (name : List ℕ) → is_on_one name ≡ true → IsPlainGate 1 name
 unfolding tokens_after
-on_one name is = among (IsPlainGate 1) (codes "x" ∷ codes "y" ∷ codes "z" ∷ codes "h" ∷ codes "s" ∷ codes "sdg" ∷ codes "t" ∷ codes "tdg" ∷ []) name is (
-  record { gate = record { body = λ s t. refl; size_is = refl; closed = refl }; token = λ line rest. refl; no_semicolon = refl; plain = refl },
-  (
-    record { gate = record { body = λ s t. refl; size_is = refl; closed = refl }; token = λ line rest. refl; no_semicolon = refl; plain = refl },
-    (
-      record { gate = record { body = λ s t. refl; size_is = refl; closed = refl }; token = λ line rest. refl; no_semicolon = refl; plain = refl },
-      (
-        record { gate = record { body = λ s t. refl; size_is = refl; closed = refl }; token = λ line rest. refl; no_semicolon = refl; plain = refl },
-        (
-          record { gate = record { body = λ s t. refl; size_is = refl; closed = refl }; token = λ line rest. refl; no_semicolon = refl; plain = refl },
-          (
-            record { gate = record { body = λ s t. refl; size_is = refl; closed = refl }; token = λ line rest. refl; no_semicolon = refl; plain = refl },
-            (
-              record { gate = record { body = λ s t. refl; size_is = refl; closed = refl }; token = λ line rest. refl; no_semicolon = refl; plain = refl },
-              (
-                record { gate = record { body = λ s t. refl; size_is = refl; closed = refl }; token = λ line rest. refl; no_semicolon = refl; plain = refl },
-                tt,
-              ),
-            ),
-          ),
-        ),
-      ),
-    ),
-  ),
-)
+on_one name is = among (IsPlainGate 1) (codes "x" ∷ codes "y" ∷ codes "z" ∷ codes "h" ∷ codes "s" ∷ codes "sdg" ∷ codes "t" ∷ codes "tdg" ∷ []) name is
+    (both (record { gate = record { body = λ s t. refl; size_is = refl; closed = refl }; token = λ line rest. refl; no_semicolon = refl; plain = refl })
+    (both (record { gate = record { body = λ s t. refl; size_is = refl; closed = refl }; token = λ line rest. refl; no_semicolon = refl; plain = refl })
+    (both (record { gate = record { body = λ s t. refl; size_is = refl; closed = refl }; token = λ line rest. refl; no_semicolon = refl; plain = refl })
+    (both (record { gate = record { body = λ s t. refl; size_is = refl; closed = refl }; token = λ line rest. refl; no_semicolon = refl; plain = refl })
+    (both (record { gate = record { body = λ s t. refl; size_is = refl; closed = refl }; token = λ line rest. refl; no_semicolon = refl; plain = refl })
+    (both (record { gate = record { body = λ s t. refl; size_is = refl; closed = refl }; token = λ line rest. refl; no_semicolon = refl; plain = refl })
+    (both (record { gate = record { body = λ s t. refl; size_is = refl; closed = refl }; token = λ line rest. refl; no_semicolon = refl; plain = refl })
+    (both (record { gate = record { body = λ s t. refl; size_is = refl; closed = refl }; token = λ line rest. refl; no_semicolon = refl; plain = refl })
+    tt))))))))
 
 on_two : (name : List ℕ) → is_on_two name ≡ true → IsPlainGate 2 name
 unfolding tokens_after
-on_two name is = among (IsPlainGate 2) (codes "cx" ∷ codes "CX" ∷ codes "cz" ∷ codes "swap" ∷ []) name is (
-  record { gate = record { body = λ s t. refl; size_is = refl; closed = refl }; token = λ line rest. refl; no_semicolon = refl; plain = refl },
-  (
-    record { gate = record { body = λ s t. refl; size_is = refl; closed = refl }; token = λ line rest. refl; no_semicolon = refl; plain = refl },
-    (
-      record { gate = record { body = λ s t. refl; size_is = refl; closed = refl }; token = λ line rest. refl; no_semicolon = refl; plain = refl },
-      (
-        record { gate = record { body = λ s t. refl; size_is = refl; closed = refl }; token = λ line rest. refl; no_semicolon = refl; plain = refl },
-        tt,
-      ),
-    ),
-  ),
-)
+on_two name is = among (IsPlainGate 2) (codes "cx" ∷ codes "CX" ∷ codes "cz" ∷ codes "swap" ∷ []) name is
+    (both (record { gate = record { body = λ s t. refl; size_is = refl; closed = refl }; token = λ line rest. refl; no_semicolon = refl; plain = refl })
+    (both (record { gate = record { body = λ s t. refl; size_is = refl; closed = refl }; token = λ line rest. refl; no_semicolon = refl; plain = refl })
+    (both (record { gate = record { body = λ s t. refl; size_is = refl; closed = refl }; token = λ line rest. refl; no_semicolon = refl; plain = refl })
+    (both (record { gate = record { body = λ s t. refl; size_is = refl; closed = refl }; token = λ line rest. refl; no_semicolon = refl; plain = refl })
+    tt))))
 
 on_three : (name : List ℕ) → is_on_three name ≡ true → IsPlainGate 3 name
 unfolding tokens_after
-on_three name is = among (IsPlainGate 3) (codes "ccx" ∷ codes "cswap" ∷ []) name is (
-  record { gate = record { body = λ s t. refl; size_is = refl; closed = refl }; token = λ line rest. refl; no_semicolon = refl; plain = refl },
-  (
-    record { gate = record { body = λ s t. refl; size_is = refl; closed = refl }; token = λ line rest. refl; no_semicolon = refl; plain = refl },
-    tt,
-  ),
-)
+on_three name is = among (IsPlainGate 3) (codes "ccx" ∷ codes "cswap" ∷ []) name is
+    (both (record { gate = record { body = λ s t. refl; size_is = refl; closed = refl }; token = λ line rest. refl; no_semicolon = refl; plain = refl })
+    (both (record { gate = record { body = λ s t. refl; size_is = refl; closed = refl }; token = λ line rest. refl; no_semicolon = refl; plain = refl })
+    tt))
 
 -- ---- what the bytes of a line are
 

@@ -1,30 +1,29 @@
 -- Lines that are the same to each gate of a window: where a renaming that goes on with one of them comes to nothing,
 -- so does one that goes on with another.
-use Rattle.std.proofs.Common.{◌≡◌, ◌≢◌, ℕ, zero, suc, ◌+◌, ◌-◌, ◌<◌, ◌≤◌, Bool, true, false, cond, ◌&&◌, ◌||◌, eqb, List, [], ◌∷◌, ◌++◌, length, take, drop, refl, sym, ◌∙◌, ap, inl, inr, arith, subst, take-append-drop, length-append, append_assoc, leb-true}
+use Rattle.std.proofs.Common.{◌≡◌, ◌≢◌, ℕ, zero, suc, ◌+◌, ◌-◌, ◌<◌, ◌≤◌, Bool, true, false, cond, eqb, List, [], ◌∷◌, ◌++◌, length, take, drop, refl, sym, ◌∙◌, ap, inl, inr, arith, subst, take-append-drop, length-append, append_assoc, leb-true}
 use Rattle.std.specs.Prelude.{bit_or, Option, Some, None}
-use Rattle.std.proofs.lemmas.Bool.{cases_eq, cases_lt, cases_Bool, false≢true, and_parts, or_cases, cond-true, cond-false, eqb-true, false_from_ne_true}
+use Rattle.std.proofs.lemmas.Bool.{cases_eq, cases_lt, cases_Bool, false≢true, and_parts, cond-true, cond-false, false_from_ne_true}
 use Rattle.std.proofs.lemmas.List.{get_or-append-add, length-take-le, length-map, append-nil}
 use Rattle.rv_gate.specs.declared.word.TheConstants.{MOST_LINES}
 use Rattle.rv_gate.proofs.LineSets.{same_lines}
 use Rattle.rv_gate.specs.Word.{has}
-use Rattle.rv_gate.specs.Gate.{same, touches, controls, wanted, IsFlip}
+use Rattle.rv_gate.specs.Gate.{touches, controls, wanted, IsFlip}
 use Rattle.rv_gate.specs.declared.gate.Shape.{Shape}
 use Rattle.rv_gate.specs.declared.gate.Shape.TheVariants.{Flip}
 use Rattle.rv_gate.specs.FirstAnswer.{first}
 use Rattle.rv_templ.specs.Folds.{least}
 use Rattle.rv_templ.specs.Gates.{gate_in}
-use Rattle.rv_templ.specs.Images.{target_of, span, new_line, renamed, image_of, fresh_care, fresh_want, zero_elsewhere, others, allowed}
+use Rattle.rv_templ.specs.Images.{target_of, span, new_line, renamed, image_of, fresh_care, fresh_want, others, allowed}
 use Rattle.rv_templ.specs.Templates.{IsTemplate}
 use Rattle.rv_templ.specs.Windows.{IsRenaming}
 use Rattle.rv_templ.specs.inside.Pruning.{same_role, Suits}
 use Rattle.rv_gate.proofs.FirstAnswer.{first_hit, none_first}
 use Rattle.rv_templ.proofs.inside.FoldLemmas.{least_end, least_step}
-use Rattle.rv_gate.proofs.AllBelow.{all_below-at}
 use Rattle.rv_templ.proofs.ImageLaws.{Part, Serves, Serve, renamed_has}
 use Rattle.rv_templ.proofs.MeaningLaws.{Small, small_at, small_from, least_none, allowed_from}
 use Rattle.rv_templ.proofs.inside.PruningLaws.{gone_on, next_line, line_before, drop_plain, none_dead, on_with, role_in}
 use Rattle.rv_templ.proofs.TradedLines.{traded, traded_right, traded_other, traded_twice, traded_same, traded_below, traded_set, has-traded, both_traded, touched_traded, size_traded}
-use Rattle.rv_templ.proofs.WindowLaws.{allowed_parts, apart_from, match_at, image_at, serve_at, serve_template, Serve-last, span_from, span_has, within_at, without_parts}
+use Rattle.rv_templ.proofs.WindowLaws.{plain_at, allowed_parts, apart_from, match_at, image_at, serve_at, serve_template, Serve-last, span_from, span_has, within_at, without_parts}
 use Rattle.rv_gate.proofs.Bits.{same_true, same_bool}
 
 -- ---- a line is the same to a gate as another
@@ -34,17 +33,17 @@ pub record Even (g : Shape) (v u : ℕ) : Type 0 where
   pub value : has (wanted g) v ≡ has (wanted g) u
   pub target : eqb v (target_of g) ≡ eqb u (target_of g)
 
+role_parts : (g h : Shape) (v i : ℕ) → same_role g v h i ≡ true → (has (controls g) v ≡ has (controls h) i) × (has (wanted g) v ≡ has (wanted h) i) × (eqb v (target_of g) ≡ eqb i (target_of h))
+role_parts g h v i e =
+    let two = and_parts _ _ e in
+    let one = and_parts _ _ two.0 in
+    (same_true _ _ one.0, same_true _ _ one.1, same_true _ _ two.1)
+
 even_roles : (g h : Shape) (v u i : ℕ) → same_role g v h i ≡ true → same_role g u h i ≡ true → Even g v u
 even_roles g h v u i a b =
-    let a2 = and_parts (same (has (controls g) v) (has (controls h) i) && same (has (wanted g) v) (has (wanted h) i)) (same (eqb v (target_of g)) (eqb i (target_of h))) a in
-    let b2 = and_parts (same (has (controls g) u) (has (controls h) i) && same (has (wanted g) u) (has (wanted h) i)) (same (eqb u (target_of g)) (eqb i (target_of h))) b in
-    let a1 = and_parts (same (has (controls g) v) (has (controls h) i)) (same (has (wanted g) v) (has (wanted h) i)) a2.0 in
-    let b1 = and_parts (same (has (controls g) u) (has (controls h) i)) (same (has (wanted g) u) (has (wanted h) i)) b2.0 in
-    record {
-      control = same_true _ _ a1.0 ∙ sym (same_true _ _ b1.0);
-      value = same_true _ _ a1.1 ∙ sym (same_true _ _ b1.1);
-      target = same_true _ _ a2.1 ∙ sym (same_true _ _ b2.1);
-    }
+    let p = role_parts g h v i a in
+    let q = role_parts g h u i b in
+    record { control = p.0 ∙ sym q.0; value = p.1 ∙ sym q.1; target = p.2 ∙ sym q.2 }
 
 even_touches : (g : Shape) (v u : ℕ) → IsFlip g → Even g v u → touches g v ≡ touches g u
 even_touches g v u h h1 = grind arith
@@ -169,9 +168,29 @@ length-gone_on : (to : List ℕ) (i v : ℕ) (rest : List ℕ) → length to ≡
 length-gone_on to i v rest len h r =
     omega (arith, length-append (take i to ++ (v ∷ [])) rest, length-append (take i to) (v ∷ []), length-take-le i to (omega arith), r)
 
-plain_at : (own : ℕ) (to : List ℕ) (j : ℕ) → zero_elsewhere own to ≡ true → j < 6 → (has own j || eqb (new_line to j) 0) ≡ true
-unfolding zero_elsewhere
-plain_at own to j e h = all_below-at (λ i. has own i || eqb (new_line to i) 0) 6 j e h
+-- what holds of each line of two renamings that go on from one with a line each
+both_lines : (P : ℕ → ℕ → ℕ → Type 0) (to : List ℕ) (i u v : ℕ) (rest rest2 : List ℕ) → length to ≡ 6 → i < 6 → length rest ≡ 6 - (i + 1) → ((j : ℕ) → j < i → P j (new_line to j) (new_line to j)) → P i u v
+    → ((d : ℕ) → d < length rest → P (suc i + d) (new_line rest d) (new_line rest2 d)) → (j : ℕ) → j < 6 → P j (new_line (gone_on to i u rest) j) (new_line (gone_on to i v rest2) j)
+both_lines P to i u v rest rest2 len h lr before here after j hj =
+    elim (cases_lt j i) [
+      | inl lt ↦ rw (line_before to i u j rest len h lt, line_before to i v j rest2 len h lt) (before j lt)
+      | inr ge ↦ (elim (cases_eq j i) [
+        | inl s ↦ rw (s, next_line to i u rest len h, next_line to i v rest2 len h) here
+        | inr ne ↦
+            let d : ℕ = j - suc i in
+            let at : j ≡ suc i + d = omega arith in
+            let there : j ≡ suc (i + d) = omega arith in
+            let x : new_line (gone_on to i u rest) j ≡ new_line rest d = ap (new_line (gone_on to i u rest)) there ∙ line_after to i u d rest len h in
+            let y : new_line (gone_on to i v rest2) j ≡ new_line rest2 d = ap (new_line (gone_on to i v rest2)) there ∙ line_after to i v d rest2 len h in
+            rw (x, y) (subst (λ (k : ℕ). P k (new_line rest d) (new_line rest2 d)) (sym at) (after d (omega arith)))
+      ])
+    ]
+
+-- one line of two renamings, before and after the trade
+record Trades (own v u j x y : ℕ) : Type 0 where
+  low : x < MOST_LINES
+  on : has own j ≡ true → y ≡ traded v u x
+  off : has own j ≡ false → y ≡ x
 
 trade_from : (window template : List Shape) (to : List ℕ) (i v u : ℕ) (rest : List ℕ) → length to ≡ 6 → i < 6 → ((j : ℕ) → j < 6 → new_line to j < MOST_LINES) → v < MOST_LINES → u < MOST_LINES → length rest ≡ 6 - (i + 1)
     → Small rest → has (span template) i ≡ true → ((j : ℕ) → j < i → has (span template) j ≡ true → new_line to j ≢ v) → allowed window template (gone_on to i u rest) ≡ true
@@ -180,71 +199,31 @@ trade_from window template to i v u rest len h lines hv hu lr small on unused e 
     let own : ℕ = span template in
     let old : List ℕ = gone_on to i u rest in
     let rest2 : List ℕ = traded_rest own v u (suc i) rest in
-    let new : List ℕ = gone_on to i v rest2 in
     let a = allowed_parts window template old e in
-    let each : (j : ℕ) → j < 6 → has own j ≡ true → new_line new j ≡ traded v u (new_line old j) = λ j hj oj.
-    elim (cases_lt j i) [
-      | inl lt ↦
-          let here : new_line old j ≡ new_line to j = line_before to i u j rest len h lt in
-          let not_u : new_line to j ≢ u = λ s.
-          let same : j ≡ i = apart_from own old a.distinct j i hj h oj on (here ∙ s ∙ sym (next_line to i u rest len h)) in
-          omega (arith, same) in
-          line_before to i v j rest2 len h lt ∙ sym (traded_other v u (new_line to j) (unused j lt oj) not_u) ∙ ap (traded v u) (sym here)
-      | inr ge ↦ (elim (cases_eq j i) [
-        | inl s ↦
-            ap (new_line new) s ∙ next_line to i v rest2 len h ∙ sym (traded_right v u) ∙ ap (traded v u) (sym (next_line to i u rest len h)) ∙ ap (λ n. traded v u (new_line old n)) (sym s)
-        | inr ne ↦
-            let d : ℕ = j - suc i in
-            let at : j ≡ suc (i + d) = omega arith in
-            let same : j ≡ suc i + d = omega arith in
-            let own_d : has own (suc i + d) ≡ true = ap (has own) (sym same) ∙ oj in
-            ap (new_line new) at ∙ line_after to i v d rest2 len h ∙ rest_at own v u (suc i) d rest (omega arith)
-            ∙ cond-true (has own (suc i + d)) (traded v u (new_line rest d)) (new_line rest d) own_d
-            ∙ ap (traded v u) (sym (line_after to i u d rest len h)) ∙ ap (λ n. traded v u (new_line old n)) (sym at)
-      ])
-    ] in
-    let zero_at : (j : ℕ) → j < 6 → has own j ≡ false → new_line old j ≡ 0 = λ j hj off.
-    elim (or_cases (has own j) (eqb (new_line old j) 0) (plain_at own old j a.zero_elsewhere hj)) [
-      | inl t ↦ absurd (false≢true (sym off ∙ t))
-      | inr z ↦ eqb-true _ 0 z
-    ] in
-    let off : (j : ℕ) → j < 6 → has own j ≡ false → new_line new j ≡ 0 = λ j hj none.
-    elim (cases_lt j i) [
-      | inl lt ↦ line_before to i v j rest2 len h lt ∙ sym (line_before to i u j rest len h lt) ∙ zero_at j hj none
-      | inr ge ↦ (elim (cases_eq j i) [
-        | inl s ↦ absurd (false≢true (sym none ∙ ap (has own) s ∙ on))
-        | inr ne ↦
-            let d : ℕ = j - suc i in
-            let at : j ≡ suc (i + d) = omega arith in
-            let same : j ≡ suc i + d = omega arith in
-            let own_d : has own (suc i + d) ≡ false = ap (has own) (sym same) ∙ none in
-            ap (new_line new) at ∙ line_after to i v d rest2 len h ∙ rest_at own v u (suc i) d rest (omega arith)
-            ∙ cond-false (has own (suc i + d)) (traded v u (new_line rest d)) (new_line rest d) own_d
-            ∙ sym (line_after to i u d rest len h) ∙ ap (new_line old) (sym at) ∙ zero_at j hj none
-      ])
-    ] in
-    let old_lines : (j : ℕ) → j < 6 → new_line old j < MOST_LINES = λ j hj.
-    elim (cases_lt j i) [
-      | inl lt ↦ let s = line_before to i u j rest len h lt in let l = lines j hj in omega (arith, s, l)
-      | inr ge ↦ (elim (cases_eq j i) [
-        | inl s ↦ let t = ap (new_line old) s ∙ next_line to i u rest len h in omega (arith, t, hu)
-        | inr ne ↦
-            let d : ℕ = j - suc i in
-            let at : j ≡ suc (i + d) = omega arith in
-            let t = ap (new_line old) at ∙ line_after to i u d rest len h in
-            let l = small_at rest d small (omega arith) in
-            omega (arith, t, l)
-      ])
-    ] in
+    let not_u : (j : ℕ) → j < i → has own j ≡ true → new_line to j ≢ u = λ j lt oj s.
+    let same = apart_from own old a.distinct j i (omega arith) h oj on (line_before to i u j rest len h lt ∙ s ∙ sym (next_line to i u rest len h)) in
+    omega (arith, same) in
+    let each : (j : ℕ) → j < 6 → Trades own v u j (new_line old j) (new_line (gone_on to i v rest2) j) =
+    both_lines (Trades own v u) to i u v rest rest2 len h lr
+    (λ j lt. record { low = lines j (omega arith); on = λ oj. sym (traded_other v u (new_line to j) (unused j lt oj) (not_u j lt oj)); off = λ _. refl })
+    (record { low = hu; on = λ _. sym (traded_right v u); off = λ none. absurd (false≢true (sym none ∙ on)) })
+    (λ d lt.
+    let at = rest_at own v u (suc i) d rest lt in
+    record {
+      low = small_at rest d small lt;
+      on = λ oj. at ∙ cond-true (has own (suc i + d)) (traded v u (new_line rest d)) (new_line rest d) oj;
+      off = λ none. at ∙ cond-false (has own (suc i + d)) (traded v u (new_line rest d)) (new_line rest d) none;
+    }) in
+    let off : (j : ℕ) → j < 6 → has own j ≡ false → new_line (gone_on to i v rest2) j ≡ 0 = λ j hj none. (each j hj).off none ∙ plain_at own old j a.zero_elsewhere hj none in
     record {
       six = length-gone_on to i v rest2 len h (length-traded_rest own v u (suc i) rest ∙ lr);
       lines = λ j hj.
           elim (cases_Bool (has own j)) [
-            | inl oj ↦ let t = each j hj oj in let l = traded_below MOST_LINES v u (new_line old j) hv hu (old_lines j hj) in omega (arith, t, l)
+            | inl oj ↦ let t = (each j hj).on oj in let l = traded_below MOST_LINES v u (new_line old j) hv hu (each j hj).low in omega (arith, t, l)
             | inr none ↦ let t = off j hj none in omega (arith, t)
           ];
       off = off;
-      each = each;
+      each = λ j hj. (each j hj).on;
     }
 
 -- ---- the search

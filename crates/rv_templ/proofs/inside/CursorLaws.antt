@@ -14,7 +14,7 @@ use Rattle.rv_templ.proofs.inside.WindowSteps.{front_same}
 
 -- ---- the node at a place
 
-none_in : (nodes : List Node) → None ≡ head (ids_in nodes) → nodes ≡ []
+pub none_in : (nodes : List Node) → None ≡ head (ids_in nodes) → nodes ≡ []
 none_in [] e = refl
 none_in (n ∷ rest) e = absurd (none-some n.id e)
 

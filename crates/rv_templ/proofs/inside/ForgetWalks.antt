@@ -1,22 +1,20 @@
 -- The walks on which notes go.
 use Rattle.std.proofs.Common.{◌≡◌, ◌≢◌, ℕ, ◌+◌, ◌-◌, ◌≤◌, true, false, eqb, List, [], ◌∷◌, ◌++◌, length, take, drop, refl, sym, ◌∙◌, ap, inl, inr, arith, subst, append_assoc, length-append, take-append-drop, length-drop}
-use Rattle.std.specs.Prelude.{◌⊎◌, Option, Some, None, IfSome}
-use Rattle.rv_links.specs.Doubt.{IsBefore}
-use Rattle.rv_links.proofs.inside.WindowLemmas.{live_first, live_after}
+use Rattle.std.specs.Prelude.{◌⊎◌, Option, Some, None}
 use Rattle.std.proofs.Math.Seq.{drop-append_seam, take-add}
 use Rattle.std.proofs.lemmas.Bool.{or_parts, or_from}
 use Rattle.std.proofs.lemmas.List.{append-nil, length-take-le, take_all, drop-drop}
 use Rattle.rv_gate.specs.declared.gate.Shape.{Shape}
-use Rattle.rv_links.specs.Order.{lists, head, next_in, NoTwice, Rising}
+use Rattle.rv_links.specs.Order.{lists, head, next_in, NoTwice}
 use Rattle.rv_links.specs.Nodes.{Node, ids_in, live, node_gate, noted}
 use Rattle.rv_templ.specs.Pairs.{paired}
 use Rattle.rv_templ.specs.declared.joining.Joined.{Joined}
 use Rattle.rv_templ.specs.inside.Joins.{option_of}
 use Rattle.rv_templ.specs.inside.Mates.{Joinless, IsPairSpot}
 use Rattle.rv_templ.specs.inside.Notes.{Fewer, NoneNoted, Kept}
-use Rattle.rv_templ.proofs.inside.CursorLaws.{all_passed}
+use Rattle.rv_templ.proofs.inside.CursorLaws.{all_passed, none_in}
 use Rattle.rv_templ.proofs.inside.LinkedWindows.{head_at, node_more}
-use Rattle.rv_templ.proofs.NodeLists.{head_least, next_least, walk_more, apart}
+use Rattle.rv_templ.proofs.NodeLists.{apart}
 use Rattle.rv_templ.proofs.inside.LinkedPairs.{place_is, second_here}
 use Rattle.rv_templ.proofs.inside.NoteLaws.{kept_split, kept_append, fewer_kept, fewer_unknown, unknown_append}
 use Rattle.rv_templ.proofs.inside.NotesAfter.{drop_within}
@@ -77,10 +75,6 @@ near_found nodes notes low a b x made at gates first second xs ys d le w e same 
     let rest : w.seen ≡ drop low xs = sym (drop-append_seam front w.seen) ∙ ap (λ k. drop k (front ++ w.seen)) (length-take-le low nodes le) ∙ ap (drop low) is in
     subst (λ (l : List Node). Kept notes first second gates l) rest (w.kept gates first second eo ea eb)
 
-none_in : (after : List Node) → None ≡ head (ids_in after) → after ≡ []
-none_in [] e = refl
-none_in (n ∷ rest) e = absurd cc
-
 pub near_end : (nodes : List Node) (notes : List ℕ) (low a b : ℕ) (made : Joined) (at : Option ℕ) (gates : List Shape) (first second : Node) (xs ys : List Node) → low ≤ length nodes → Near nodes notes low a b made at
     → at ≡ None → option_of made ≡ Some gates → first.id ≡ a → second.id ≡ b → low ≤ length xs → nodes ≡ xs ++ (second ∷ ys) → Kept notes first second gates (drop low xs)
 near_end nodes notes low a b made at gates first second xs ys le w e eo ea eb within s =
@@ -90,29 +84,9 @@ near_end nodes notes low a b made at gates first second xs ys le w e eo ea eb wi
     sym (drop-append_seam front w.seen) ∙ ap (λ k. drop k (front ++ w.seen)) (length-take-le low nodes le) ∙ ap (drop low) (sym whole ∙ s) ∙ drop_within low xs (second ∷ ys) within in
     (kept_split notes first second gates (drop low xs) (second ∷ ys) (subst (λ (l : List Node). Kept notes first second gates l) rest (w.kept gates first second eo ea eb))).0
 
--- ---- from the front
-
--- those so far have no note, or do not join
-pub record Loosening (nodes : List Node) (notes : List ℕ) (new : Shape) (at : Option ℕ) : Type 0 where
-  pub on : IfSome at (λ b. live b nodes ≡ true)
-  pub loose : (x : ℕ) → live x nodes ≡ true → IsBefore x at → (noted x notes ≡ 0) ⊎ (paired (node_gate x nodes) new ≡ None)
-
-pub loose_start : (nodes : List Node) (notes : List ℕ) (new : Shape) (at : Option ℕ) → Rising (ids_in nodes) → at ≡ head (ids_in nodes) → Loosening nodes notes new at
-loose_start nodes notes new at r e = record { on = live_first nodes at e; loose = λ x l b. absurd (head_least nodes x r l (subst (λ (o : Option ℕ). IsBefore x o) e b)) }
-
-pub loose_as : (nodes : List Node) (notes : List ℕ) (new : Shape) (at o : Option ℕ) → at ≡ o → Loosening nodes notes new at → Loosening nodes notes new o
-loose_as nodes notes new at o e k = subst (λ (p : Option ℕ). Loosening nodes notes new p) e k
-
-pub loose_more : (nodes : List Node) (old notes : List ℕ) (new : Shape) (x : ℕ) (at next : Option ℕ) → Rising (ids_in nodes) → NoTwice (ids_in nodes) → at ≡ Some x → Loosening nodes old new at → Fewer old notes
-    → (noted x notes ≡ 0) ⊎ (paired (node_gate x nodes) new ≡ None) → next ≡ next_in x (ids_in nodes) → Loosening nodes notes new next
-loose_more nodes old notes new x at next r d e k f here en =
-    let w = loose_as nodes old new at (Some x) e k in
-    record {
-      on = live_after x nodes next d en;
-      loose = walk_more (λ y. (noted y notes ≡ 0) ⊎ (paired (node_gate y nodes) new ≡ None)) nodes x next
-          (λ y l lt. elim (w.loose y l lt) [ inl z ↦ inl (elim (f y) [ inl gone ↦ gone | inr same ↦ same ∙ z ]) | inr p ↦ inr p ]) here
-          (λ y l q p. absurd (next_least nodes x next r d w.on en y l q p));
-    }
+-- a note that is gone, or whose gate does not join, stays so where others go
+pub loose_still : (old new : List ℕ) (g h : Shape) (x : ℕ) → Fewer old new → (noted x old ≡ 0) ⊎ (paired g h ≡ None) → (noted x new ≡ 0) ⊎ (paired g h ≡ None)
+loose_still old new g h x f k = elim k [ inl z ↦ inl (elim (f x) [ inl gone ↦ gone | inr same ↦ same ∙ z ]) | inr p ↦ inr p ]
 
 -- ---- so many from a place on
 

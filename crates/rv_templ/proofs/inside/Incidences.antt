@@ -1,5 +1,5 @@
 -- How many lines gates touch, in sum.
-use Rattle.std.proofs.Common.{◌≡◌, ℕ, zero, suc, ◌+◌, ◌*◌, ◌/◌, ◌%◌, ◌^◌, ◌≤◌, true, ◌||◌, List, [], ◌∷◌, ◌++◌, length, reverse, refl, sym, ◌∙◌, ap, inl, inr, arith, pow_pos}
+use Rattle.std.proofs.Common.{◌≡◌, ℕ, zero, suc, ◌+◌, ◌*◌, ◌/◌, ◌^◌, ◌≤◌, Bool, true, cond, ◌||◌, List, [], ◌∷◌, ◌++◌, length, reverse, refl, sym, ◌∙◌, ap, inl, inr, arith, pow_pos}
 use Rattle.std.specs.Prelude.{◌≢◌, count_ones, Option, Some, None}
 use Rattle.std.proofs.lemmas.Bool.{cases_eq}
 use Rattle.std.proofs.lemmas.List.{reverse-append}
@@ -11,7 +11,8 @@ use Rattle.rv_templ.specs.inside.Sums.{sum_below}
 use Rattle.rv_templ.specs.Gates.{gate_in}
 use Rattle.rv_templ.specs.Pairs.{lone}
 use Rattle.rv_templ.proofs.JoinLaws.{lone_is}
-use Rattle.rv_gate.proofs.CountOnes.{ones_halves, has_half}
+use Rattle.rv_gate.proofs.CountOnes.{ones_halves, has_half, low_bit}
+use Rattle.rv_gate.proofs.LineSets.{has-none}
 
 pub incidences-cons : (g : Shape) (rest : List Shape) → incidences (g ∷ rest) ≡ incidence g + incidences rest
 unfolding incidences
@@ -50,20 +51,25 @@ unfolding sum_below incidences
 incidences-sum [] = refl
 incidences-sum (g ∷ rest) = ap (λ s. incidence g + s) (incidences-sum rest) ∙ sym (sum_shift (size_at (g ∷ rest)) (length rest))
 
--- ---- a set within two others
+-- ---- sets line by line
 
-low_ones : (p q r : ℕ) → (has p 0 ≡ true → (has q 0 || has r 0) ≡ true) → p % 2 ≤ q % 2 + r % 2
-low_ones p q r h = grind arith
+-- how often a set has a line
+abbrev pub times : ℕ → ℕ → ℕ
+times set line = cond (has set line) 1 0
 
-ones_within : (k p q r : ℕ) → p ≤ k → ((i : ℕ) → has p i ≡ true → (has q i || has r i) ≡ true) → count_ones p ≤ count_ones q + count_ones r
-ones_within zero p q r le h = let s : count_ones p ≤ p = ones_le_self p in omega arith
-ones_within (suc k) p q r le h =
-    let rest = ones_within k (p / 2) (q / 2) (r / 2) (omega arith) (λ i on. rw (has_half q i, has_half r i) (h (suc i) (sym (has_half p i) ∙ on))) in
-    let low = low_ones p q r (h 0) in
-    omega (arith, ones_halves p, ones_halves q, ones_halves r)
+-- two sets that have no line more often than two others have no more lines in sum
+pub ones_law : (k p q a b : ℕ) → p ≤ k → q ≤ k → ((i : ℕ) → times p i + times q i ≤ times a i + times b i) → count_ones p + count_ones q ≤ count_ones a + count_ones b
+ones_law zero p q a b lp lq h = omega (arith, ones_le_self p, ones_le_self q)
+ones_law (suc k) p q a b lp lq h =
+    let rest = ones_law k (p / 2) (q / 2) (a / 2) (b / 2) (omega arith) (omega arith) (λ i. rw (has_half p i, has_half q i, has_half a i, has_half b i) (h (suc i))) in
+    omega (arith, h 0, rest, low_bit (has p 0) p refl, low_bit (has q 0) q refl, low_bit (has a 0) a refl, low_bit (has b 0) b refl, ones_halves p, ones_halves q, ones_halves a, ones_halves b)
 
+-- a set within two others
 pub count_ones-within : (p q r : ℕ) → ((i : ℕ) → has p i ≡ true → (has q i || has r i) ≡ true) → count_ones p ≤ count_ones q + count_ones r
-count_ones-within p q r h = ones_within p p q r (omega arith) h
+count_ones-within p q r h = let le = ones_law p p 0 q r (omega arith) (omega arith) (λ i. rw has-none (once (has p i) (has q i) (has r i) (h i))) in omega arith
+  where
+    once : (x y z : Bool) → (x ≡ true → (y || z) ≡ true) → cond x 1 0 + 0 ≤ cond y 1 0 + cond z 1 0
+    once x y z h = grind arith
 
 -- one line
 pub one_line : (n : ℕ) → count_ones (2 ^ n) ≡ 1

@@ -1,7 +1,7 @@
 -- What the chosen window is, and what its replacement keeps.
-use Rattle.std.proofs.Common.{◌≡◌, ℕ, zero, suc, ◌*◌, ◌<◌, ◌≤◌, true, false, ◌||◌, eqb, List, [], ◌++◌, length, take, drop, sym, ◌∙◌, ap, inl, inr, arith, subst, take-append-drop, length-append}
+use Rattle.std.proofs.Common.{◌≡◌, ℕ, zero, suc, ◌*◌, ◌<◌, ◌≤◌, true, List, [], ◌++◌, length, take, drop, sym, ◌∙◌, ap, inl, inr, arith, subst, take-append-drop, length-append}
 use Rattle.std.specs.Prelude.{Some}
-use Rattle.std.proofs.lemmas.Bool.{and_parts, leb-true, ltb-true, eqb-true, or_cases, false≢true}
+use Rattle.std.proofs.lemmas.Bool.{and_parts, leb-true, ltb-true}
 use Rattle.std.proofs.lemmas.Option.{none-some}
 use Rattle.std.proofs.lemmas.List.{length-take-le, take-map}
 use Rattle.rv_gate.specs.declared.word.TheConstants.{MOST_LINES}
@@ -9,14 +9,13 @@ use Rattle.rv_links.specs.Nodes.{incidences}
 use Rattle.rv_templ.specs.Gates.{AreGates, Same}
 use Rattle.rv_gate.specs.Word.{has}
 use Rattle.rv_gate.specs.declared.gate.Shape.{Shape}
-use Rattle.rv_templ.specs.Images.{span, turned, new_line, image_of, image, fresh_care, fresh_want, zero_elsewhere, others, allowed, replacement}
+use Rattle.rv_templ.specs.Images.{span, turned, image_of, image, fresh_care, fresh_want, others, allowed}
 use Rattle.rv_templ.specs.Templates.{AreTemplates}
 use Rattle.rv_templ.specs.Choices.{renaming, template_in, at_turn, at_template, at_count, at_most, window_at, after, Found}
 use Rattle.rv_templ.specs.Windows.{IsWindow}
-use Rattle.rv_templ.specs.inside.Replaced.{Improves, want_found, care_found}
+use Rattle.rv_templ.specs.inside.Replaced.{Here, Improves, gates_for, want_found, care_found}
 use Rattle.rv_templ.proofs.inside.FoldLemmas.{first_some}
-use Rattle.rv_gate.proofs.AllBelow.{all_below-at}
-use Rattle.rv_templ.proofs.WindowLaws.{allowed_parts, apart_from, window_is, turned_template, length-turned, span_turned, stands, replaces, shorter, replaced_same, within_at, span_from}
+use Rattle.rv_templ.proofs.WindowLaws.{plain_at, allowed_parts, apart_from, window_is, turned_template, length-turned, span_turned, stands, replaces, shorter, replaced_same, within_at, span_from}
 use Rattle.rv_templ.proofs.GateLists.{AreGates-first, AreGates-last, AreGates-append}
 use Rattle.rv_templ.proofs.inside.Incidences.{incidences-append, incidences-reverse}
 use Rattle.rv_templ.proofs.inside.ChoiceLemmas.{are_at}
@@ -85,58 +84,60 @@ chosen gates library found e =
 
 -- ---- what it keeps
 
-pub kept : (n : ℕ) (gates : List Shape) (library : List (List Shape)) (found : Found) → AreTemplates library → n ≤ MOST_LINES → AreGates n gates → Chosen gates library found
-    → Improves n gates (after gates library found)
-kept n gates library found are most good c =
-    let t : List Shape = turned found.turn (template_in library found.template) in
-    let k : ℕ = found.count in
-    let window : List Shape = take found.count gates in
-    let rest : List Shape = drop found.count gates in
-    let whole : take found.count gates ++ drop found.count gates ≡ gates = take-append-drop found.count gates in
-    let g2 : AreGates n (take found.count gates ++ drop found.count gates) = subst (λ (l : List Shape). AreGates n l) (sym whole) good in
-    let len : length (take found.count gates) ≡ found.count = length-take-le found.count gates c.here in
-    let len_t : length t ≡ length (template_in library found.template) = length-turned found.turn (template_in library found.template) in
-    let is = turned_template found.turn (template_in library found.template) (are_at library found.template are c.template) in
-    let some : 0 < length window = let a = c.some in omega (arith, len) in
-    let room : length window ≤ length t = let a = c.most in omega (arith, len, len_t) in
-    let half : length t < 2 * length window = let a = c.half in omega (arith, len, len_t) in
-    let new : List Shape = replacement window t found.lines in
-    let r = replaces n window t found.lines (AreGates-first n window rest g2) most is some room c.allowed in
-    let a = allowed_parts window t found.lines c.allowed in
-    let s = shorter window t found.lines half in
-    let inc = incidences-reverse (others (length window) t found.lines (fresh_care window (span t) found.lines) (fresh_want window (span t) found.lines)) in
-    let few = leb-true _ _ a.fewer in
-    record {
-      same = subst (λ (l : List Shape). Same n l (new ++ rest)) whole (replaced_same n window new rest r.same);
-      good = AreGates-append n new rest r.good (AreGates-last n window rest g2);
-      fewer = omega (arith, s, length-append new rest, length-append window rest, ap length whole);
-      no_more = omega (arith, inc, few, incidences-append new rest, incidences-append window rest, ap incidences whole);
-    }
-
-plain_at : (own : ℕ) (to : List ℕ) (i : ℕ) → zero_elsewhere own to ≡ true → i < 6 → has own i ≡ false → new_line to i ≡ 0
-unfolding zero_elsewhere
-plain_at own to i e h off =
-    elim (or_cases (has own i) (eqb (new_line to i) 0) (all_below-at (λ k. has own k || eqb (new_line to k) 0) 6 i e h)) [
-      | inl on ↦ absurd (false≢true (sym off ∙ on))
-      | inr z ↦ eqb-true _ 0 z
-    ]
-
-pub is_window : (n : ℕ) (gates : List Shape) (library : List (List Shape)) (found : Found) → AreTemplates library → n ≤ MOST_LINES → AreGates n gates → Chosen gates library found
-    → IsWindow gates library found (care_found gates library found) (want_found gates library found)
-is_window n gates library found are most good c =
+pub here : (n : ℕ) (library : List (List Shape)) (gates : List Shape) (found : Found) → AreTemplates library → n ≤ MOST_LINES → AreGates n gates → window_at gates library ≡ Some found
+    → Here n library gates found
+here n library gates found are most good e =
+    let c = chosen gates library found e in
     let t0 : List Shape = template_in library found.template in
     let t : List Shape = turned found.turn (template_in library found.template) in
     let window : List Shape = take found.count gates in
-    let rest : List Shape = drop found.count gates in
-    let whole : take found.count gates ++ drop found.count gates ≡ gates = take-append-drop found.count gates in
-    let g2 : AreGates n (take found.count gates ++ drop found.count gates) = subst (λ (l : List Shape). AreGates n l) (sym whole) good in
     let len : length (take found.count gates) ≡ found.count = length-take-le found.count gates c.here in
     let len_t : length t ≡ length t0 = length-turned found.turn t0 in
-    let is = turned_template found.turn (template_in library found.template) (are_at library found.template are c.template) in
+    let g : AreGates n window = AreGates-first n window (drop found.count gates) (subst (λ (l : List Shape). AreGates n l) (sym (take-append-drop found.count gates)) good) in
+    let is = are_at library found.template are c.template in
     let some : 0 < length window = let a = c.some in omega (arith, len) in
-    let room : length window ≤ length t = let a = c.most in omega (arith, len, len_t) in
+    let room : length window ≤ length t0 = let a = c.most in omega (arith, len) in
+    let half : length t < 2 * length window = let a = c.half in omega (arith, len, len_t) in
+    let s = shorter window t found.lines half in
+    let a = allowed_parts window t found.lines c.allowed in
+    let r = replaces n window t found.lines g most (turned_template found.turn t0 is) some (omega (arith, room, len_t)) c.allowed in
+    record {
+      count = let few = is.few in omega (arith, room, len);
+      here = c.here;
+      template = c.template;
+      lines = λ i h. small_at found.lines i c.small (omega (arith, h, c.six));
+      replaced = record { template = is; turn = c.turn; some = some; room = room; passes = c.allowed; lines = n; most = most; good = g };
+      same = r.same;
+      good = r.good;
+      fewer = omega (arith, s, len);
+      no_more = let few = leb-true _ _ a.fewer in let i = incidences-reverse (others (length window) t found.lines (fresh_care window (span t) found.lines) (fresh_want window (span t) found.lines)) in omega (arith, few, i);
+    }
+
+pub kept : (n : ℕ) (gates : List Shape) (library : List (List Shape)) (found : Found) → AreGates n gates → Here n library gates found → Improves n gates (after gates library found)
+kept n gates library found good h =
+    let window : List Shape = take found.count gates in
+    let rest : List Shape = drop found.count gates in
+    let new : List Shape = gates_for gates library found in
+    let whole : window ++ rest ≡ gates = take-append-drop found.count gates in
+    let len = length-take-le found.count gates h.here in
+    record {
+      same = subst (λ (l : List Shape). Same n l (new ++ rest)) whole (replaced_same n window new rest h.same);
+      good = AreGates-append n new rest h.good (AreGates-last n window rest (subst (λ (l : List Shape). AreGates n l) (sym whole) good));
+      fewer = omega (arith, h.fewer, len, length-append new rest, length-append window rest, ap length whole);
+      no_more = omega (arith, h.no_more, incidences-append new rest, incidences-append window rest, ap incidences whole);
+    }
+
+pub is_window : (n : ℕ) (gates : List Shape) (library : List (List Shape)) (found : Found) → Chosen gates library found → Here n library gates found
+    → IsWindow gates library found (care_found gates library found) (want_found gates library found)
+is_window n gates library found c h =
+    let t0 : List Shape = template_in library found.template in
+    let t : List Shape = turned found.turn (template_in library found.template) in
+    let window : List Shape = take found.count gates in
+    let w = h.replaced in
+    let len : length (take found.count gates) ≡ found.count = length-take-le found.count gates c.here in
+    let room : length window ≤ length t = let a = w.room in omega (arith, length-turned found.turn t0) in
     let own : span t ≡ span t0 = span_turned found.turn t0 in
-    let st = stands n window t found.lines (AreGates-first n window rest g2) most is some room c.allowed in
+    let st = stands w.lines window t found.lines w.good w.most (turned_template found.turn t0 w.template) w.some room c.allowed in
     let a = allowed_parts window t found.lines c.allowed in
     let care : ℕ = fresh_care window (span t) found.lines in
     let want : ℕ = fresh_want window (span t) found.lines in

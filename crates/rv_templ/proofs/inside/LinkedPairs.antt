@@ -2,7 +2,7 @@
 use Rattle.std.proofs.Common.{arith}
 use Rattle.std.proofs.lemmas.Grind.{common_steps}
 use Rattle.std.proofs.Common.{◌≡◌, ℕ, true, false, eqb, List, map, [], ◌∷◌, ◌++◌, length, take, drop, refl, sym, ◌∙◌, ap, subst, append_assoc}
-use Rattle.std.specs.Prelude.{Option, Some}
+use Rattle.std.specs.Prelude.{Some}
 use Rattle.std.proofs.lemmas.Option.{same_Some}
 use Rattle.std.proofs.lemmas.Bool.{or_parts, or_from}
 use Rattle.std.proofs.lemmas.List.{map-append, length-map}
@@ -11,12 +11,11 @@ use Rattle.rv_templ.specs.Gates.{AreGates}
 use Rattle.rv_gate.specs.declared.gate.Shape.{Shape}
 use Rattle.rv_links.specs.Order.{lists, head, NoTwice}
 use Rattle.rv_links.specs.Nodes.{Node, ids_in, live, node_gate, erased, regated, gates_in}
-use Rattle.rv_templ.specs.Pairs.{paired}
 use Rattle.rv_templ.specs.inside.Mates.{Mate, IsPairSpot, mated}
 use Rattle.rv_templ.specs.inside.Notes.{node_of, coupled}
 use Rattle.rv_templ.proofs.JoinLaws.{joined_sound}
 use Rattle.rv_templ.proofs.GateLists.{AreGates-last}
-use Rattle.rv_templ.proofs.NodeLists.{apart, listed_at, gone_at, regated_at, gate_at_node}
+use Rattle.rv_templ.proofs.NodeLists.{apart, listed_at, gone_at, regated_at, gate_split}
 
 -- the nodes of a pair
 abbrev pub row : List Node → Node → List Node → Node → List Node → List Node
@@ -33,15 +32,10 @@ pub second_live : (nodes : List Node) (a b : ℕ) → Mate nodes a b → live b 
 second_live nodes a b m = grind (arith, regroup, listed_at)
 
 pub first_is : (nodes : List Node) (a b : ℕ) (m : Mate nodes a b) → NoTwice (ids_in nodes) → node_gate a nodes ≡ m.first.gate
-first_is nodes a b m d =
-    ap (node_gate a) m.split ∙ ap (λ x. node_gate x (row m.before m.first m.between m.second m.after)) (sym m.is_first)
-    ∙ gate_at_node m.before m.first (m.between ++ (m.second ∷ m.after)) (apart m.before m.first (m.between ++ (m.second ∷ m.after)) (subst (λ (l : List Node). NoTwice (ids_in l)) m.split d))
+first_is nodes a b m d = gate_split nodes m.before m.first (m.between ++ (m.second ∷ m.after)) a d m.split m.is_first
 
 pub second_is : (nodes : List Node) (a b : ℕ) (m : Mate nodes a b) → NoTwice (ids_in nodes) → node_gate b nodes ≡ m.second.gate
-second_is nodes a b m d =
-    let s : nodes ≡ (m.before ++ (m.first ∷ m.between)) ++ (m.second ∷ m.after) = m.split ∙ regroup m.before m.between m.after m.first m.second in
-    ap (node_gate b) s ∙ ap (λ x. node_gate x ((m.before ++ (m.first ∷ m.between)) ++ (m.second ∷ m.after))) (sym m.is_second)
-    ∙ gate_at_node (m.before ++ (m.first ∷ m.between)) m.second m.after (apart (m.before ++ (m.first ∷ m.between)) m.second m.after (subst (λ (l : List Node). NoTwice (ids_in l)) s d))
+second_is nodes a b m d = gate_split nodes (m.before ++ (m.first ∷ m.between)) m.second m.after b d (m.split ∙ regroup m.before m.between m.after m.first m.second) m.is_second
 
 -- ---- a pair is made
 
@@ -69,27 +63,19 @@ pub still_live : (nodes new : List Node) (a b : ℕ) → NoTwice (ids_in nodes) 
 still_live nodes new a b d m e =
     ap (live b) (e ∙ first_gone nodes a b m d) ∙ ap (λ x. live x ((m.before ++ m.between) ++ (m.second ∷ m.after))) (sym m.is_second) ∙ listed_at (m.before ++ m.between) m.second m.after
 
-pub both_gone : (nodes one two : List Node) (a b : ℕ) (m : Mate nodes a b) (g h : Shape) → NoTwice (ids_in nodes) → g ≡ node_gate a nodes → h ≡ node_gate b nodes → Some [] ≡ paired g h
-    → one ≡ erased a nodes → two ≡ erased b one → two ≡ coupled nodes a b m
-both_gone nodes one two a b m g h d eg eh j e1 e2 =
-    let empty : [] ≡ m.gates = same_Some [] m.gates (j ∙ ap (λ x. paired x h) (eg ∙ first_is nodes a b m d) ∙ ap (paired m.first.gate) (eh ∙ second_is nodes a b m d) ∙ m.join) in
+pub both_gone : (nodes one two : List Node) (a b : ℕ) (m : Mate nodes a b) → NoTwice (ids_in nodes) → Some [] ≡ Some m.gates → one ≡ erased a nodes → two ≡ erased b one → two ≡ coupled nodes a b m
+both_gone nodes one two a b m d come e1 e2 =
     e2 ∙ ap (erased b) (e1 ∙ first_gone nodes a b m d) ∙ ap (λ x. erased x ((m.before ++ m.between) ++ (m.second ∷ m.after))) (sym m.is_second)
     ∙ gone_at (m.before ++ m.between) m.second m.after (second_apart nodes a b m d) ∙ append_assoc m.before m.between m.after
-    ∙ ap (λ l. m.before ++ (m.between ++ (map (node_of b) l ++ m.after))) empty
+    ∙ ap (λ l. m.before ++ (m.between ++ (map (node_of b) l ++ m.after))) (same_Some [] m.gates come)
 
-pub one_set : (nodes one two : List Node) (a b : ℕ) (m : Mate nodes a b) (g h k : Shape) → NoTwice (ids_in nodes) → g ≡ node_gate a nodes → h ≡ node_gate b nodes → Some (k ∷ []) ≡ paired g h
-    → one ≡ erased a nodes → two ≡ regated b k one → two ≡ coupled nodes a b m
-one_set nodes one two a b m g h k d eg eh j e1 e2 =
-    let single : k ∷ [] ≡ m.gates = same_Some (k ∷ []) m.gates (j ∙ ap (λ x. paired x h) (eg ∙ first_is nodes a b m d) ∙ ap (paired m.first.gate) (eh ∙ second_is nodes a b m d) ∙ m.join) in
+pub one_set : (nodes one two : List Node) (a b : ℕ) (m : Mate nodes a b) (k : Shape) → NoTwice (ids_in nodes) → Some (k ∷ []) ≡ Some m.gates → one ≡ erased a nodes → two ≡ regated b k one → two ≡ coupled nodes a b m
+one_set nodes one two a b m k d come e1 e2 =
     e2 ∙ ap (regated b k) (e1 ∙ first_gone nodes a b m d) ∙ ap (λ x. regated x k ((m.before ++ m.between) ++ (m.second ∷ m.after))) (sym m.is_second)
     ∙ regated_at (m.before ++ m.between) m.second m.after k (second_apart nodes a b m d)
     ∙ ap (λ x. (m.before ++ m.between) ++ (node_of x k ∷ m.after)) m.is_second
     ∙ append_assoc m.before m.between (node_of b k ∷ m.after)
-    ∙ ap (λ l. m.before ++ (m.between ++ (map (node_of b) l ++ m.after))) single
-
--- the place of a pair has its first node
-pub pair_here : (nodes : List Node) (place a b : ℕ) → IsPairSpot nodes place a b → Some a ≡ head (ids_in (drop place nodes))
-pair_here nodes place a b s = grind (arith, ids_in, drop-append_seam, length-map)
+    ∙ ap (λ l. m.before ++ (m.between ++ (map (node_of b) l ++ m.after))) (same_Some (k ∷ []) m.gates come)
 
 -- the gates of the pair, and the nodes before it, after it was made
 pub coupled_gates : (nodes : List Node) (a b : ℕ) (m : Mate nodes a b) → gates_in (coupled nodes a b m) ≡ mated nodes a b m
@@ -117,9 +103,6 @@ second_here nodes a b m =
     let xs : List Node = m.before ++ (m.first ∷ m.between) in
     sym (ap (λ l. head (ids_in (drop (length xs) l))) (before_second nodes a b m) ∙ ap (λ l. head (ids_in l)) (drop-append_seam xs (m.second ∷ m.after)) ∙ ap Some m.is_second)
 
-pub join_of : (nodes : List Node) (a b : ℕ) (m : Mate nodes a b) (g h : Shape) (o : Option (List Shape)) → NoTwice (ids_in nodes) → g ≡ node_gate a nodes → h ≡ node_gate b nodes → o ≡ paired g h → paired m.first.gate m.second.gate ≡ o
-join_of nodes a b m g h o d eg eh j = sym (j ∙ ap (λ x. paired x h) (eg ∙ first_is nodes a b m d) ∙ ap (paired m.first.gate) (eh ∙ second_is nodes a b m d))
-
 -- what the pair comes to fits the lines
 pub made_good : (n : ℕ) (nodes : List Node) (a b : ℕ) (m : Mate nodes a b) → AreGates n (gates_in nodes) → AreGates n m.gates
 made_good n nodes a b m good =
@@ -128,11 +111,6 @@ made_good n nodes a b m good =
     let one = AreGates-last n (gates_in m.before) (m.first.gate ∷ (gates_in m.between ++ (m.second.gate ∷ gates_in m.after))) (subst (λ (l : List Shape). AreGates n l) e good) in
     let two = AreGates-last n (gates_in m.between) (m.second.gate ∷ gates_in m.after) one.2 in
     (joined_sound m.first.gate m.second.gate n m.gates one.0 two.0 one.1 two.1 m.join).good
-
-pub one_good : (n : ℕ) (nodes : List Node) (a b : ℕ) (m : Mate nodes a b) (g h k : Shape) → AreGates n (gates_in nodes) → NoTwice (ids_in nodes) → g ≡ node_gate a nodes → h ≡ node_gate b nodes → Some (k ∷ []) ≡ paired g h → AreGates n (k ∷ [])
-one_good n nodes a b m g h k good d eg eh j =
-    let one : k ∷ [] ≡ m.gates = same_Some (k ∷ []) m.gates (j ∙ ap (λ x. paired x h) (eg ∙ first_is nodes a b m d) ∙ ap (paired m.first.gate) (eh ∙ second_is nodes a b m d) ∙ m.join) in
-    subst (λ (l : List Shape). AreGates n l) (sym one) (made_good n nodes a b m good)
 
 pub coupled_on : (old nodes new : List Node) (a b : ℕ) → old ≡ nodes → ((m : Mate old a b) → new ≡ coupled old a b m) → (m : Mate nodes a b) → new ≡ coupled nodes a b m
 coupled_on old nodes new a b e f = subst (λ (l : List Node). (m : Mate l a b) → new ≡ coupled l a b m) e f

@@ -1,31 +1,25 @@
 -- Windows of linked gates.
 use Rattle.std.proofs.lemmas.Grind.{common_steps}
-use Rattle.std.proofs.Common.{◌≡◌, ℕ, zero, suc, ◌+◌, ◌-◌, ◌*◌, ◌<◌, ◌≤◌, true, eqb, List, [], ◌∷◌, ◌++◌, length, take, drop, set, refl, sym, ◌∙◌, ap, inl, inr, arith, subst, eq-eqb, ne_eqb, append_assoc, take-append-drop, length-drop}
+use Rattle.std.proofs.Common.{◌≡◌, ℕ, zero, suc, ◌+◌, ◌-◌, ◌<◌, ◌≤◌, true, eqb, List, [], ◌∷◌, ◌++◌, length, take, drop, set, refl, sym, ◌∙◌, ap, inl, inr, arith, subst, eq-eqb, ne_eqb, append_assoc, take-append-drop, length-drop}
 use Rattle.std.specs.Prelude.{Option, Some, None}
-use Rattle.std.proofs.lemmas.Bool.{cases_eq, cond-true, cond-false, false≢true, leb-true, or_cases, eqb-true}
+use Rattle.std.proofs.lemmas.Bool.{cases_eq, cond-true, cond-false, false≢true, or_cases, eqb-true}
 use Rattle.std.proofs.lemmas.Option.{none-some, same_Some}
 use Rattle.std.proofs.lemmas.List.{take_more_set, length-take-le, drop-drop, length-map, append_cancel_right}
-use Rattle.rv_gate.specs.declared.word.TheConstants.{MOST_LINES}
 use Rattle.rv_templ.specs.Gates.{AreGates}
 use Rattle.rv_gate.specs.declared.gate.Shape.{Shape}
 use Rattle.rv_links.specs.Order.{lists, head, next_in, NoTwice}
 use Rattle.rv_links.specs.Nodes.{Node, Linkage, IsLinkage, ids_in, live, node_gate, from_node, with_gates, window_set, incidences, gates_in}
 use Rattle.rv_links.proofs.inside.WindowLemmas.{from_step}
-use Rattle.rv_templ.specs.Images.{span, turned, new_line, fresh_care, fresh_want, others, replacement}
 use Rattle.rv_templ.specs.Templates.{AreTemplates}
-use Rattle.rv_templ.specs.Choices.{window_at, after, template_in, Found}
-use Rattle.rv_templ.specs.inside.Replaced.{Replaced}
+use Rattle.rv_templ.specs.Choices.{window_at, after, Found}
+use Rattle.rv_templ.specs.inside.Replaced.{Here, gates_for}
 use Rattle.rv_templ.specs.inside.Clean.{Clean, IsSpot}
 use Rattle.rv_templ.specs.inside.Linking.{coming}
-use Rattle.rv_templ.proofs.WindowLaws.{allowed_parts, turned_template, length-turned, shorter, replaces}
-use Rattle.rv_templ.proofs.GateLists.{AreGates-first, AreGates-last}
+use Rattle.rv_templ.proofs.GateLists.{AreGates-last}
 use Rattle.std.proofs.Math.Seq.{drop-append_seam}
 use Rattle.rv_templ.proofs.NodeLists.{apart, next_at, window_at_node}
 use Rattle.rv_templ.proofs.LinkedGates.{linked_gates}
-use Rattle.rv_templ.proofs.inside.ChoiceLemmas.{are_at}
-use Rattle.rv_templ.proofs.MeaningLaws.{small_at}
-use Rattle.rv_templ.proofs.inside.KeepingLaws.{chosen}
-use Rattle.rv_templ.proofs.inside.Incidences.{incidences-reverse}
+use Rattle.rv_templ.proofs.inside.KeepingLaws.{here}
 
 -- ---- the gates to come
 
@@ -89,49 +83,10 @@ cut a c gs (n ∷ rest) on x y =
 
 -- ---- what was found
 
-pub record Here (n : ℕ) (library : List (List Shape)) (gates : List Shape) (found : Found) : Type 0 where
-  pub count : found.count ≤ 32
-  pub here : found.count ≤ length gates
-  pub template : found.template < length library
-  pub lines : (i : ℕ) → i < 6 → new_line found.lines i < MOST_LINES
-  pub replaced : Replaced (take found.count gates) (template_in library found.template) found.turn found.lines
-  pub good : AreGates n (replacement (take found.count gates) (turned found.turn (template_in library found.template)) found.lines)
-  pub fewer : length (replacement (take found.count gates) (turned found.turn (template_in library found.template)) found.lines) ≤ found.count
-  pub no_more : incidences (replacement (take found.count gates) (turned found.turn (template_in library found.template)) found.lines) ≤ incidences (take found.count gates)
-
-pub here : (n : ℕ) (library : List (List Shape)) (gates : List Shape) (found : Found) → AreTemplates library → n ≤ MOST_LINES → AreGates n gates → window_at gates library ≡ Some found
-    → Here n library gates found
-here n library gates found are most good e =
-    let c = chosen gates library found e in
-    let t0 : List Shape = template_in library found.template in
-    let t : List Shape = turned found.turn (template_in library found.template) in
-    let window : List Shape = take found.count gates in
-    let len : length (take found.count gates) ≡ found.count = length-take-le found.count gates c.here in
-    let len_t : length t ≡ length t0 = length-turned found.turn t0 in
-    let g : AreGates n window = AreGates-first n window (drop found.count gates) (subst (λ (l : List Shape). AreGates n l) (sym (take-append-drop found.count gates)) good) in
-    let is = are_at library found.template are c.template in
-    let some : 0 < length window = let a = c.some in omega (arith, len) in
-    let room : length window ≤ length t0 = let a = c.most in omega (arith, len) in
-    let half : length t < 2 * length window = let a = c.half in omega (arith, len, len_t) in
-    let s = shorter window t found.lines half in
-    let a = allowed_parts window t found.lines c.allowed in
-    let r = replaces n window t found.lines g most (turned_template found.turn t0 is) some (omega (arith, room, len_t)) c.allowed in
-    record {
-      count = let few = is.few in omega (arith, room, len);
-      here = c.here;
-      template = c.template;
-      lines = λ i h. small_at found.lines i c.small (omega (arith, h, c.six));
-      replaced = record { template = is; turn = c.turn; some = some; room = room; passes = c.allowed; lines = n; most = most; good = g };
-      good = r.good;
-      fewer = omega (arith, s, len);
-      no_more = let few = leb-true _ _ a.fewer in let i = incidences-reverse (others (length window) t found.lines (fresh_care window (span t) found.lines) (fresh_want window (span t) found.lines)) in omega (arith, few, i);
-    }
-
--- the replacement is no longer and touches no more lines
-pub takes_it : (n : ℕ) (library : List (List Shape)) (gates gs : List Shape) (found : Found) → Here n library gates found
-    → gs ≡ replacement (take found.count gates) (turned found.turn (template_in library found.template)) found.lines
-    → (length gs ≤ length (take found.count gates)) × (incidences gs ≤ incidences (take found.count gates))
-takes_it n library gates gs found h e = grind (arith, here, length-take-le)
+-- they are no more, and touch no more lines
+pub takes_it : (n : ℕ) (library : List (List Shape)) (gates : List Shape) (found : Found) → Here n library gates found
+    → (length (gates_for gates library found) ≤ length (take found.count gates)) × (incidences (gates_for gates library found) ≤ incidences (take found.count gates))
+takes_it n library gates found h = (omega (arith, h.fewer, length-take-le found.count gates h.here), h.no_more)
 
 pub spot_here : (l : Linkage) (library : List (List Shape)) (place a : ℕ) (found : Found) → IsLinkage l → AreTemplates library → IsSpot library l.nodes place a found
     → Here (length l.frame.names) library (coming (Some a) l.nodes) found
@@ -142,16 +97,14 @@ spot_here l library place a found valid are spot =
     here (length l.frame.names) library (coming (Some a) l.nodes) found are valid.circuit.names.few (subst (λ (g : List Shape). AreGates (length l.frame.names) g) (sym spot.here) good)
     (ap (λ g. window_at g library) spot.here ∙ spot.exact)
 
-pub replaced_spot : (n : ℕ) (library : List (List Shape)) (nodes new : List Node) (place a : ℕ) (found : Found) → IsSpot library nodes place a found → Here n library (coming (Some a) nodes) found
-    → new ≡ window_set a found.count (replacement (take found.count (coming (Some a) nodes)) (turned found.turn (template_in library found.template)) found.lines) nodes
-    → gates_in new ≡ take place (gates_in nodes) ++ after (drop place (gates_in nodes)) library found
-replaced_spot n library nodes new place a found spot h e =
+pub replaced_spot : (n : ℕ) (library : List (List Shape)) (nodes : List Node) (place a : ℕ) (found : Found) → IsSpot library nodes place a found → Here n library (coming (Some a) nodes) found
+    → gates_in (window_set a found.count (gates_for (coming (Some a) nodes) library found) nodes) ≡ take place (gates_in nodes) ++ after (drop place (gates_in nodes)) library found
+replaced_spot n library nodes place a found spot h =
     let gates : List Shape = gates_in nodes in
-    let r : List Shape = replacement (take found.count (coming (Some a) nodes)) (turned found.turn (template_in library found.template)) found.lines in
-    let k = cut a found.count r nodes spot.live h.fewer h.here in
+    let k = cut a found.count (gates_for (coming (Some a) nodes) library found) nodes spot.live (let lt = h.fewer in omega arith) h.here in
     let front : k.before ≡ take place gates =
     append_cancel_right k.before (take place gates) (coming (Some a) nodes) (sym k.whole ∙ sym (take-append-drop place gates) ∙ ap (λ l. take place gates ++ l) (sym spot.here)) in
-    ap gates_in e ∙ k.new ∙ ap (λ l. l ++ after (coming (Some a) nodes) library found) front ∙ ap (λ l. take place gates ++ after l library found) spot.here
+    k.new ∙ ap (λ l. l ++ after (coming (Some a) nodes) library found) front ∙ ap (λ l. take place gates ++ after l library found) spot.here
 
 -- the nodes before a window stay
 window_front : (a c : ℕ) (gs : List Shape) (nodes : List Node) (place : ℕ) → place + length (coming (Some a) nodes) ≤ length nodes → take place (window_set a c gs nodes) ≡ take place nodes
@@ -170,9 +123,10 @@ window_front a c gs (n ∷ rest) (suc place) le =
           ∙ ap (λ l. n ∷ l) (window_front a c gs rest place (omega (arith, le, f)))
     ]
 
-pub spot_front : (library : List (List Shape)) (nodes new : List Node) (place a : ℕ) (found : Found) (gs : List Shape) → IsSpot library nodes place a found → new ≡ window_set a found.count gs nodes → take place new ≡ take place nodes
-spot_front library nodes new place a found gs spot e =
-    grind (arith, window_front, here, length-drop, gates_in, length-map)
+pub spot_front : (library : List (List Shape)) (nodes : List Node) (place a : ℕ) (found : Found) (gs : List Shape) → IsSpot library nodes place a found → take place (window_set a found.count gs nodes) ≡ take place nodes
+spot_front library nodes place a found gs spot =
+    window_front a found.count gs nodes place
+    (let within = spot.within in let e = ap length spot.here in omega (arith, within, e, length-drop place (gates_in nodes), length-map nodes (λ (n : Node). n.gate)))
 
 -- ---- the walk along all nodes
 
@@ -220,15 +174,15 @@ node_more a nodes next at place d e ea h =
     e ∙ ap (λ x. next_in x (ids_in nodes)) (sym p.1) ∙ ap (λ l. next_in p.0.id (ids_in l)) whole ∙ next_at (take place nodes) p.0 (drop (place + 1) nodes) off
 
 -- the nodes from the window on
-pub spot_set : (library : List (List Shape)) (nodes new : List Node) (place a : ℕ) (found : Found) (gs : List Shape) → NoTwice (ids_in nodes) → IsSpot library nodes place a found → new ≡ window_set a found.count gs nodes
-    → drop place new ≡ with_gates found.count gs (drop place nodes)
-spot_set library nodes new place a found gs d spot e =
+pub spot_set : (library : List (List Shape)) (nodes : List Node) (place a : ℕ) (found : Found) (gs : List Shape) → NoTwice (ids_in nodes) → IsSpot library nodes place a found
+    → drop place (window_set a found.count gs nodes) ≡ with_gates found.count gs (drop place nodes)
+spot_set library nodes place a found gs d spot =
     let p = head_at nodes place a spot.first in
     let tail : List Node = drop (place + 1) nodes in
     let front : List Node = take place nodes in
     let whole : nodes ≡ front ++ (p.0 ∷ tail) = sym (take-append-drop place nodes) ∙ ap (λ l. front ++ l) p.2 in
     let off = apart front p.0 tail (subst (λ (l : List Node). NoTwice (ids_in l)) whole d) in
     let set : List Node = with_gates found.count gs (p.0 ∷ tail) in
-    let is : new ≡ front ++ set = e ∙ ap (λ x. window_set x found.count gs nodes) (sym p.1) ∙ ap (window_set p.0.id found.count gs) whole ∙ window_at_node front p.0 tail found.count gs off in
+    let is : window_set a found.count gs nodes ≡ front ++ set = ap (λ x. window_set x found.count gs nodes) (sym p.1) ∙ ap (window_set p.0.id found.count gs) whole ∙ window_at_node front p.0 tail found.count gs off in
     let len : length front ≡ place = let within = spot.within in length-take-le place nodes (omega (arith, within, length-map nodes (λ (n : Node). n.gate))) in
     ap (drop place) is ∙ ap (λ k. drop k (front ++ set)) (sym len) ∙ drop-append_seam front set ∙ ap (with_gates found.count gs) (sym p.2)

@@ -1,17 +1,15 @@
 -- What look-ups tell of the gates that join with a flip.
-use Rattle.std.proofs.Common.{◌≡◌, ◌≢◌, ℕ, zero, suc, ◌+◌, ◌<◌, ◌≤◌, ◌^◌, true, false, ◌&&◌, eqb, List, [], ◌∷◌, ◌++◌, refl, sym, subst, ◌∙◌, ap, inl, inr, arith, eq-eqb, ne_eqb, append_assoc, Bool}
+use Rattle.std.proofs.Common.{◌≡◌, ◌≢◌, ℕ, suc, ◌<◌, ◌≤◌, ◌^◌, true, false, eqb, List, [], ◌∷◌, ◌++◌, refl, sym, subst, ◌∙◌, ap, inl, inr, arith, eq-eqb, ne_eqb, Bool}
 use Rattle.std.specs.Prelude.{◌⊎◌, Option, Some, None, IfSome, bit_or, bit_xor}
-use Rattle.rv_gate.specs.Commuting.{rule}
 use Rattle.rv_gate.specs.declared.circuit.TheConstants.{MOST_GATES}
 use Rattle.rv_links.specs.Doubt.{IsBefore}
 use Rattle.std.proofs.lemmas.Nat.{or_comm, xor_comm}
-use Rattle.std.proofs.lemmas.List.{append-nil}
-use Rattle.std.proofs.lemmas.Option.{none-some, same_Some}
-use Rattle.std.proofs.lemmas.Bool.{cases_Bool, cases_eq, cases_lt, cond-true, cond-false, false≢true, and_parts, and_from, or_left, or_cases, eqb-true, false_from_ne_true}
+use Rattle.std.proofs.lemmas.Bool.{cases_Bool, cases_eq, cases_order, cond-true, cond-false, false≢true, or_left, or_cases, false_from_ne_true}
 use Rattle.rv_gate.specs.Word.{has}
-use Rattle.rv_gate.specs.Gate.{IsGate, controls, is_flip, xor}
+use Rattle.rv_gate.specs.Gate.{IsGate, controls, wanted, is_flip, xor}
+use Rattle.rv_templ.specs.Images.{target_of}
 use Rattle.rv_gate.specs.declared.gate.Shape.{Shape}
-use Rattle.rv_gate.specs.declared.gate.Shape.TheVariants.{Flip, Swap, Peres}
+use Rattle.rv_gate.specs.declared.gate.Shape.TheVariants.{Flip}
 use Rattle.rv_gate.specs.declared.word.TheConstants.{MOST_LINES}
 use Rattle.rv_gate.proofs.LineSets.{same_lines, has-or, has-xor, has-line, has-none, bit_xor-back}
 use Rattle.rv_links.specs.Order.{lists, head, next_in, Rising, NoTwice}
@@ -21,13 +19,12 @@ use Rattle.rv_links.specs.declared.sought.Sought.TheVariants.{Unknown, Nowhere, 
 use Rattle.rv_links.specs.Seeking.{Tells, Reaches, Found}
 use Rattle.rv_links.proofs.inside.WindowLemmas.{live_first as live_front}
 use Rattle.rv_templ.specs.Gates.{AreGates}
-use Rattle.rv_templ.specs.Pairs.{lone, apart_on, paired, partner}
+use Rattle.rv_templ.specs.Pairs.{apart_on, paired}
 use Rattle.rv_templ.specs.inside.Lookups.{Variant}
-use Rattle.rv_templ.specs.inside.Mates.{NoMate, Candidate, Joinless, IsStop, numbers_left}
+use Rattle.rv_templ.specs.inside.Mates.{IsStop, numbers_left}
 use Rattle.rv_templ.specs.inside.Notes.{Apart}
-use Rattle.rv_templ.proofs.JoinLaws.{cond_some, lone_is, line_used, third_some}
-use Rattle.rv_templ.proofs.NodeLists.{apart, gate_at_node, Stands, stands, later_than, sooner_than, is_after, head_least, next_least, next_later, walk_more, live_first, live_last, Each, each_of}
-use Rattle.rv_templ.proofs.inside.PartnerWalk.{none_among, joinless_each, stopped}
+use Rattle.rv_templ.proofs.JoinLaws.{differ_on, line_used, paired_as}
+use Rattle.rv_templ.proofs.NodeLists.{sooner_than, head_least, next_least, next_later, Each, each_of}
 
 -- ---- answers
 
@@ -101,246 +98,82 @@ variant c w c2 w2 t line e other =
     ]
 
 -- a gate that joins with the flip is the same, or another on one line that one of both has as a control
-pub record Joining (c w t : ℕ) (h : Shape) : Type 0 where
+pub record Joining (g h : Shape) : Type 0 where
   pub line : ℕ
   pub below : line < MOST_LINES
-  pub used : (has c line ≡ true) ⊎ ((is_flip h ≡ true) × (has (controls h) line ≡ true))
-  pub variant : Variant c w t line h
+  pub used : (has (controls g) line ≡ true) ⊎ ((is_flip h ≡ true) × (has (controls h) line ≡ true))
+  pub variant : Variant (controls g) (wanted g) (target_of g) line h
 
-lone_below : (set n line : ℕ) → lone set n ≡ Some line → line < n
-unfolding lone
-lone_below set zero line e = absurd (none-some line e)
-lone_below set (suc n) line e =
-    elim (cases_Bool (eqb set (2 ^ n))) [
-      | inl t ↦ let q = same_Some n line (sym (cond-true (eqb set (2 ^ n)) (Some n) (lone set n) t) ∙ e) in omega (arith, q)
-      | inr f ↦ let l = lone_below set n line (sym (cond-false (eqb set (2 ^ n)) (Some n) (lone set n) f) ∙ e) in omega (arith, l)
-    ]
-
-parts : (c w c2 w2 t line : ℕ) → IsGate (Flip c w t) → IsGate (Flip c2 w2 t) → line < MOST_LINES → apart_on c w c2 w2 ≡ 2 ^ line → (c ≡ c2 → w ≡ w2 → ⊥) → Joining c w t (Flip c2 w2 t)
-parts c w c2 w2 t line v v2 lt e other = record {
+joins_on : (c w c2 w2 t line : ℕ) → IsGate (Flip c w t) → IsGate (Flip c2 w2 t) → line < MOST_LINES → apart_on c w c2 w2 ≡ 2 ^ line → Joining (Flip c w t) (Flip c2 w2 t)
+joins_on c w c2 w2 t line v v2 lt e = record {
   line = line;
   below = lt;
   used = elim (line_used c w c2 w2 line e v.2 v2.2) [ inl u ↦ inl u | inr u ↦ inr (refl, u) ];
-  variant = variant c w c2 w2 t line e other;
+  variant = variant c w c2 w2 t line e (λ p q. differ_on c w c2 w2 line e (ap (λ s. has s line) p) (ap (λ s. has s line) q));
 }
 
-differ : (c w c2 w2 : ℕ) → (eqb c c2 && eqb w w2) ≡ false → c ≡ c2 → w ≡ w2 → ⊥
-differ c w c2 w2 f e g = false≢true (sym f ∙ and_from (eqb c c2) (eqb w w2) (eq-eqb c c2 e) (eq-eqb w w2 g))
+pub joining : (g h : Shape) (m : List Shape) → is_flip g ≡ true → IsGate g → IsGate h → paired g h ≡ Some m → (h ≡ g) ⊎ Joining g h
+joining g h m is v v2 e =
+    elim (paired_as g h m e) [
+      | inl u ↦ inl (u.flips is)
+      | inr k ↦ inr (rw (k.first, k.second) (joins_on k.care k.want k.care2 k.want2 k.target k.line (rw k.first at v) (rw k.second at v2) k.below k.apart))
+    ]
 
-pub joining : (c w t : ℕ) (h : Shape) (m : List Shape) → IsGate (Flip c w t) → IsGate h → paired (Flip c w t) h ≡ Some m → (h ≡ Flip c w t) ⊎ Joining c w t h
-unfolding paired
-joining c w t (Flip c2 w2 t2) m v v2 e =
-    let outer = cond_some (eqb t t2) m _ e in
-    let et : t ≡ t2 = eqb-true t t2 outer.0 in
-    subst (λ (x : ℕ). IsGate (Flip c2 w2 x) → (Flip c2 w2 x ≡ Flip c w t) ⊎ Joining c w t (Flip c2 w2 x)) et
-    (λ v3. elim (cases_Bool (eqb c c2 && eqb w w2)) [
-      | inl same ↦ let p = and_parts (eqb c c2) (eqb w w2) same in inl (ap (λ x. Flip x w2 t) (sym (eqb-true c c2 p.0)) ∙ ap (λ x. Flip c x t) (sym (eqb-true w w2 p.1)))
-      | inr other ↦
-          let o = third_some c w c2 w2 t (lone (apart_on c w c2 w2) MOST_LINES) m (sym (cond-false (eqb c c2 && eqb w w2) (Some []) _ other) ∙ outer.1) in
-          inr (parts c w c2 w2 t o.0 v v3 (lone_below _ MOST_LINES o.0 o.1) (lone_is _ MOST_LINES o.0 o.1) (differ c w c2 w2 other))
-    ]) v2
-joining c w t (Swap _ _ _ _) m v v2 e = absurd (none-some m e)
-joining c w t (Peres _ _ _) m v v2 e = absurd (none-some m e)
+pub joining_back : (g h : Shape) (m : List Shape) → is_flip g ≡ true → IsGate g → IsGate h → paired h g ≡ Some m → (h ≡ g) ⊎ Joining g h
+joining_back g h m is v v2 e =
+    elim (paired_as h g m e) [
+      | inl u ↦ inl (sym (u.flips (u.kind ∙ is)))
+      | inr k ↦
+          inr (rw (k.first, k.second) (joins_on k.care2 k.want2 k.care k.want k.target k.line (rw k.second at v) (rw k.first at v2) k.below
+          (ap (λ x. bit_or x (bit_xor k.want2 k.want)) (xor_comm k.care2 k.care) ∙ ap (bit_or (bit_xor k.care k.care2)) (xor_comm k.want2 k.want) ∙ k.apart)))
+    ]
 
-pub joining_back : (c w t : ℕ) (h : Shape) (m : List Shape) → IsGate (Flip c w t) → IsGate h → paired h (Flip c w t) ≡ Some m → (h ≡ Flip c w t) ⊎ Joining c w t h
-unfolding paired
-joining_back c w t (Flip c2 w2 t2) m v v2 e =
-    let outer = cond_some (eqb t2 t) m _ e in
-    let et : t ≡ t2 = sym (eqb-true t2 t outer.0) in
-    subst (λ (x : ℕ). IsGate (Flip c2 w2 x) → (Flip c2 w2 x ≡ Flip c w t) ⊎ Joining c w t (Flip c2 w2 x)) et
-    (λ v3. elim (cases_Bool (eqb c2 c && eqb w2 w)) [
-      | inl same ↦ let p = and_parts (eqb c2 c) (eqb w2 w) same in inl (ap (λ x. Flip x w2 t) (eqb-true c2 c p.0) ∙ ap (λ x. Flip c x t) (eqb-true w2 w p.1))
-      | inr other ↦
-          let o = third_some c2 w2 c w t2 (lone (apart_on c2 w2 c w) MOST_LINES) m (sym (cond-false (eqb c2 c && eqb w2 w) (Some []) _ other) ∙ outer.1) in
-          let turned : apart_on c w c2 w2 ≡ 2 ^ o.0 = ap (λ x. bit_or x (bit_xor w w2)) (xor_comm c c2) ∙ ap (bit_or (bit_xor c2 c)) (xor_comm w w2) ∙ lone_is _ MOST_LINES o.0 o.1 in
-          inr (parts c w c2 w2 t o.0 v v3 (lone_below _ MOST_LINES o.0 o.1) turned (λ e f. differ c2 w2 c w other (sym e) (sym f)))
-    ]) v2
-joining_back c w t (Swap _ _ _ _) m v v2 e = absurd (none-some m e)
-joining_back c w t (Peres _ _ _) m v v2 e = absurd (none-some m e)
-
--- ---- the partner
-
-first_gate : (nodes : List Node) (a : ℕ) (s : Stands nodes a) → NoTwice (ids_in nodes) → node_gate a nodes ≡ s.node.gate
-first_gate nodes a s d =
-    ap (λ x. node_gate x nodes) (sym s.is) ∙ ap (node_gate s.node.id) s.split
-    ∙ gate_at_node s.before s.node s.after (apart s.before s.node s.after (subst (λ (l : List Node). NoTwice (ids_in l)) s.split d))
-
-none_or : (o : Option (List Shape)) → ((m : List Shape) → o ≡ Some m → ⊥) → o ≡ None
-none_or None f = refl
-none_or (Some m) f = absurd (f m refl)
-
--- no node after this one joins
-pub partner_nowhere : (nodes : List Node) (a : ℕ) (g : Shape) → Rising (ids_in nodes) → NoTwice (ids_in nodes) → live a nodes ≡ true → g ≡ node_gate a nodes
-    → ((x : ℕ) → live x nodes ≡ true → a + 1 ≤ x → (m : List Shape) → paired g (node_gate x nodes) ≡ Some m → ⊥) → NoMate nodes a
-partner_nowhere nodes a g r d on eg none =
-    let s = stands nodes a on in
-    let is : g ≡ s.node.gate = eg ∙ first_gate nodes a s d in
-    let r2 : Rising (ids_in (s.before ++ (s.node ∷ s.after))) = subst (λ (l : List Node). Rising (ids_in l)) s.split r in
-    let whole : nodes ≡ (s.before ++ (s.node ∷ [])) ++ (s.after ++ []) = s.split ∙ sym (append_assoc s.before (s.node ∷ []) s.after) ∙ ap (λ l. (s.before ++ (s.node ∷ [])) ++ l) (sym (append-nil s.after)) in
-    let each = each_of (λ x h. paired g h ≡ None) nodes (s.before ++ (s.node ∷ [])) s.after [] whole d
-    (λ x l o. none_or (paired g (node_gate x nodes)) (none x o (let q = later_than s.before s.node s.after x r2 l in omega (arith, q, s.is)))) in
-    record {
-      before = s.before;
-      first = s.node;
-      after = s.after;
-      split = s.split;
-      is = s.is;
-      none = subst (λ (y : Shape). partner y (gates_in s.after) ≡ None) is (none_among g (gates_in s.after) (joinless_each g s.after each));
-    }
-
--- the first one that joins
-pub partner_at : (nodes : List Node) (a b : ℕ) (g h : Shape) (m : List Shape) → Rising (ids_in nodes) → NoTwice (ids_in nodes) → live a nodes ≡ true → live b nodes ≡ true → a + 1 ≤ b → g ≡ node_gate a nodes → h ≡ node_gate b nodes → paired g h ≡ Some m
-    → ((x : ℕ) → live x nodes ≡ true → a + 1 ≤ x → (k : List Shape) → paired g (node_gate x nodes) ≡ Some k → b ≤ x) → Candidate nodes a b
-partner_at nodes a b g h m r d on there late eg eh j least =
-    let s = stands nodes a on in
-    let is : g ≡ s.node.gate = eg ∙ first_gate nodes a s d in
-    let r2 : Rising (ids_in (s.before ++ (s.node ∷ s.after))) = subst (λ (l : List Node). Rising (ids_in l)) s.split r in
-    let beyond = is_after s.before s.node s.after b r2 (ap (live b) (sym s.split) ∙ there) (omega (arith, s.is, late)) in
-    let t = stands s.after b beyond in
-    let front : List Node = s.before ++ (s.node ∷ []) in
-    let split : nodes ≡ s.before ++ (s.node ∷ (t.before ++ (t.node ∷ t.after))) = s.split ∙ ap (λ l. s.before ++ (s.node ∷ l)) t.split in
-    let whole : nodes ≡ front ++ (t.before ++ (t.node ∷ t.after)) = split ∙ sym (append_assoc s.before (s.node ∷ []) (t.before ++ (t.node ∷ t.after))) in
-    let last : nodes ≡ (front ++ t.before) ++ (t.node ∷ t.after) = whole ∙ sym (append_assoc front t.before (t.node ∷ t.after)) in
-    let r3 : Rising (ids_in ((front ++ t.before) ++ (t.node ∷ t.after))) = subst (λ (l : List Node). Rising (ids_in l)) last r in
-    let each = each_of (λ x k. paired g k ≡ None) nodes front t.before (t.node ∷ t.after) whole d
-    (λ x l o. none_or (paired g (node_gate x nodes)) (λ k some.
-    let q = later_than s.before s.node (t.before ++ (t.node ∷ t.after)) x (subst (λ (k : List Node). Rising (ids_in k)) split r) (live_first x t.before (t.node ∷ t.after) l) in
-    let p = sooner_than (front ++ t.before) t.node t.after x r3 (live_last x front t.before l) in
-    let le = least x o (omega (arith, q, s.is)) k some in
-    omega (arith, p, le, t.is))) in
-    let second : h ≡ t.node.gate =
-    eh ∙ ap (λ x. node_gate x nodes) (sym t.is) ∙ ap (node_gate t.node.id) last
-    ∙ gate_at_node (front ++ t.before) t.node t.after (apart (front ++ t.before) t.node t.after (subst (λ (l : List Node). NoTwice (ids_in l)) last d)) in
-    record {
-      before = s.before;
-      first = s.node;
-      between = t.before;
-      second = t.node;
-      after = t.after;
-      split = split;
-      is_first = s.is;
-      is_second = t.is;
-      joinless = subst (λ (y : Shape). Joinless y (gates_in t.before)) is (joinless_each g t.before each);
-      gates = m;
-      join = ap (λ y. paired y t.node.gate) (sym is) ∙ ap (paired g) (sym second) ∙ j;
-    }
-
--- ---- the walk along the next nodes
+-- ---- a walk along the nodes
 
 pub stop_as : (nodes : List Node) (g : Shape) (a : ℕ) (stop o : Option ℕ) → stop ≡ o → IsStop nodes g a stop → IsStop nodes g a o
 stop_as nodes g a stop o e s = subst (λ (p : Option ℕ). IsStop nodes g a p) e s
 
--- so far none joins
-pub record Tried (nodes : List Node) (g : Shape) (a : ℕ) (at : Option ℕ) : Type 0 where
-  pub later : IfSome at (λ b. (live b nodes ≡ true) × (a < b))
-  pub none : (x : ℕ) → live x nodes ≡ true → IsBefore x at → a < x → paired g (node_gate x nodes) ≡ None
+-- the walk is at a node from a number on, or at its end, and what is asked holds of those before
+pub record Walked (nodes : List Node) (from : ℕ) (P : ℕ → Type 0) (at : Option ℕ) : Type 0 where
+  pub on : IfSome at (λ b. (live b nodes ≡ true) × (from ≤ b))
+  pub passed : (x : ℕ) → live x nodes ≡ true → from ≤ x → IsBefore x at → P x
 
-pub tried_first : (nodes : List Node) (g : Shape) (a : ℕ) (next : Option ℕ) → Rising (ids_in nodes) → NoTwice (ids_in nodes) → live a nodes ≡ true → next ≡ next_in a (ids_in nodes) → Tried nodes g a next
-tried_first nodes g a next r d on e = record { later = next_later nodes a next r d on e; none = λ x l b lt. absurd (next_least nodes a next r d on e x l lt b) }
-
-tried_at : (nodes : List Node) (g : Shape) (a b : ℕ) (at : Option ℕ) → at ≡ Some b → Tried nodes g a at → Tried nodes g a (Some b)
-tried_at nodes g a b at e t = subst (λ (o : Option ℕ). Tried nodes g a o) e t
-
-pub tried_live : (nodes : List Node) (g : Shape) (a b : ℕ) (at : Option ℕ) → at ≡ Some b → Tried nodes g a at → live b nodes ≡ true
-tried_live nodes g a b at e t = (tried_at nodes g a b at e t).later.0
-
-pub tried_more : (nodes : List Node) (g h : Shape) (a b : ℕ) (at next : Option ℕ) → Rising (ids_in nodes) → NoTwice (ids_in nodes) → at ≡ Some b → Tried nodes g a at → next ≡ next_in b (ids_in nodes) → h ≡ node_gate b nodes
-    → paired g h ≡ None → Tried nodes g a next
-tried_more nodes g h a b at next r d e t en eh j =
-    let w = tried_at nodes g a b at e t in
-    record {
-      later = later_still next (next_later nodes b next r d w.later.0 en) w.later.1;
-      none = λ x on before lt.
-          walk_more (λ y. a < y → paired g (node_gate y nodes) ≡ None) nodes b next (λ y l q p. w.none y l q p) (λ _. ap (paired g) (sym eh) ∙ j)
-          (λ y l q p. absurd (next_least nodes b next r d w.later.0 en y l q p)) x on before lt;
-    }
+-- from the first node on
+pub walk_first : (nodes : List Node) (P : ℕ → Type 0) (at : Option ℕ) → Rising (ids_in nodes) → at ≡ head (ids_in nodes) → Walked nodes 0 P at
+walk_first nodes P at r e = record { on = also at (live_front nodes at e); passed = λ x l _ b. absurd (head_least nodes x r l (subst (λ (o : Option ℕ). IsBefore x o) e b)) }
   where
-    later_still : (o : Option ℕ) → IfSome o (λ c. (live c nodes ≡ true) × (b < c)) → a < b → IfSome o (λ c. (live c nodes ≡ true) × (a < c))
-    later_still None k lt = tt
-    later_still (Some c) k lt = (k.0, omega (arith, k.1, lt))
+    also : (o : Option ℕ) → IfSome o (λ b. live b nodes ≡ true) → IfSome o (λ b. (live b nodes ≡ true) × (0 ≤ b))
+    also None k = tt
+    also (Some b) k = (k, omega arith)
 
-pub tried_found : (nodes : List Node) (g h : Shape) (a b : ℕ) (at : Option ℕ) (m : List Shape) → Rising (ids_in nodes) → NoTwice (ids_in nodes) → live a nodes ≡ true → g ≡ node_gate a nodes → at ≡ Some b → Tried nodes g a at
-    → h ≡ node_gate b nodes → paired g h ≡ Some m → Candidate nodes a b
-tried_found nodes g h a b at m r d on eg e t eh j =
-    let w = tried_at nodes g a b at e t in
-    partner_at nodes a b g h m r d on w.later.0 (omega (arith, w.later.1)) eg eh j
-    (λ x l late k some. elim (cases_lt x b) [ inl lt ↦ absurd (none-some k (sym (w.none x l lt (omega (arith, late))) ∙ some)) | inr le ↦ le ])
+-- from the node after one on
+pub walk_after : (nodes : List Node) (a : ℕ) (P : ℕ → Type 0) (next : Option ℕ) → Rising (ids_in nodes) → NoTwice (ids_in nodes) → live a nodes ≡ true → next ≡ next_in a (ids_in nodes) → Walked nodes (suc a) P next
+walk_after nodes a P next r d on e = record { on = next_later nodes a next r d on e; passed = λ x l lt b. absurd (next_least nodes a next r d on e x l lt b) }
 
-pub tried_stopped : (nodes : List Node) (g h : Shape) (a b s : ℕ) (at stop : Option ℕ) → Rising (ids_in nodes) → NoTwice (ids_in nodes) → live a nodes ≡ true → g ≡ node_gate a nodes → at ≡ Some b → Tried nodes g a at
-    → h ≡ node_gate b nodes → paired g h ≡ None → stop ≡ Some s → s ≡ b → IsStop nodes (node_gate a nodes) a stop → NoMate nodes a
-tried_stopped nodes g h a b s at stop r d on eg e t eh j es same k =
-    let w = tried_at nodes g a b at e t in
-    let p = (stop_as nodes (node_gate a nodes) a stop (Some b) (es ∙ ap Some same) k).at in
-    stopped nodes a b g r d on w.later.0 w.later.1 eg (λ x l q lt. w.none x l lt q) (ap (paired g) (sym eh) ∙ j) (ap (λ y. rule y (node_gate b nodes)) eg ∙ p.3)
-
-pub tried_all : (nodes : List Node) (g : Shape) (a : ℕ) (at : Option ℕ) → Rising (ids_in nodes) → NoTwice (ids_in nodes) → live a nodes ≡ true → g ≡ node_gate a nodes → at ≡ None → Tried nodes g a at → NoMate nodes a
-tried_all nodes g a at r d on eg e t =
-    let w = subst (λ (o : Option ℕ). Tried nodes g a o) e t in
-    partner_nowhere nodes a g r d on eg (λ x l late m j. none-some m (sym (w.none x l tt (omega (arith, late))) ∙ j))
-
--- ---- the walk to the stop
-
--- so far all commute
-pub record Doubt (nodes : List Node) (g : Shape) (a : ℕ) (at : Option ℕ) : Type 0 where
-  pub later : IfSome at (λ b. (live b nodes ≡ true) × (a < b))
-  pub free : (x : ℕ) → live x nodes ≡ true → IsBefore x at → a < x → rule g (node_gate x nodes) ≡ true
-
-pub doubt_at : (nodes : List Node) (g : Shape) (a b : ℕ) (at : Option ℕ) → at ≡ Some b → Doubt nodes g a at → Doubt nodes g a (Some b)
-doubt_at nodes g a b at e k = subst (λ (o : Option ℕ). Doubt nodes g a o) e k
-
-pub doubt_more : (nodes : List Node) (g h : Shape) (a b : ℕ) (at next : Option ℕ) → at ≡ Some b → Doubt nodes g a at → h ≡ node_gate b nodes → rule g h ≡ true
-    → IfSome next (λ c. (live c nodes ≡ true) × (b < c)) → ((x : ℕ) → live x nodes ≡ true → b < x → IsBefore x next → rule g (node_gate x nodes) ≡ true) → Doubt nodes g a next
-doubt_more nodes g h a b at next e k eh r later free =
-    let w = doubt_at nodes g a b at e k in
-    record {
-      later = later_still next later w.later.1;
-      free = λ x on before lt.
-          walk_more (λ y. a < y → rule g (node_gate y nodes) ≡ true) nodes b next (λ y l q p. w.free y l q p) (λ _. ap (rule g) (sym eh) ∙ r) (λ y l q p _. free y l q p) x on before lt;
-    }
+-- on to a later node, where what is asked holds of all between
+pub walk_skip : (nodes : List Node) (from b : ℕ) (P Q : ℕ → Type 0) (next : Option ℕ) → Walked nodes from P (Some b) → ((x : ℕ) → P x → Q x) → Q b → IfSome next (λ c. (live c nodes ≡ true) × (b < c))
+    → ((x : ℕ) → live x nodes ≡ true → b < x → IsBefore x next → Q x) → Walked nodes from Q next
+walk_skip nodes from b P Q next w keeps here later gap = record {
+  on = still next later w.on.1;
+  passed = λ x l late before.
+      elim (cases_order x b) [
+        | inl e ↦ subst Q (sym e) here
+        | inr o ↦ (elim o [ inl lt ↦ keeps x (w.passed x l late lt) | inr gt ↦ gap x l gt before ])
+      ];
+}
   where
-    later_still : (o : Option ℕ) → IfSome o (λ c. (live c nodes ≡ true) × (b < c)) → a < b → IfSome o (λ c. (live c nodes ≡ true) × (a < c))
-    later_still None k lt = tt
-    later_still (Some c) k lt = (k.0, omega (arith, k.1, lt))
+    still : (o : Option ℕ) → IfSome o (λ c. (live c nodes ≡ true) × (b < c)) → from ≤ b → IfSome o (λ c. (live c nodes ≡ true) × (from ≤ c))
+    still None k le = tt
+    still (Some c) k le = (k.0, omega (arith, k.1, le))
 
-pub doubt_stop : (nodes : List Node) (g h : Shape) (a b : ℕ) (at : Option ℕ) → at ≡ Some b → Doubt nodes g a at → b < MOST_GATES → h ≡ node_gate b nodes → rule g h ≡ false → IsStop nodes g a (Some b)
-doubt_stop nodes g h a b at e k few eh r =
-    let w = doubt_at nodes g a b at e k in
-    record { free = λ x on lt before. w.free x on before lt; at = (w.later.0, w.later.1, few, ap (rule g) (sym eh) ∙ r) }
+-- on to the next node
+pub walk_on : (nodes : List Node) (from b : ℕ) (P Q : ℕ → Type 0) (next : Option ℕ) → Rising (ids_in nodes) → NoTwice (ids_in nodes) → Walked nodes from P (Some b) → ((x : ℕ) → P x → Q x) → Q b → next ≡ next_in b (ids_in nodes) → Walked nodes from Q next
+walk_on nodes from b P Q next r d w keeps here e =
+    walk_skip nodes from b P Q next w keeps here (next_later nodes b next r d w.on.0 e) (λ y l q p. absurd (next_least nodes b next r d w.on.0 e y l q p))
 
--- so far all before a node commute
-pub record Before (nodes : List Node) (g : Shape) (at : Option ℕ) : Type 0 where
-  pub on : IfSome at (λ b. live b nodes ≡ true)
-  pub free : (x : ℕ) → live x nodes ≡ true → IsBefore x at → rule g (node_gate x nodes) ≡ true
-
-pub before_first : (nodes : List Node) (g : Shape) (at : Option ℕ) → Rising (ids_in nodes) → at ≡ head (ids_in nodes) → Before nodes g at
-before_first nodes g at r e = record { on = live_front nodes at e; free = λ x l b. absurd (head_least nodes x r l (subst (λ (o : Option ℕ). IsBefore x o) e b)) }
-
-pub before_as : (nodes : List Node) (g : Shape) (at o : Option ℕ) → at ≡ o → Before nodes g at → Before nodes g o
-before_as nodes g at o e k = subst (λ (p : Option ℕ). Before nodes g p) e k
-
-pub before_more : (nodes : List Node) (g h : Shape) (b : ℕ) (at next : Option ℕ) → at ≡ Some b → Before nodes g at → h ≡ node_gate b nodes → rule g h ≡ true
-    → IfSome next (λ c. (live c nodes ≡ true) × (b < c) × (c < MOST_GATES)) → ((x : ℕ) → live x nodes ≡ true → b < x → IsBefore x next → rule g (node_gate x nodes) ≡ true) → Before nodes g next
-before_more nodes g h b at next e k eh r later free =
-    let w = before_as nodes g at (Some b) e k in
-    record {
-      on = still next later;
-      free = walk_more (λ y. rule g (node_gate y nodes) ≡ true) nodes b next (λ y l q. w.free y l q) (ap (rule g) (sym eh) ∙ r) free;
-    }
-  where
-    still : (o : Option ℕ) → IfSome o (λ c. (live c nodes ≡ true) × (b < c) × (c < MOST_GATES)) → IfSome o (λ c. live c nodes ≡ true)
-    still None k = tt
-    still (Some c) k = k.0
-
-pub before_left : (nodes : List Node) (b : ℕ) (at next : Option ℕ) → at ≡ Some b → b < MOST_GATES → IfSome next (λ c. (live c nodes ≡ true) × (b < c) × (c < MOST_GATES)) → numbers_left next < numbers_left at
-before_left nodes b at None e lt k = let q = ap numbers_left e in omega (arith, q, lt)
-before_left nodes b at (Some c) e lt k = let q = ap numbers_left e in omega (arith, q, lt, k.1)
-
-pub doubt_none : (nodes : List Node) (g : Shape) (a : ℕ) (at : Option ℕ) → at ≡ None → Doubt nodes g a at → IsStop nodes g a None
-doubt_none nodes g a at e k = let w = subst (λ (o : Option ℕ). Doubt nodes g a o) e k in record { free = λ x on lt before. w.free x on before lt; at = tt }
-
-pub doubt_left : (nodes : List Node) (b : ℕ) (at next : Option ℕ) → at ≡ Some b → b < MOST_GATES → IfSome next (λ c. (live c nodes ≡ true) × (b < c)) → numbers_left next < numbers_left at
-doubt_left nodes b at None e lt k = let q = ap numbers_left e in omega (arith, q, lt)
-doubt_left nodes b at (Some c) e lt k = let q = ap numbers_left e in omega (arith, q, lt, k.1)
+pub fewer_left : (nodes : List Node) (b : ℕ) (at next : Option ℕ) → at ≡ Some b → b < MOST_GATES → IfSome next (λ c. (live c nodes ≡ true) × (b < c)) → numbers_left next < numbers_left at
+fewer_left nodes b at None e lt k = let q = ap numbers_left e in omega (arith, q, lt)
+fewer_left nodes b at (Some c) e lt k = let q = ap numbers_left e in omega (arith, q, lt, k.1)
 
 -- ---- notes that go
 
@@ -349,11 +182,11 @@ some_or None = inl refl
 some_or (Some m) = inr (m, refl)
 
 -- a note is gone, or the gate does not join
-pub loose_or : (c w t : ℕ) (h : Shape) (z : ℕ) → IsGate (Flip c w t) → IsGate h → (h ≡ Flip c w t → z ≡ 0) → (Joining c w t h → z ≡ 0) → (z ≡ 0) ⊎ (paired h (Flip c w t) ≡ None)
+pub loose_or : (c w t : ℕ) (h : Shape) (z : ℕ) → IsGate (Flip c w t) → IsGate h → (h ≡ Flip c w t → z ≡ 0) → (Joining (Flip c w t) h → z ≡ 0) → (z ≡ 0) ⊎ (paired h (Flip c w t) ≡ None)
 loose_or c w t h z v v2 same other =
     elim (some_or (paired h (Flip c w t))) [
       | inl none ↦ inr none
-      | inr some ↦ inl (elim (joining_back c w t h some.0 v v2 some.1) [ inl e ↦ same e | inr k ↦ other k ])
+      | inr some ↦ inl (elim (joining_back (Flip c w t) h some.0 refl v v2 some.1) [ inl e ↦ same e | inr k ↦ other k ])
     ]
 
 apart_each : (notes : List ℕ) (g : Shape) (l : List Node) → Each (λ x h. (noted x notes ≡ 0) ⊎ (paired h g ≡ None)) l → Apart notes (g ∷ []) l

@@ -1,7 +1,7 @@
 -- The notes after a pair was made, and after a window was replaced.
 use Rattle.std.proofs.lemmas.Grind.{common_steps}
 use Rattle.std.proofs.Common.{◌≡◌, ℕ, zero, suc, ◌+◌, ◌-◌, ◌<◌, ◌≤◌, true, false, eqb, List, [], ◌∷◌, ◌++◌, length, map, take, drop, refl, sym, ◌∙◌, ap, inl, inr, arith, subst, append_assoc, take-append-drop, length-drop}
-use Rattle.std.specs.Prelude.{◌⊎◌, Option, Some, None, bit_and, bit_xor}
+use Rattle.std.specs.Prelude.{◌⊎◌, Some, None, bit_and, bit_xor}
 use Rattle.std.proofs.Math.Seq.{take-add}
 use Rattle.std.proofs.lemmas.Nat.{and_comm, xor_comm}
 use Rattle.std.proofs.lemmas.Bool.{false≢true, and_parts, or_cases, eqb-true, cases_eq}
@@ -12,18 +12,18 @@ use Rattle.rv_gate.specs.Commuting.{meet, opposed, rule}
 use Rattle.rv_links.specs.Order.{lists, head, next_in, NoTwice, Rising}
 use Rattle.rv_links.specs.Nodes.{Node, ids_in, gates_in, live, node_gate, noted}
 use Rattle.rv_links.specs.inside.Chains.{nodes_from}
-use Rattle.rv_templ.specs.Pairs.{paired, partner}
+use Rattle.rv_templ.specs.Pairs.{partner}
 use Rattle.rv_templ.specs.inside.Mates.{Mate, NoMate, IsStop, passes}
-use Rattle.rv_templ.specs.inside.Notes.{Quiet, Noted, NoneNoted, Apart, Kept, node_of, coupled}
+use Rattle.rv_templ.specs.inside.Notes.{Fewer, Others, Quiet, Noted, NoneNoted, Apart, Kept, node_of, coupled}
 use Rattle.rv_templ.proofs.JoinedLines.{paired_short}
-use Rattle.rv_templ.proofs.inside.LinkedPairs.{first_is, second_is, join_of, before_second}
+use Rattle.rv_templ.proofs.inside.LinkedPairs.{before_second}
 use Rattle.rv_templ.proofs.inside.LinkedWindows.{head_at}
 use Rattle.rv_templ.proofs.inside.PairWalk.{node_here}
 use Rattle.rv_templ.proofs.inside.PartnerWalk.{passes_each}
 use Rattle.rv_templ.proofs.NodeLists.{listed_at, gate_split, later_than, sooner_than, is_after, rising_last, each_of}
 use Rattle.rv_templ.proofs.Options.{after_none}
 use Rattle.rv_templ.proofs.PairSteps.{partner_pass}
-use Rattle.rv_templ.proofs.inside.NoteLaws.{kept_split, kept_before, noted_last, noted_far, unknown_noted, unknown_split, quiet_more, free_quiet, not_joined}
+use Rattle.rv_templ.proofs.inside.NoteLaws.{fewer_on, fewer_set, fewer_noted, fewer_zero, kept_split, kept_before, noted_last, noted_far, unknown_noted, unknown_split, quiet_more, free_quiet, not_joined}
 
 -- ---- gates that commute with all
 
@@ -77,27 +77,28 @@ pair_right nodes notes a b far low m le near z right kept =
           (noted_far notes ps ns m.first (m.between ++ (m.second ∷ m.after)) now far (omega (arith, far_on, length-drop low m.before)) old later)
     ]
 
--- a gate that commutes with that of each node before one
-free_passes : (nodes xs ys : List Node) (n : Node) (b : ℕ) (g : Shape) → Rising (ids_in nodes) → NoTwice (ids_in nodes) → nodes ≡ xs ++ (n ∷ ys) → n.id ≡ b
-    → ((id : ℕ) → live id nodes ≡ true → id < b → rule g (node_gate id nodes) ≡ true) → passes g (gates_in xs) ≡ true
-free_passes nodes xs ys n b g r d e i all =
-    passes_each g xs
-    (each_of (λ x h. rule g h ≡ true) nodes [] xs (n ∷ ys) e d
-    (λ x l on. all x on (let lt = sooner_than xs n ys x (subst (λ (k : List Node). Rising (ids_in k)) e r) l in omega (arith, lt, i))))
+-- the note of the second node went, and others that may be wrong
+pub settled : (nodes : List Node) (old set new : List ℕ) (a b far low : ℕ) (m : Mate nodes a b) → noted b set ≡ 0 → Others b old set → Fewer set new → Noted old nodes far → low ≤ length m.before → (low ≡ 0) ⊎ (low + far ≤ length m.before)
+    → Kept new m.first m.second m.gates (drop low (m.before ++ (m.first ∷ m.between))) → Noted new (coupled nodes a b m) far
+settled nodes old set new a b far low m z o f right le near kept =
+    pair_right nodes new a b far low m le near (fewer_zero set new b f z) (fewer_noted old new nodes far (fewer_on old set new (fewer_set old set b z o) f) right) kept
 
-pub free_right : (nodes : List Node) (notes : List ℕ) (a b far : ℕ) (m : Mate nodes a b) (g h : Shape) → Rising (ids_in nodes) → NoTwice (ids_in nodes) → g ≡ node_gate a nodes → h ≡ node_gate b nodes
-    → ((id : ℕ) → live id nodes ≡ true → id < b → rule g (node_gate id nodes) ≡ true) → ((id : ℕ) → live id nodes ≡ true → id < b → rule h (node_gate id nodes) ≡ true)
-    → noted b notes ≡ 0 → Noted notes nodes far → Apart notes m.gates (m.before ++ (m.first ∷ m.between)) → Noted notes (coupled nodes a b m) far
-free_right nodes notes a b far m g h r d eg eh p q z right k =
+-- the same where both gates commute with all before the second one
+pub settled_free : (nodes : List Node) (old set new : List ℕ) (a b far : ℕ) (m : Mate nodes a b) → noted b set ≡ 0 → Others b old set → Fewer set new → Noted old nodes far
+    → passes m.first.gate (gates_in (m.before ++ (m.first ∷ m.between))) ≡ true → passes m.second.gate (gates_in (m.before ++ (m.first ∷ m.between))) ≡ true
+    → Apart new m.gates (m.before ++ (m.first ∷ m.between)) → Noted new (coupled nodes a b m) far
+settled_free nodes old set new a b far m z o f right p q k =
+    settled nodes old set new a b far 0 m z o f right (omega arith) (inl refl) (kept_free new m.first m.second m.gates (m.before ++ (m.first ∷ m.between)) p q k)
+
+-- a gate that commutes with that of each node before the second one
+pub free_passes : (nodes : List Node) (a b : ℕ) (m : Mate nodes a b) (g h : Shape) → Rising (ids_in nodes) → NoTwice (ids_in nodes) → g ≡ h
+    → ((id : ℕ) → live id nodes ≡ true → id < b → rule g (node_gate id nodes) ≡ true) → passes h (gates_in (m.before ++ (m.first ∷ m.between))) ≡ true
+free_passes nodes a b m g h r d e all =
     let xs : List Node = m.before ++ (m.first ∷ m.between) in
     let s = before_second nodes a b m in
-    let one : passes m.first.gate (gates_in xs) ≡ true = ap (λ y. passes y (gates_in xs)) (sym (eg ∙ first_is nodes a b m d)) ∙ free_passes nodes xs m.after m.second b g r d s m.is_second p in
-    let two : passes m.second.gate (gates_in xs) ≡ true = ap (λ y. passes y (gates_in xs)) (sym (eh ∙ second_is nodes a b m d)) ∙ free_passes nodes xs m.after m.second b h r d s m.is_second q in
-    pair_right nodes notes a b far 0 m (omega arith) (inl refl) z right (kept_free notes m.first m.second m.gates xs one two k)
-
--- what the pair comes to
-pub gates_are : (nodes : List Node) (a b : ℕ) (m : Mate nodes a b) (g h : Shape) (o : Option (List Shape)) → NoTwice (ids_in nodes) → g ≡ node_gate a nodes → h ≡ node_gate b nodes → o ≡ paired g h → o ≡ Some m.gates
-gates_are nodes a b m g h o d eg eh j = sym (join_of nodes a b m g h o d eg eh j) ∙ m.join
+    rw (← e) (passes_each g xs
+    (each_of (λ x h. rule g h ≡ true) nodes [] xs (m.second ∷ m.after) s d
+    (λ x l on. all x on (let lt = sooner_than xs m.second m.after x (subst (λ (k : List Node). Rising (ids_in k)) s r) l in omega (arith, lt, m.is_second)))))
 
 -- ---- a node whose gate makes no pair
 

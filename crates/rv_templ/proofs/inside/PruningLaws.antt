@@ -1,8 +1,8 @@
 -- Renamings that were begun, and can't come to an allowed window.
-use Rattle.std.proofs.Common.{◌≡◌, ◌≢◌, ℕ, suc, ◌+◌, ◌-◌, ◌<◌, ◌≤◌, Bool, true, false, ◌||◌, eqb, List, [], ◌∷◌, ◌++◌, length, take, set, sym, ◌∙◌, ap, inl, inr, arith, append_assoc}
+use Rattle.std.proofs.Common.{◌≡◌, ◌≢◌, ℕ, suc, ◌+◌, ◌-◌, ◌<◌, ◌≤◌, Bool, true, false, eqb, List, [], ◌∷◌, ◌++◌, length, take, set, sym, ◌∙◌, ap, arith, append_assoc}
 use Rattle.std.specs.Prelude.{Option, Some, None}
 use Rattle.std.proofs.lemmas.List.{get_or-take, get_or_append_left, get_or_at, length-take-le, take_all, take_more_set}
-use Rattle.std.proofs.lemmas.Bool.{false≢true, and_from, or_cases, cond-true, cond-false, eqb-true, false_from_ne_true}
+use Rattle.std.proofs.lemmas.Bool.{false≢true, and_from, cond-true, cond-false, false_from_ne_true}
 use Rattle.rv_gate.specs.declared.word.TheConstants.{MOST_LINES}
 use Rattle.rv_gate.proofs.LineSets.{has-or}
 use Rattle.rv_templ.specs.Gates.{gate_in}
@@ -15,9 +15,8 @@ use Rattle.rv_templ.specs.Images.{target_of, span, new_line, renamed, difference
 use Rattle.rv_templ.specs.inside.Pruning.{Dropped, same_role, alike}
 use Rattle.rv_templ.specs.Templates.{IsTemplate}
 use Rattle.rv_templ.proofs.inside.FoldLemmas.{least_dead, least_step, least_end}
-use Rattle.rv_gate.proofs.AllBelow.{all_below-at}
 use Rattle.rv_templ.proofs.ImageLaws.{Apart, Serves, renamed_has, renamed_at}
-use Rattle.rv_templ.proofs.WindowLaws.{allowed_parts, apart_from, in_span, match_at, serve_at, without_parts}
+use Rattle.rv_templ.proofs.WindowLaws.{plain_at, allowed_parts, apart_from, in_span, match_at, serve_at, without_parts}
 use Rattle.rv_gate.proofs.Bits.{same_from, or_off}
 
 -- the list that a renaming begun by i lines goes on to
@@ -37,11 +36,7 @@ unfolding zero_elsewhere
 drop_plain window template to i v len h off ne rest =
     false_from_ne_true _ (λ e.
     let a = allowed_parts window template (gone_on to i v rest) e in
-    elim (or_cases (has (span template) i) (eqb (new_line (gone_on to i v rest) i) 0)
-    (all_below-at (λ k. has (span template) k || eqb (new_line (gone_on to i v rest) k) 0) 6 i a.zero_elsewhere h)) [
-      | inl on ↦ false≢true (sym off ∙ on)
-      | inr z ↦ ne (sym (next_line to i v rest len h) ∙ eqb-true _ 0 z)
-    ])
+    ne (sym (next_line to i v rest len h) ∙ plain_at (span template) (gone_on to i v rest) i a.zero_elsewhere h off))
 
 pub drop_span : (window template : List Shape) (to : List ℕ) (i v : ℕ) → IsTemplate template → length window ≤ length template → length to ≡ 6 → i < 6 → has (span template) i ≡ true
     → has (span window) v ≡ false → Dropped window template (take i to ++ (v ∷ []))

@@ -1,9 +1,8 @@
 -- What the sizes of templates say of windows.
-use Rattle.std.proofs.Common.{◌≡◌, ℕ, zero, suc, ◌+◌, ◌*◌, ◌<◌, ◌≤◌, true, List, ◌∷◌, length, take, drop, get_or, refl, sym, ◌∙◌, ap, inl, inr, arith}
+use Rattle.std.proofs.Common.{◌≡◌, ℕ, zero, suc, ◌+◌, ◌*◌, ◌<◌, ◌≤◌, true, List, ◌∷◌, length, take, drop, refl, sym, ◌∙◌, ap, arith}
 use Rattle.std.specs.Option.{option_or}
 use Rattle.std.specs.Prelude.{bit_or, count_ones, Option, Some, None}
-use Rattle.std.specs.Global.{Vec}
-use Rattle.std.proofs.lemmas.Bool.{cases_eq, cases_lt, or_left}
+use Rattle.std.proofs.lemmas.Bool.{cases_lt, or_left}
 use Rattle.std.proofs.lemmas.List.{length-take, length-take-le, get_or-take, get_or-drop, drop-drop}
 use Rattle.std.proofs.lemmas.Nat.{ones_le_self}
 use Rattle.rv_gate.specs.Word.{has}
@@ -15,25 +14,15 @@ use Rattle.rv_templ.specs.Choices.{template_in, window_at, at_count, at_most, at
 use Rattle.rv_templ.specs.Folds.{union_below}
 use Rattle.rv_templ.specs.Gates.{gate_in, no_gate}
 use Rattle.rv_templ.specs.Templates.{AreTemplates}
-use Rattle.rv_templ.specs.inside.Library.{templates_in}
 use Rattle.rv_templ.specs.inside.Linking.{coming}
 use Rattle.rv_templ.specs.inside.Pruning.{varied_at, varied}
 use Rattle.rv_templ.specs.inside.Sizes.{AreSizes}
-use Rattle.rv_templ.proofs.inside.ChoiceLemmas.{template_at, are_at, too_short, too_long}
+use Rattle.rv_templ.proofs.inside.ChoiceLemmas.{are_at, too_short, too_long}
 use Rattle.rv_templ.proofs.inside.FoldLemmas.{union_part, part_of_union}
 use Rattle.rv_templ.proofs.inside.Incidences.{count_ones-within}
 use Rattle.rv_templ.proofs.inside.LinkedWindows.{coming_next}
 use Rattle.rv_templ.proofs.inside.VariedLines.{varied_more, none_wide}
 use Rattle.rv_templ.proofs.inside.WindowSteps.{window_begun}
-
--- what holds of the templates up to one
-pub each_more : (P : List Shape → Type 0) (templates : List (Vec Shape)) (t : ℕ) (v : Vec Shape) → t < length templates → v ≡ get_or templates t v
-    → ((k : ℕ) → k < t → P (template_in (templates_in templates) k)) → P v.items → (k : ℕ) → k < t + 1 → P (template_in (templates_in templates) k)
-each_more P templates t v lt e before new k below =
-    elim (cases_eq k t) [
-      | inl same ↦ rw (ap (λ i. template_in (templates_in templates) i) same ∙ template_at templates t v lt e) new
-      | inr other ↦ before k (omega arith)
-    ]
 
 -- ---- lines that vary
 

@@ -1,5 +1,5 @@
 -- The lines that are not the same to each gate: an image has no more of them than the template.
-use Rattle.std.proofs.Common.{◌≡◌, ℕ, zero, suc, ◌+◌, ◌/◌, ◌%◌, ◌^◌, ◌*◌, ◌<◌, ◌≤◌, Bool, true, false, cond, ◌||◌, List, length, refl, sym, ◌∙◌, ap, inl, inr, arith, eq-eqb}
+use Rattle.std.proofs.Common.{◌≡◌, ℕ, zero, suc, ◌+◌, ◌/◌, ◌^◌, ◌*◌, ◌<◌, ◌≤◌, Bool, true, false, cond, ◌||◌, List, length, refl, sym, ◌∙◌, ap, inl, inr, arith, eq-eqb}
 use Rattle.std.specs.Prelude.{bit_or, bit_xor, count_ones, leb, None}
 use Rattle.std.proofs.lemmas.Bool.{cases_Bool, false≢true, or_cases, or_left, or_right, eqb-true, false_from_ne_true}
 use Rattle.std.proofs.lemmas.Nat.{ones_le_self}
@@ -15,13 +15,13 @@ use Rattle.rv_templ.specs.Templates.{IsTemplate}
 use Rattle.rv_templ.specs.inside.Pruning.{varied_at, varied}
 use Rattle.rv_templ.proofs.inside.FoldLemmas.{union_more, union_part, part_of_union, sum_each}
 use Rattle.rv_templ.proofs.ImageLaws.{Serves, part, renamed_has, renamed_from}
-use Rattle.rv_templ.proofs.inside.Incidences.{sum_shift, one_line, count_ones-within}
+use Rattle.rv_templ.proofs.inside.Incidences.{sum_shift, one_line, times, count_ones-within}
 use Rattle.rv_templ.proofs.WindowLaws.{allowed_parts, match_at, serve_at, length-turned, turned_template, span_turned}
 use Rattle.rv_templ.proofs.inside.ChoiceLemmas.{turns_of, turn_found}
 use Rattle.rv_templ.proofs.inside.PruningLaws.{none_at_all}
 use Rattle.rv_gate.proofs.FirstAnswer.{none_first}
 use Rattle.rv_templ.specs.Choices.{template_in, at_turn, at_template}
-use Rattle.rv_gate.proofs.CountOnes.{ones_halves, odd, has_half}
+use Rattle.rv_gate.proofs.CountOnes.{ones_halves, has_half, low_bit}
 
 pub varied_more : (gates : List Shape) (set j lines : ℕ) (g first : Shape) → set ≡ varied gates j → g ≡ gate_in gates j → first ≡ gate_in gates 0 → lines ≡ varied_at g first → bit_or set lines ≡ varied gates (j + 1)
 varied_more gates set j lines g first e eg ef l = grind (arith, bit_or, varied_at, gate_in, union_more)
@@ -32,7 +32,7 @@ one_or_none : (b : Bool) (n : ℕ) → count_ones (cond b (2 ^ n) 0) ≤ cond b 
 one_or_none true n = omega (arith, one_line n)
 one_or_none false n = ones_le_self 0
 
-union_few : (to : List ℕ) (set n : ℕ) → count_ones (union_below (part to set) n) ≤ sum_below (λ i. cond (has set i) 1 0) n
+union_few : (to : List ℕ) (set n : ℕ) → count_ones (union_below (part to set) n) ≤ sum_below (times set) n
 unfolding union_below sum_below
 union_few to set zero = ones_le_self 0
 union_few to set (suc n) =
@@ -41,25 +41,12 @@ union_few to set (suc n) =
     let one = one_or_none (has set n) (new_line to n) in
     omega (arith, both, rest, one)
 
-sum_few : (n set : ℕ) → sum_below (λ i. cond (has set i) 1 0) n ≤ count_ones set
+sum_few : (n set : ℕ) → sum_below (times set) n ≤ count_ones set
 unfolding sum_below
 sum_few zero set = omega arith
 sum_few (suc n) set =
-    let cut = sum_shift (λ i. cond (has set i) 1 0) n in
-    let le = sum_each (λ i. cond (has set (suc i)) 1 0) (λ i. cond (has (set / 2) i) 1 0) n (λ i l. more_of (has (set / 2) i) (has set (suc i)) (has_half set i)) in
-    let rest = sum_few n (set / 2) in
-    let low : cond (has set 0) 1 0 ≤ set % 2 = low_bit (has set 0) refl in
-    omega (arith, cut, le, rest, low, ones_halves set)
-  where
-    more_of : (a b : Bool) → a ≡ b → cond b 1 0 ≤ cond a 1 0
-    more_of true true e = omega arith
-    more_of true false e = omega arith
-    more_of false true e = absurd (false≢true e)
-    more_of false false e = omega arith
-
-    low_bit : (b : Bool) → has set 0 ≡ b → cond b 1 0 ≤ set % 2
-    low_bit true e = let o = odd set e in omega arith
-    low_bit false e = omega arith
+    let le = sum_each (λ i. times set (suc i)) (times (set / 2)) n (λ i l. rw (has_half set i) (omega arith)) in
+    omega (arith, le, sum_shift (times set) n, sum_few n (set / 2), low_bit (has set 0) set refl, ones_halves set)
 
 renamed_few : (to : List ℕ) (set : ℕ) → count_ones (renamed to set) ≤ count_ones set
 renamed_few to set = let a = union_few to set 6 in let b = sum_few 6 set in omega arith

@@ -43,17 +43,12 @@ passes g (h ∷ rest) = rule g h && passes g rest
 
 -- the nearest node that joins with the node a is b: they are a pair if a commutes with what is between
 pub record Candidate (nodes : List Node) (a b : ℕ) : Type 0 where
-  pub before : List Node
-  pub first : Node
-  pub between : List Node
-  pub second : Node
-  pub after : List Node
-  pub split : nodes ≡ before ++ (first ∷ (between ++ (second ∷ after)))
-  pub is_first : first.id ≡ a
-  pub is_second : second.id ≡ b
-  pub joinless : Joinless first.gate (gates_in between)
+  pub on : IsTrue (live a nodes)
+  pub there : IsTrue (live b nodes)
+  pub later : a < b
+  pub joinless : (x : ℕ) → IsTrue (live x nodes) → a < x → x < b → paired (node_gate a nodes) (node_gate x nodes) ≡ None
   pub gates : List Shape
-  pub join : paired first.gate second.gate ≡ Some gates
+  pub join : paired (node_gate a nodes) (node_gate b nodes) ≡ Some gates
 
 -- the first node after a with whose gate a gate does not commute, if there is one
 pub record IsStop (nodes : List Node) (g : Shape) (a : ℕ) (stop : Option ℕ) : Type 0 where

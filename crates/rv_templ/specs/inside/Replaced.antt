@@ -2,7 +2,8 @@
 use Rattle.std.specs.Prelude.{◌≡◌, ℕ, ◌<◌, ◌≤◌, true, List, length, take}
 use Rattle.rv_gate.specs.declared.gate.Shape.{Shape}
 use Rattle.rv_gate.specs.declared.word.TheConstants.{MOST_LINES}
-use Rattle.rv_templ.specs.Images.{span, turned, fresh_care, fresh_want, allowed}
+use Rattle.rv_templ.specs.declared.image.TheConstants.{TEMPLATE_GATES, TEMPLATE_LINES}
+use Rattle.rv_templ.specs.Images.{span, turned, new_line, fresh_care, fresh_want, allowed, replacement}
 use Rattle.rv_templ.specs.Gates.{AreGates, Same}
 use Rattle.rv_templ.specs.Templates.{IsTemplate}
 use Rattle.rv_templ.specs.Choices.{Found, template_in}
@@ -27,6 +28,23 @@ care_found gates library found =
 abbrev pub want_found : List Shape → List (List Shape) → Found → ℕ
 want_found gates library found =
     fresh_want (take found.count gates) (span (template_in library found.template)) found.lines
+
+-- the gates that come in the place of the window that was found
+abbrev pub gates_for : List Shape → List (List Shape) → Found → List Shape
+gates_for gates library found =
+    replacement (take found.count gates) (turned found.turn (template_in library found.template)) found.lines
+
+-- what is known of the window that was found, and of the gates that come in its place
+pub record Here (n : ℕ) (library : List (List Shape)) (gates : List Shape) (found : Found) : Type 0 where
+  pub count : found.count ≤ TEMPLATE_GATES
+  pub here : found.count ≤ length gates
+  pub template : found.template < length library
+  pub lines : (i : ℕ) → i < TEMPLATE_LINES → new_line found.lines i < MOST_LINES
+  pub replaced : Replaced (take found.count gates) (template_in library found.template) found.turn found.lines
+  pub same : Same n (take found.count gates) (gates_for gates library found)
+  pub good : AreGates n (gates_for gates library found)
+  pub fewer : length (gates_for gates library found) < found.count
+  pub no_more : incidences (gates_for gates library found) ≤ incidences (take found.count gates)
 
 -- what a replacement keeps
 pub record Improves (n : ℕ) (gates new : List Shape) : Type 0 where

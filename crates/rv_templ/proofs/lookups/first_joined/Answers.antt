@@ -1,6 +1,7 @@
-use Rattle.std.proofs.Common.{ℕ, ◌<◌, length, ap, sym, ◌∙◌, subst, inl, inr, arith}
+use Rattle.std.proofs.Common.{ℕ, ◌<◌, length, refl, ap, sym, ◌∙◌, subst, inl, inr, arith}
 use Rattle.std.proofs.lemmas.Bool.{cases_eq, or_left, or_right}
 use Rattle.rv_gate.specs.Word.{has}
+use Rattle.rv_gate.specs.declared.gate.Shape.TheVariants.{Flip}
 use Rattle.rv_gate.proofs.LineSets.{has-or}
 use Rattle.rv_links.specs.Nodes.{node_gate}
 use Rattle.rv_templ.specs.inside.Lookups.{Variant}
@@ -26,7 +27,7 @@ returns-clause-least c x on le m j =
     let l = c.args.linked.now in
     let inv = c.loop-line.invariant in
     let valid = live_gate (length l.frame.names) l.nodes x c.recall_invariant.ensures.once (linked_gates l c.recall_invariant.ensures) on in
-    elim (joining c.args.care c.args.want c.args.target (node_gate x l.nodes) m c.requires valid j) [
+    elim (joining (Flip c.args.care c.args.want c.args.target) (node_gate x l.nodes) m refl c.requires valid j) [
       | inl e ↦ inv.same x on le e
       | inr k ↦
           inv.others k.line (let b : k.line < 64 = k.below in omega arith)

@@ -1,9 +1,9 @@
 use Rattle.std.proofs.Common.{ap, sym, ◌∙◌, inr, refl, arith}
-use Rattle.std.specs.Prelude.{Some, None}
 use Rattle.std.proofs.lemmas.Bool.{eqb-true, or_parts}
 use Rattle.rv_links.specs.Order.{next_in}
 use Rattle.rv_links.specs.Nodes.{live, ids_in}
-use Rattle.rv_templ.proofs.inside.ForgetWalks.{loose_start, loose_as, loose_more}
+use Rattle.rv_templ.proofs.inside.ForgetWalks.{loose_still}
+use Rattle.rv_templ.proofs.inside.LookupLaws.{walk_first, walk_on}
 use Rattle.rv_templ.proofs.inside.LinkedWindows.{shorter_next}
 use Rattle.rv_templ.proofs.inside.NoteLaws.{fewer_on}
 use Rattle.rv_templ.proofs.notes.forget_along.Goals as goal
@@ -14,27 +14,26 @@ loop-at-init c = record {
   nodes = refl;
   fewer = λ id. inr refl;
   same = λ _. refl;
-  loose = loose_start c.args.linked.now.nodes c.args.linked.now.notes c.args.new c.first-at.result c.recall_invariant.ensures.rising c.first-at.ensures;
+  loose = walk_first _ _ _ c.recall_invariant.ensures.rising c.first-at.ensures;
 }
 
 pub returns-then-eq-clause-loose : goal.returns-then-eq-clause-loose
 returns-then-eq-clause-loose c x on lt =
-    (loose_as c.args.linked.now.nodes c.loop-at.linked.notes c.args.new c.loop-at.at (Some c.in-Some.node) c.in-Some.is c.loop-at.invariant.loose).loose x on (omega (arith, lt, eqb-true c.in-Some.node c.args.b (sym c.eq.ensures ∙ c.if-eq.true)))
+    let w = rw c.in-Some.is at c.loop-at.invariant.loose in
+    w.passed x on (omega arith) (omega (arith, lt, eqb-true c.in-Some.node c.args.b (sym c.eq.ensures ∙ c.if-eq.true)))
 
 pub forget_if_joined-went-requires : goal.forget_if_joined-went-requires
-forget_if_joined-went-requires c =
-    ap (live c.in-Some.node) c.loop-at.invariant.nodes ∙ (loose_as c.args.linked.now.nodes c.loop-at.linked.notes c.args.new c.loop-at.at (Some c.in-Some.node) c.in-Some.is c.loop-at.invariant.loose).on
+forget_if_joined-went-requires c = let w = rw c.in-Some.is at c.loop-at.invariant.loose in ap (live c.in-Some.node) c.loop-at.invariant.nodes ∙ w.on.0
 
 pub next-at-requires : goal.next-at-requires
 next-at-requires c =
-    ap (live c.in-Some.node) (c.forget_if_joined-went.ensures.nodes ∙ c.loop-at.invariant.nodes)
-    ∙ (loose_as c.args.linked.now.nodes c.loop-at.linked.notes c.args.new c.loop-at.at (Some c.in-Some.node) c.in-Some.is c.loop-at.invariant.loose).on
+    let w = rw c.in-Some.is at c.loop-at.invariant.loose in
+    ap (live c.in-Some.node) (c.forget_if_joined-went.ensures.nodes ∙ c.loop-at.invariant.nodes) ∙ w.on.0
 
 pub loop-at-smaller : goal.loop-at-smaller
 loop-at-smaller c =
-    shorter_next c.in-Some.node c.args.linked.now.nodes c.next-at.result c.loop-at.at c.recall_invariant.ensures.once
-    (loose_as c.args.linked.now.nodes c.loop-at.linked.notes c.args.new c.loop-at.at (Some c.in-Some.node) c.in-Some.is c.loop-at.invariant.loose).on
-    (c.next-at.ensures ∙ ap (λ l. next_in c.in-Some.node (ids_in l)) (c.forget_if_joined-went.ensures.nodes ∙ c.loop-at.invariant.nodes)) c.in-Some.is
+    let w = rw c.in-Some.is at c.loop-at.invariant.loose in
+    shorter_next _ _ _ _ c.recall_invariant.ensures.once w.on.0 (c.next-at.ensures ∙ ap (λ l. next_in c.in-Some.node (ids_in l)) (c.forget_if_joined-went.ensures.nodes ∙ c.loop-at.invariant.nodes)) c.in-Some.is
 
 pub loop-at-preserved : goal.loop-at-preserved
 loop-at-preserved c =
@@ -44,11 +43,10 @@ loop-at-preserved c =
       nodes = nodes;
       fewer = fewer_on c.args.linked.now.notes c.loop-at.linked.notes c.forget_if_joined-went.new.linked.notes c.loop-at.invariant.fewer c.forget_if_joined-went.ensures.fewer;
       same = λ e. let p = or_parts c.loop-at.gone c.forget_if_joined-went.result e in c.forget_if_joined-went.ensures.same p.1 ∙ c.loop-at.invariant.same p.0;
-      loose = loose_more c.args.linked.now.nodes c.loop-at.linked.notes c.forget_if_joined-went.new.linked.notes c.args.new c.in-Some.node c.loop-at.at c.next-at.result c.recall_invariant.ensures.rising c.recall_invariant.ensures.once
-          c.in-Some.is c.loop-at.invariant.loose c.forget_if_joined-went.ensures.fewer (rw c.loop-at.invariant.nodes at c.forget_if_joined-went.ensures.here)
-          (c.next-at.ensures ∙ ap (λ l. next_in c.in-Some.node (ids_in l)) nodes);
+      loose = let w = rw c.in-Some.is at c.loop-at.invariant.loose in
+          walk_on _ _ _ _ _ _ c.recall_invariant.ensures.rising c.recall_invariant.ensures.once w (λ x. loose_still _ _ _ _ x c.forget_if_joined-went.ensures.fewer)
+          (rw c.loop-at.invariant.nodes at c.forget_if_joined-went.ensures.here) (c.next-at.ensures ∙ ap (λ l. next_in c.in-Some.node (ids_in l)) nodes);
     }
 
 pub returns-clause-loose : goal.returns-clause-loose
-returns-clause-loose c x on lt =
-    (loose_as c.args.linked.now.nodes c.loop-at.linked.notes c.args.new c.loop-at.at None c.in_default.is c.loop-at.invariant.loose).loose x on tt
+returns-clause-loose c x on lt = let w = rw c.in_default.is at c.loop-at.invariant.loose in w.passed x on (omega arith) tt

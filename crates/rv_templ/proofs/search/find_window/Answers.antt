@@ -4,7 +4,7 @@ use Rattle.rv_templ.specs.inside.Library.{templates_in}
 use Rattle.rv_templ.specs.Windows.{NoWindow}
 use Rattle.rv_templ.specs.Choices.{Found}
 use Rattle.rv_templ.proofs.MeaningLaws.{no_window}
-use Rattle.rv_templ.proofs.inside.KeepingLaws.{chosen, kept, is_window}
+use Rattle.rv_templ.proofs.inside.KeepingLaws.{chosen, here, kept, is_window}
 use Rattle.rv_templ.proofs.search.find_window.Goals as goal
 
 if_some : (o : Option Found) (P : Found → Type 0) → ((f : Found) → o ≡ Some f → P f) → IfSome o P
@@ -18,12 +18,13 @@ if_none (Some f) P h = tt
 pub returns-clause-window : goal.returns-clause-window
 returns-clause-window c =
     if_some c.search.result _ (λ f e n most good.
-    is_window n c.args.gates.now (templates_in c.args.templates.now) f c.requires.templates most good (chosen c.args.gates.now (templates_in c.args.templates.now) f (sym c.search.ensures ∙ e)))
+    is_window n c.args.gates.now (templates_in c.args.templates.now) f (chosen c.args.gates.now (templates_in c.args.templates.now) f (sym c.search.ensures ∙ e))
+    (here n (templates_in c.args.templates.now) c.args.gates.now f c.requires.templates most good (sym c.search.ensures ∙ e)))
 
 pub returns-clause-keeps : goal.returns-clause-keeps
 returns-clause-keeps c =
     if_some c.search.result _ (λ f e n most good.
-    kept n c.args.gates.now (templates_in c.args.templates.now) f c.requires.templates most good (chosen c.args.gates.now (templates_in c.args.templates.now) f (sym c.search.ensures ∙ e)))
+    kept n c.args.gates.now (templates_in c.args.templates.now) f good (here n (templates_in c.args.templates.now) c.args.gates.now f c.requires.templates most good (sym c.search.ensures ∙ e)))
 
 pub returns-clause-none : goal.returns-clause-none
 returns-clause-none c =
