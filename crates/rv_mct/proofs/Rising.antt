@@ -1,5 +1,7 @@
 -- The lines below a count that pass, and how many, line by line.
-use Rattle.std.proofs.Common.{◌≡◌, ℕ, suc, ◌+◌, Bool, cond, [], ◌∷◌, ◌++◌, refl}
+use Rattle.std.proofs.Common.{◌≡◌, ℕ, zero, suc, ◌+◌, ◌<◌, ◌≤◌, Bool, false, cond, [], ◌∷◌, ◌++◌, refl, sym, ap, ◌∙◌, inl, inr, arith}
+use Rattle.std.proofs.lemmas.Bool.{cases_lt}
+use Rattle.std.proofs.lemmas.List.{append-nil}
 use Rattle.rv_gate.proofs.Ranges.{filter-suc, count_by-suc}
 use Rattle.rv_mct.specs.Blocks.{rising, count}
 
@@ -10,6 +12,17 @@ rising_zero p = refl
 pub rising-suc : (p : ℕ → Bool) (n : ℕ) → rising p (suc n) ≡ rising p n ++ cond (p n) (n ∷ []) []
 unfolding rising
 rising-suc p n = filter-suc p n
+
+-- where none passes from a line on
+pub rising_upto : (p q : ℕ → Bool) (n line : ℕ) → line ≤ n → ((x : ℕ) → x < line → q x ≡ p x) → ((x : ℕ) → line ≤ x → x < n → q x ≡ false) → rising q n ≡ rising p line
+rising_upto p q zero line few low high = let e : zero ≡ line = omega arith in rising_zero q ∙ sym (rising_zero p) ∙ ap (rising p) e
+rising_upto p q (suc n) line few low high =
+    elim (cases_lt n line) [
+      | inl lt ↦
+          let e : suc n ≡ line = omega arith in
+          rw (rising-suc q n, rising_upto p q n n (omega arith) (λ x l. low x (omega arith)) (λ x g l. absurd (omega arith)), low n lt) (sym (rising-suc p n) ∙ ap (rising p) e)
+      | inr ge ↦ rw (rising-suc q n, high n ge (omega arith)) (append-nil (rising q n) ∙ rising_upto p q n line ge low (λ x g l. high x g (omega arith)))
+    ]
 
 pub count_zero : (p : ℕ → Bool) → count p 0 ≡ 0
 unfolding count

@@ -7,18 +7,14 @@ use Rattle.rv_gate.specs.Word.{has}
 use Rattle.rv_gate.proofs.LineSets.{bit_cases, has-above, has-with_line, Within-below, below-Within}
 use Rattle.rv_gate.proofs.LowestLine.{IsLowest, none_left}
 use Rattle.rv_mct.specs.Blocks.{rising, count, count_lines, is_free, below}
-use Rattle.rv_mct.proofs.Rising.{rising_zero, rising-suc, count_zero, count-suc}
+use Rattle.rv_mct.proofs.Rising.{rising_zero, rising-suc, rising_upto, count_zero, count-suc}
 use Rattle.std.proofs.lemmas.List.{append-nil}
 use Rattle.rv_mct.proofs.inside.Splits.{count_upto, has_below, not_below}
 
 -- ---- the lowest line, and the others
 
-pub none_rise : (p : ℕ → Bool) (n : ℕ) → ((k : ℕ) → k < n → p k ≡ false) → rising p n ≡ []
-none_rise p zero h = rising_zero p
-none_rise p (suc n) h =
-    rising-suc p n
-    ∙ ap (λ (b : Bool). rising p n ++ cond b (n ∷ []) []) (h n (omega arith))
-    ∙ ap (λ l. l ++ []) (none_rise p n (λ k lt. h k (omega arith)))
+none_rise : (p : ℕ → Bool) (n : ℕ) → ((k : ℕ) → k < n → p k ≡ false) → rising p n ≡ []
+none_rise p n h = rising_upto p p n 0 (omega arith) (λ x l. refl) (λ x g l. h x l) ∙ rising_zero p
 
 first_rises : (p q : ℕ → Bool) (line n : ℕ) → line < n → p line ≡ true → q line ≡ false → ((k : ℕ) → k < line → (p k ≡ false) × (q k ≡ false))
     → ((k : ℕ) → k < n → k ≢ line → q k ≡ p k) → rising p n ≡ line ∷ rising q n
@@ -58,22 +54,6 @@ pub count_few : (p : ℕ → Bool) (n : ℕ) → count p n ≤ n
 count_few p zero = omega (arith, count_zero p)
 count_few p (suc n) = omega (arith, count-suc p n, one_more (p n) (count p n) n (count_few p n))
 
-rising_upto : (p q : ℕ → Bool) (n line : ℕ) → line ≤ n → ((x : ℕ) → x < line → q x ≡ p x) → ((x : ℕ) → line ≤ x → q x ≡ false) → rising q n ≡ rising p line
-rising_upto p q zero line few low high = let e : zero ≡ line = omega arith in rising_zero q ∙ sym (rising_zero p) ∙ ap (rising p) e
-rising_upto p q (suc n) line few low high =
-    elim (cases_lt n line) [
-      | inl lt ↦ let e : suc n ≡ line = omega arith in same_rise (suc n) (λ x l. low x (omega arith)) ∙ ap (rising p) e
-      | inr ge ↦
-          rising-suc q n
-          ∙ ap (λ (b : Bool). rising q n ++ cond b (n ∷ []) []) (high n ge)
-          ∙ append-nil (rising q n)
-          ∙ rising_upto p q n line ge low high
-    ]
-  where
-    same_rise : (m : ℕ) → ((x : ℕ) → x < m → q x ≡ p x) → rising q m ≡ rising p m
-    same_rise zero h = rising_zero q ∙ sym (rising_zero p)
-    same_rise (suc m) h = rw (rising-suc p m, rising-suc q m, same_rise m (λ x lt. h x (omega arith)), h m (omega arith)) refl
-
 -- the set of the free lines
 abbrev pub FreeSet : ℕ → ℕ → ℕ → ℕ → Type 0
 FreeSet set care target lines = (line : ℕ) → has set line ≡ (ltb line lines && is_free care target line)
@@ -111,11 +91,11 @@ free_high set care target lines free x ge = free x ∙ ap (λ b. b && is_free ca
 
 pub count_free : (set care target lines : ℕ) → lines ≤ 64 → FreeSet set care target lines → count_lines set ≡ count (is_free care target) lines
 count_free set care target lines few free =
-    count_upto (is_free care target) (has set) 64 lines few (free_low set care target lines free) (free_high set care target lines free)
+    count_upto (is_free care target) (has set) 64 lines few (free_low set care target lines free) (λ x ge lt. free_high set care target lines free x ge)
 
 pub rising_free : (set care target lines : ℕ) → lines ≤ 64 → FreeSet set care target lines → rising (has set) 64 ≡ rising (is_free care target) lines
 rising_free set care target lines few free =
-    rising_upto (is_free care target) (has set) 64 lines few (free_low set care target lines free) (free_high set care target lines free)
+    rising_upto (is_free care target) (has set) 64 lines few (free_low set care target lines free) (λ x ge lt. free_high set care target lines free x ge)
 
 -- ---- room for one more
 

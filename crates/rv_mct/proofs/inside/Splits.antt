@@ -18,10 +18,11 @@ use Rattle.rv_gate.proofs.inside.GateLemmas.{Hold, holds_Decides, holds-set, fli
 use Rattle.rv_gate.proofs.LineSets.{has-with_line, with_other, with_same}
 use Rattle.rv_mct.specs.declared.control.Control.{Control}
 use Rattle.rv_mct.specs.Blocks.{controls_of, rising, count, is_free, count_lines, below, from, middle, borrowed_ladder, halves, split}
+use Rattle.rv_mct.specs.inside.LadderLines.{In}
 use Rattle.rv_mct.specs.inside.Long.{IsLong, IsCut}
-use Rattle.rv_mct.proofs.Rising.{rising-suc, count_zero, count-suc}
+use Rattle.rv_mct.proofs.Rising.{rising-suc, rising_upto, count_zero, count-suc}
 use Rattle.rv_mct.proofs.inside.Ladders.{put}
-use Rattle.rv_mct.proofs.inside.LongFlips.{length-controls_of, line_at, free_parts, length-rising, run_borrowed_ladder}
+use Rattle.rv_mct.proofs.inside.LongFlips.{length-controls_of, line_at, free_parts, length-rising, not_within, rising_in, run_borrowed_ladder}
 use Rattle.rv_gate.proofs.Bits.{xor_back}
 
 -- ---- counts
@@ -30,46 +31,26 @@ pub count_sum : (p q r : ℕ → Bool) (n : ℕ) → ((x : ℕ) → x < n → co
 count_sum p q r zero h = omega (arith, count_zero)
 count_sum p q r (suc n) h = omega (arith, count-suc p n, count-suc q n, count-suc r n, count_sum p q r n (λ x lt. h x (omega arith)), h n (omega arith))
 
-pub count_same : (p q : ℕ → Bool) (n : ℕ) → ((x : ℕ) → x < n → p x ≡ q x) → count p n ≡ count q n
-count_same p q zero h = count_zero p ∙ sym (count_zero q)
-count_same p q (suc n) h = rw (count-suc p n, count-suc q n, count_same p q n (λ x lt. h x (omega arith)), h n (omega arith)) refl
-
 -- none from a line on
-pub count_upto : (p q : ℕ → Bool) (n line : ℕ) → line ≤ n → ((x : ℕ) → x < line → q x ≡ p x) → ((x : ℕ) → line ≤ x → q x ≡ false) → count q n ≡ count p line
-count_upto p q zero line few low high = let e : zero ≡ line = omega arith in count_zero q ∙ sym (count_zero p) ∙ ap (count p) e
-count_upto p q (suc n) line few low high =
-    elim (cases_lt n line) [
-      | inl lt ↦ let e : suc n ≡ line = omega arith in count_same q p (suc n) (λ x l. low x (omega arith)) ∙ ap (count p) e
-      | inr ge ↦
-          let z : cond {A = ℕ} (q n) 1 0 ≡ 0 = ap (λ t. cond t 1 0) (high n ge) in
-          let r : count q n ≡ count p line = count_upto p q n line ge low high in
-          omega (arith, count-suc q n)
-    ]
+pub count_upto : (p q : ℕ → Bool) (n line : ℕ) → line ≤ n → ((x : ℕ) → x < line → q x ≡ p x) → ((x : ℕ) → line ≤ x → x < n → q x ≡ false) → count q n ≡ count p line
+count_upto p q n line few low high = sym (length-rising q n) ∙ ap length (rising_upto p q n line few low high) ∙ length-rising p line
+
+pub count_same : (p q : ℕ → Bool) (n : ℕ) → ((x : ℕ) → x < n → p x ≡ q x) → count p n ≡ count q n
+count_same p q n h = count_upto q p n n (omega arith) h (λ x g l. absurd (omega arith))
 
 pub count_none : (p : ℕ → Bool) (n : ℕ) → ((x : ℕ) → x < n → p x ≡ false) → count p n ≡ 0
-count_none p zero h = count_zero p
-count_none p (suc n) h =
-    let z : cond {A = ℕ} (p n) 1 0 ≡ 0 = ap (λ t. cond t 1 0) (h n (omega arith)) in
-    omega (arith, count-suc p n, count_none p n (λ x lt. h x (omega arith)))
+count_none p n h = count_upto p p n 0 (omega arith) (λ x l. refl) (λ x g l. h x l) ∙ count_zero p
 
 pub count_all : (n : ℕ) → count (λ x. true) n ≡ n
 count_all zero = count_zero (λ x. true)
 count_all (suc n) = omega (arith, count-suc (λ x. true) n, count_all n)
 
 pub count_one : (b n : ℕ) → b < n → count (λ x. eqb x b) n ≡ 1
-count_one b zero h = absurd (omega arith)
-count_one b (suc n) h =
-    let more = count-suc (λ x. eqb x b) n in
-    elim (cases_eq n b) [
-      | inl at ↦
-          let one : cond {A = ℕ} (eqb n b) 1 0 ≡ 1 = ap (λ t. cond t 1 0) (eq-eqb n b at) in
-          let none : count (λ x. eqb x b) n ≡ 0 = count_none (λ x. eqb x b) n (λ x lt. ne_eqb x b (λ e. omega arith)) in
-          omega arith
-      | inr other ↦
-          let z : cond {A = ℕ} (eqb n b) 1 0 ≡ 0 = ap (λ t. cond t 1 0) (ne_eqb n b other) in
-          let r : count (λ x. eqb x b) n ≡ 1 = count_one b n (omega arith) in
-          omega arith
-    ]
+count_one b n h =
+    let p : ℕ → Bool = λ x. eqb x b in
+    let one : cond {A = ℕ} (eqb b b) 1 0 ≡ 1 = ap (λ t. cond t 1 0) (eq-eqb b b refl) in
+    let below : count p b ≡ 0 = count_none p b (λ x lt. ne_eqb x b (λ e. omega arith)) in
+    omega (arith, count_upto p p n (suc b) (omega arith) (λ x lt. refl) (λ x ge lt. ne_eqb x b (λ e. omega arith)), count-suc p b)
 
 -- the line at a place of the list has as many before it
 pub count_rising : (p : ℕ → Bool) (n k : ℕ) → k < count p n → (count p (get_or (rising p n) k 0) ≡ k) × (get_or (rising p n) k 0 < n)
@@ -139,8 +120,7 @@ or_last false b = eq-eqb b b refl
 -- ---- sizes
 
 pub count_lines-within : (care n : ℕ) → n ≤ 64 → Within care n → count (has care) n ≡ count_lines care
-count_lines-within care n few within =
-    sym (count_upto (has care) (has care) 64 n few (λ x lt. refl) (λ x ge. elim (cases_Bool (has care x)) [ inl on ↦ (let l : x < n = within x on in absurd (omega arith)) | inr off ↦ off ]))
+count_lines-within care n few within = sym (count_upto (has care) (has care) 64 n few (λ x lt. refl) (λ x ge lt. not_within care n x within ge))
 
 sum_or : (p q : Bool) → (p ≡ true → q ≡ false) → cond {A = ℕ} p 1 0 + cond q 1 0 ≡ cond (p || q) 1 0
 sum_or p q h = grind arith
@@ -158,7 +138,7 @@ free_count n care target long =
     omega (arith, count_one target n long.aimed, count_all n, count_lines-within care n long.few long.within)
 
 pub count_lines-below : (care line : ℕ) → line ≤ 64 → count_lines (below care line) ≡ count (has care) line
-count_lines-below care line few = count_upto (has care) (has (below care line)) 64 line few (λ x lt. has_below care line x lt) (λ x ge. not_below care line x ge)
+count_lines-below care line few = count_upto (has care) (has (below care line)) 64 line few (λ x lt. has_below care line x lt) (λ x ge lt. not_below care line x ge)
 
 sum_cut : (care line x : ℕ) → cond {A = ℕ} (has (below care line) x) 1 0 + cond (has (from care line) x) 1 0 ≡ cond (has care x) 1 0
 sum_cut care line x = grind (arith, cases_lt, has_below, not_from, not_below, has_from)
@@ -246,14 +226,12 @@ four c1 w1 c2 w2 b t word lb lt bt o1b o1t o2b o2t =
     ∙ ap (set word t) (twice_round x y p q) in
     ap (λ w. act B (act A (act B w))) a1 ∙ ap (λ w. act B (act A w)) b1 ∙ ap (act B) a2 ∙ b2
 
+in_some : (x : ℕ) (xs : List ℕ) → In x xs → 1 ≤ length xs
+in_some x [] i = absurd i
+in_some x (y ∷ xs) i = omega arith
+
 pub count_some : (p : ℕ → Bool) (n x : ℕ) → x < n → p x ≡ true → 1 ≤ count p n
-count_some p zero x h on = absurd (omega arith)
-count_some p (suc n) x h on =
-    let more = count-suc p n in
-    elim (cases_eq x n) [
-      | inl at ↦ let one : cond {A = ℕ} (p n) 1 0 ≡ 1 = ap (λ t. cond t 1 0) (sym (ap p at) ∙ on) in omega arith
-      | inr ne ↦ let r : 1 ≤ count p n = count_some p n x (omega arith) on in omega arith
-    ]
+count_some p n x h on = omega (arith, length-rising p n, in_some x (rising p n) (rising_in p n x h on))
 
 pub cut_of : (n care target helper : ℕ) → IsLong n care target → 3 ≤ count_lines care → helper < n → is_free care target helper ≡ true
     → IsCut n care target (middle care) helper
