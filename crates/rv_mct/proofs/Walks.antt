@@ -8,7 +8,6 @@ use Rattle.rv_gate.proofs.LineSets.{bit_cases, has-above, has-with_line, Within-
 use Rattle.rv_gate.proofs.LowestLine.{IsLowest, none_left}
 use Rattle.rv_mct.specs.Blocks.{rising, count, count_lines, is_free, below}
 use Rattle.rv_mct.proofs.Rising.{rising_zero, rising-suc, rising_upto, count_zero, count-suc}
-use Rattle.std.proofs.lemmas.List.{append-nil}
 use Rattle.rv_mct.proofs.inside.Splits.{count_upto, has_below, not_below}
 
 -- ---- the lowest line, and the others

@@ -1,12 +1,11 @@
 -- How many flips there are, and how many controls each has.
-use Rattle.std.proofs.Common.{◌≡◌, ℕ, zero, suc, ◌+◌, ◌-◌, ◌*◌, ◌/◌, ◌^◌, ◌≤◌, Bool, true, false, cond, ◌||◌, eqb, List, [], ◌∷◌, ◌++◌, length, take, reverse, get_or, nat_lt, All, refl, sym, ◌∙◌, ap, inl, inr, arith, eq-eqb, ne_eqb, length-append}
+use Rattle.std.proofs.Common.{◌≡◌, ℕ, zero, suc, ◌+◌, ◌-◌, ◌*◌, ◌/◌, ◌^◌, ◌≤◌, Bool, true, false, cond, ◌||◌, eqb, List, [], ◌∷◌, ◌++◌, length, take, reverse, get_or, nat_lt, All, refl, ◌∙◌, ap, inl, inr, arith, ne_eqb, length-append}
 use Rattle.std.specs.Prelude.{bit_or}
-use Rattle.std.proofs.lemmas.Bool.{cases_eq, cases_lt, lt-ltb, le-ltb}
+use Rattle.std.proofs.lemmas.Bool.{cases_lt, lt-ltb, le-ltb}
 use Rattle.std.proofs.lemmas.List.Sums.{sum_by-cons}
 use Rattle.std.proofs.lemmas.List.FromFn.{length-range_with_len}
 use Rattle.std.proofs.lemmas.List.{length-reverse, length-take-le}
-use Rattle.std.proofs.lemmas.List.Elements.{All-nil, All-cons, All-append, All-head, All-tail}
-use Rattle.std.proofs.Math.Nat.{le-max_left, le-max_right}
+use Rattle.std.proofs.lemmas.List.Elements.{All-nil, All-cons, All-append}
 use Rattle.rv_gate.specs.Word.{has}
 use Rattle.rv_gate.specs.Gate.{IsGate, FitsIn, IsFlipOn}
 use Rattle.rv_gate.specs.declared.gate.Shape.{Shape}
@@ -15,7 +14,6 @@ use Rattle.rv_gate.proofs.LineSets.{has-lines}
 use Rattle.rv_mct.specs.declared.control.Control.{Control}
 use Rattle.rv_mct.specs.declared.aux.Aux.{Aux}
 use Rattle.rv_mct.specs.declared.aux.Aux.TheVariants.{Borrowed, Clean}
-use Rattle.rv_gate.specs.Greatest.{greatest}
 use Rattle.rv_mct.specs.Blocks.{rising, count, is_free, controls_of, count_lines, positive, both, ladder, clean_ladder, down_up, inner, down_up_twice, borrowed_ladder_over, borrowed_ladder, middle, below, from, halves, split, flips_of, long_flip, flip_block, block_of, decomposition_of, flip_wish, wish, added, borrowed_ladder_cost, long_cost, flip_cost, gate_cost, cost_of}
 use Rattle.std.specs.List.{flat_map, range_with_len, sum_by}
 use Rattle.rv_mct.specs.Extends.{IsPlain}

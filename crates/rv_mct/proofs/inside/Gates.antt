@@ -1,8 +1,8 @@
 -- What a gate stands for, and what a decomposition keeps.
 use Rattle.std.proofs.lemmas.Grind.{common_steps}
-use Rattle.std.proofs.Common.{◌≡◌, ◌≢◌, ℕ, ◌+◌, ◌-◌, ◌^◌, ◌<◌, ◌≤◌, Bool, true, false, not, cond, ◌&&◌, ◌||◌, eqb, List, [], ◌∷◌, ◌++◌, length, get_or, nat_lt, set, All, refl, sym, ◌∙◌, ap, inl, inr, arith, eq-eqb, ne_eqb, get_or-set_same, get_or-set_other, length-set, length-append}
+use Rattle.std.proofs.Common.{◌≡◌, ◌≢◌, ℕ, ◌+◌, ◌-◌, ◌^◌, ◌<◌, ◌≤◌, Bool, true, false, not, cond, ◌&&◌, ◌||◌, eqb, List, [], ◌∷◌, ◌++◌, length, get_or, nat_lt, set, All, refl, sym, ◌∙◌, ap, inl, inr, arith, ne_eqb, get_or-set_same, get_or-set_other, length-set, length-append}
 use Rattle.std.specs.Prelude.{bit_or}
-use Rattle.std.proofs.lemmas.Bool.{cases_eq, cases_lt, cases_Bool, eqb-true, false≢true, or_cases, lt-ltb, le-ltb, or_left, or_right}
+use Rattle.std.proofs.lemmas.Bool.{cases_eq, cases_lt, false≢true, lt-ltb, le-ltb}
 use Rattle.std.proofs.lemmas.List.{set-set, set_comm, set-get_or, get_or-append_right}
 use Rattle.std.proofs.lemmas.List.Elements.{All-head, All-tail}
 use Rattle.std.proofs.Math.Nat.{le-max_left, le-max_right}
@@ -18,7 +18,7 @@ use Rattle.rv_mct.specs.declared.aux.Aux.{Aux}
 use Rattle.rv_mct.specs.declared.aux.Aux.TheVariants.{Borrowed, Clean}
 use Rattle.rv_mct.specs.declared.control.Control.{Control}
 use Rattle.rv_gate.specs.Greatest.{greatest}
-use Rattle.rv_mct.specs.Blocks.{both, wanted_place, rising, count, is_free, count_lines, borrowed_ladder, split, flips_of, long_flip, flip_block, block_of, decomposition_of, flip_wish, wish, added}
+use Rattle.rv_mct.specs.Blocks.{both, wanted_place, rising, count, is_free, count_lines, flips_of, long_flip, flip_block, block_of, decomposition_of, flip_wish, wish, added}
 use Rattle.std.specs.List.{flat_map}
 use Rattle.rv_mct.specs.Extends.{MayHold, Extends}
 use Rattle.rv_mct.specs.inside.Long.{IsLong, Ready}

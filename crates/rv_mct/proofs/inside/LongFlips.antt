@@ -198,14 +198,17 @@ free_parts care target x h = grind arith
 
 -- the controls after the first two and the helpers may come in any order; here they are turned round
 turned : (n : ℕ) (a b : Control) (more : List Control) (free : List ℕ) (target : ℕ) → AreDivided n a b more free target → AreDivided n a b (reverse more) (reverse free) target
-turned n a b more free target (on, r) = (on, record {
-  first = r.first;
-  second = r.second;
-  apart = r.apart;
-  more = every_reverse (IsOn n on) more r.more;
-  spots = (r.spots.0, every_reverse (IsOff n on) free r.spots.1);
-  distinct = (λ z i. r.distinct.0 z (in_reverse z free i), distinct_reverse free r.distinct.1);
-})
+turned n a b more free target (on, r) = (
+  on,
+  record {
+    first = r.first;
+    second = r.second;
+    apart = r.apart;
+    more = every_reverse (IsOn n on) more r.more;
+    spots = (r.spots.0, every_reverse (IsOff n on) free r.spots.1);
+    distinct = (λ z i. r.distinct.0 z (in_reverse z free i), distinct_reverse free r.distinct.1);
+  },
+)
 
 -- lines of which `on` is true, and a target and helpers of which it is not
 divided_list : (n : ℕ) (on : ℕ → Bool) (want target : ℕ) (xs free : List ℕ) → Distinct xs → ((z : ℕ) → In z xs → (z < n) × (on z ≡ true)) → IsOff n on target
@@ -214,14 +217,17 @@ divided_list : (n : ℕ) (on : ℕ → Bool) (want target : ℕ) (xs free : List
 divided_list n on want target [] free dx ons off frees df some cs is = absurd (omega arith)
 divided_list n on want target (x ∷ []) free dx ons off frees df some cs is = absurd (omega arith)
 divided_list n on want target (x ∷ (y ∷ rest)) free dx ons off frees df some cs is =
-    rw (is, part_two (control want x) (control want y) (map (control want) rest)) (on, record {
-      first = ons x (inl refl);
-      second = ons y (inr (inl refl));
-      apart = λ e. dx.0 y (inl refl) (sym e);
-      more = every_controls n on want rest (λ z i. ons z (inr (inr i)));
-      spots = (off, every_from (IsOff n on) free (λ z i. (frees z i).0));
-      distinct = (λ z i. (frees z i).1, df);
-    })
+    rw (is, part_two (control want x) (control want y) (map (control want) rest)) (
+      on,
+      record {
+        first = ons x (inl refl);
+        second = ons y (inr (inl refl));
+        apart = λ e. dx.0 y (inl refl) (sym e);
+        more = every_controls n on want rest (λ z i. ons z (inr (inr i)));
+        spots = (off, every_from (IsOff n on) free (λ z i. (frees z i).0));
+        distinct = (λ z i. (frees z i).1, df);
+      },
+    )
 
 -- as many of the free lines as there are controls but two
 pub borrowed_divided : (n care want target : ℕ) (cs : List Control) (free : List ℕ) → IsLong n care target → 2 ≤ count_lines care → cs ≡ controls_of care want

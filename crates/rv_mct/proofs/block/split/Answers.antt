@@ -1,4 +1,4 @@
-use Rattle.std.proofs.Common.{refl, sym, arith}
+use Rattle.std.proofs.Common.{refl, arith}
 use Rattle.rv_mct.specs.Blocks.{split}
 use Rattle.rv_mct.proofs.inside.Splits.{cut_of, middle_below}
 use Rattle.rv_mct.proofs.inside.Steps.{grown_twice}
