@@ -8,11 +8,7 @@ use Rattle.std.proofs.lemmas.Nat.Bits.{same_from_bits}
 use Rattle.rv_gate.specs.Word.{has}
 use Rattle.rv_gate.proofs.LineSets.{has-none, has-with_line, bits_from_has}
 use Rattle.rv_real.specs.Body.{Operand, names_line, has_repeated, line_set, wanting_one, line_at}
-use Rattle.rv_gate.proofs.Bits.{or_comm}
-
-pub or_assoc : (a b c : Bool) → ((a || b) || c) ≡ (a || (b || c))
-or_assoc true b c = refl
-or_assoc false b c = refl
+use Rattle.rv_gate.proofs.Bits.{or_assoc, or_comm}
 
 pub nat_eq-swap : (a b : ℕ) → nat_eq a b ≡ nat_eq b a
 nat_eq-swap a b = grind arith
@@ -29,7 +25,7 @@ has-line_set (o ∷ os) line =
 -- one operand more
 pub names_line-push : (operands : List Operand) (o : Operand) (line : ℕ) → names_line (operands ++ o ∷ []) line ≡ (names_line operands line || nat_eq o.line line)
 names_line-push [] o line = or_comm (nat_eq o.line line) false
-names_line-push (p ∷ operands) o line = ap (λ t. nat_eq p.line line || t) (names_line-push operands o line) ∙ sym (or_assoc (nat_eq p.line line) (names_line operands line) (nat_eq o.line line))
+names_line-push (p ∷ operands) o line = ap (λ t. nat_eq p.line line || t) (names_line-push operands o line) ∙ or_assoc (nat_eq p.line line) (names_line operands line) (nat_eq o.line line)
 
 pub line_set-push : (operands : List Operand) (o : Operand) → line_set (operands ++ o ∷ []) ≡ bit_or (line_set operands) (2 ^ o.line)
 line_set-push operands o =
@@ -68,10 +64,6 @@ positive_named (o ∷ os) line h =
 
 pub subset : (operands : List Operand) (line : ℕ) → has (line_set (wanting_one operands)) line ≡ true → has (line_set operands) line ≡ true
 subset operands line h = has-line_set operands line ∙ positive_named operands line (sym (has-line_set (wanting_one operands) line) ∙ h)
-
-or_true : (a b : Bool) → (a || b) ≡ true → (a ≡ false → b ≡ true)
-or_true true b h k = absurd cc
-or_true false b h k = h
 
 -- a line that no operand names is not the line of one of them
 pub not_named : (operands : List Operand) (line k : ℕ) → names_line operands line ≡ false → k < length operands → nat_eq (line_at operands k) line ≡ false

@@ -24,6 +24,7 @@ use Rattle.rv_mct.specs.Extends.{MayHold, Extends}
 use Rattle.rv_mct.specs.inside.Long.{IsLong, Ready}
 use Rattle.rv_mct.specs.inside.LadderLines.{In, Every, IsRung}
 use Rattle.rv_mct.proofs.inside.LongFlips.{length-rising, in_rising, not_within, run_borrowed_ladder, run_clean_ladder}
+use Rattle.rv_mct.proofs.inside.Ladders.{free_two}
 use Rattle.rv_mct.proofs.inside.Splits.{holds_with, count_some, run_split}
 use Rattle.rv_gate.proofs.Bits.{xor_comm}
 
@@ -43,9 +44,6 @@ own_under n a t la lt other few =
 -- under two controls
 fits_two : (n a b t want : ℕ) → a < n → b < n → t < n → FitsIn (Flip (bit_or (2 ^ a) (2 ^ b)) want t) n
 fits_two n a b t want la lb lt line on = grind (arith, has-lines)
-
-free_two : (a b t : ℕ) → t ≢ a → t ≢ b → has (bit_or (2 ^ a) (2 ^ b)) t ≡ false
-free_two a b t ta tb = has-lines a b t ∙ ap (λ x. x || eqb t b) (ne_eqb t a ta) ∙ ne_eqb t b tb
 
 pub own_two : (n a b t : ℕ) → a < n → b < n → t < n → a ≢ t → b ≢ t → n ≤ 64 → IsFlipOn n (flip_under (bit_or (2 ^ a) (2 ^ b)) t)
 own_two n a b t la lb lt ot1 ot2 few =

@@ -1,6 +1,6 @@
 -- How many lines there are of a kind, and a long flip by halves.
 use Rattle.std.proofs.lemmas.Grind.{common_steps}
-use Rattle.std.proofs.Common.{◌≡◌, ◌≢◌, ℕ, zero, suc, ◌+◌, ◌-◌, ◌*◌, ◌/◌, ◌%◌, ◌^◌, ◌<◌, ◌≤◌, Bool, true, false, not, cond, ◌&&◌, ◌||◌, eqb, List, [], ◌∷◌, ◌++◌, length, get_or, set, refl, sym, ◌∙◌, ap, inl, inr, arith, eq-eqb, ne_eqb, get_or-set_same, get_or-set_other, length-set}
+use Rattle.std.proofs.Common.{◌≡◌, ◌≢◌, ℕ, zero, suc, ◌+◌, ◌-◌, ◌*◌, ◌/◌, ◌%◌, ◌^◌, ◌<◌, ◌≤◌, Bool, true, false, not, cond, ◌&&◌, ◌||◌, eqb, List, [], ◌∷◌, ◌++◌, length, get_or, set, refl, sym, ◌∙◌, ap, ap₂, inl, inr, arith, eq-eqb, ne_eqb, get_or-set_same, get_or-set_other, length-set}
 use Rattle.std.specs.Prelude.{bit_or}
 use Rattle.std.specs.Int.{bit_at}
 use Rattle.std.proofs.lemmas.Bool.{cases_eq, cases_lt, cases_Bool, eqb-true, false≢true, or_cases, and_parts, and_from}
@@ -21,7 +21,7 @@ use Rattle.rv_mct.specs.Blocks.{controls_of, rising, count, is_free, count_lines
 use Rattle.rv_mct.specs.inside.LadderLines.{In}
 use Rattle.rv_mct.specs.inside.Long.{IsLong, IsCut}
 use Rattle.rv_mct.proofs.Rising.{rising-suc, rising_upto, count_zero, count-suc}
-use Rattle.rv_mct.proofs.inside.Ladders.{put}
+use Rattle.rv_mct.proofs.inside.Ladders.{put, put_comm, put_put, put_twice}
 use Rattle.rv_mct.proofs.inside.LongFlips.{length-controls_of, line_at, free_parts, length-rising, not_within, rising_in, run_borrowed_ladder}
 use Rattle.rv_gate.proofs.Bits.{xor_back}
 
@@ -183,8 +183,11 @@ pub holds_with : (care want b : ℕ) (word : List Bool) → b < length word → 
     → holds (bit_or care (2 ^ b)) (bit_or want (2 ^ b)) word ≡ (holds care want word && bit_of word b)
 holds_with care want b word lt free = grind (arith, holds_Decides, bit_or, same_from_decides, and_parts, cases_eq, bit_of, with_same, with_other, and_from)
 
-twice_round : (x y p q : Bool) → xor (y && p) (xor (y && xor x p) q) ≡ xor (x && y) q
-twice_round x y p q = grind arith
+flip_by : (care want t : ℕ) (word : List Bool) (h : Bool) → holds care want word ≡ h → act (Flip care want t) word ≡ put word t h
+flip_by care want t word h is = flip_if _ word t ∙ ap (put word t) is
+
+twice_round : (x y p : Bool) → xor (y && p) (y && xor x p) ≡ (x && y)
+twice_round x y p = grind arith
 
 -- four flips with one helper are the flip under both parts
 pub four : (c1 w1 c2 w2 b t : ℕ) (word : List Bool) → b < length word → t < length word → b ≢ t
@@ -197,34 +200,23 @@ four c1 w1 c2 w2 b t word lb lt bt o1b o1t o2b o2t =
     let x : Bool = holds c1 w1 word in
     let y : Bool = holds c2 w2 word in
     let p : Bool = bit_of word b in
-    let q : Bool = bit_of word t in
-    let v1 : List Bool = set word b (xor x p) in
-    let tb : t ≢ b = λ e. bt (sym e) in
-    let l1 : length v1 ≡ length word = length-set word b _ in
-    let a1 : act A word ≡ v1 = flip_if x word b in
-    let y0 : Bool = xor (y && xor x p) q in
-    let v2 : List Bool = set v1 t y0 in
-    let at1 : bit_of v1 b ≡ xor x p = get_or-set_same word b (xor x p) false lb in
-    let b1 : act B v1 ≡ v2 =
-    flip_if _ v1 t
-    ∙ ap (λ z. set v1 t (xor z (bit_of v1 t))) (holds_with c2 w2 b v1 (omega arith) o2b ∙ ap (λ z. z && bit_of v1 b) (holds-set c2 w2 b word (xor x p) o2b) ∙ ap (λ z. y && z) at1)
-    ∙ ap (λ z. set v1 t (xor (y && xor x p) z)) (get_or-set_other word b t (xor x p) false tb) in
-    let v3 : List Bool = set word t y0 in
-    let l3 : length v3 ≡ length word = length-set word t _ in
-    let a2 : act A v2 ≡ v3 =
-    flip_if _ v2 b
-    ∙ ap (λ z. set v2 b (xor z (bit_of v2 b))) (holds-set c1 w1 t v1 y0 o1t ∙ holds-set c1 w1 b word (xor x p) o1b)
-    ∙ ap (λ z. set v2 b (xor x z)) (get_or-set_other v1 t b y0 false bt ∙ at1)
-    ∙ ap (set v2 b) (xor_back x p)
-    ∙ set_comm v1 t b y0 p tb
-    ∙ ap (λ w. set w t y0) (set-set word b (xor x p) p ∙ set-get_or word b false) in
-    let b2 : act B v3 ≡ put word t (x && y) =
-    flip_if _ v3 t
-    ∙ ap (λ z. set v3 t (xor z (bit_of v3 t))) (holds_with c2 w2 b v3 (omega arith) o2b ∙ ap (λ z. z && bit_of v3 b) (holds-set c2 w2 t word y0 o2t) ∙ ap (λ z. y && z) (get_or-set_other word t b y0 false bt))
-    ∙ ap (λ z. set v3 t (xor (y && p) z)) (get_or-set_same word t y0 false lt)
-    ∙ set-set word t y0 _
-    ∙ ap (set word t) (twice_round x y p q) in
-    ap (λ w. act B (act A (act B w))) a1 ∙ ap (λ w. act B (act A w)) b1 ∙ ap (act B) a2 ∙ b2
+    let k : Bool = y && xor x p in
+    let v : List Bool = put word b x in
+    let lv : length v ≡ length word = length-set word b _ in
+    let lk : length (put word t k) ≡ length word = length-set word t _ in
+    let b1 : act B v ≡ put v t k =
+    flip_by _ _ t v k (holds_with c2 w2 b v (omega arith) o2b ∙ ap₂ (λ (m n : Bool). m && n) (holds-set c2 w2 b word _ o2b) (get_or-set_same word b _ false lb)) in
+    let a2 : act A (put v t k) ≡ put word t k =
+    flip_by c1 w1 b (put v t k) x (holds-set c1 w1 t v _ o1t ∙ holds-set c1 w1 b word _ o1b) ∙ put_comm v t b k x (λ e. bt (sym e)) ∙ ap (λ w. put w t k) (put_twice word b x lb) in
+    let b2 : act B (put word t k) ≡ put (put word t k) t (y && p) =
+    flip_by _ _ t (put word t k) (y && p)
+    (holds_with c2 w2 b (put word t k) (omega arith) o2b ∙ ap₂ (λ (m n : Bool). m && n) (holds-set c2 w2 t word _ o2t) (get_or-set_other word t b _ false bt)) in
+    ap (λ w. act B (act A (act B w))) (flip_by c1 w1 b word x refl)
+    ∙ ap (λ w. act B (act A w)) b1
+    ∙ ap (act B) a2
+    ∙ b2
+    ∙ put_put word t k (y && p) lt
+    ∙ ap (put word t) (twice_round x y p)
 
 in_some : (x : ℕ) (xs : List ℕ) → In x xs → 1 ≤ length xs
 in_some x [] i = absurd i
