@@ -59,11 +59,7 @@ control_operands line (name ∷ names) care want = control_operand care want lin
 
 pub control_operands-count : (line : ℕ) (names : List (List ℕ)) (care want : ℕ) → length (control_operands line names care want) ≡ length (controls_from line names care want)
 control_operands-count line [] care want = refl
-control_operands-count line (name ∷ names) care want =
-    elim (has care line) as (λ t. length (cond t (record { line = line; is_negative = not (has want line) } ∷ []) [] ++ control_operands (line + 1) names care want) ≡ length (cond t (control_word name (has want line) ∷ []) [] ++ controls_from (line + 1) names care want)) [
-      | true ↦ ap suc (control_operands-count (line + 1) names care want)
-      | false ↦ control_operands-count (line + 1) names care want
-    ]
+control_operands-count line (name ∷ names) care want = let rest = control_operands-count (line + 1) names care want in grind (arith, rest, length-append)
 
 control_read : (names : List (List ℕ)) (line : ℕ) (wanted : Bool) → AreNames names → line < length names
     → operand_of names true (plain (control_word (name_at names line) wanted)) ≡ Ok (record { line = line; is_negative = not wanted })

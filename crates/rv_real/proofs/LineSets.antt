@@ -50,17 +50,7 @@ positive-push operands o =
 -- the lines that want 1 are among the lines
 positive_named : (operands : List Operand) (line : ℕ) → names_line (wanting_one operands) line ≡ true → names_line operands line ≡ true
 positive_named [] line h = h
-positive_named (o ∷ os) line h =
-    elim (cases_Bool (nat_eq o.line line)) [
-      | inl here ↦ rw here refl
-      | inr other ↦
-          rw other
-          (positive_named os line
-          (elim (cases_Bool o.is_negative) [
-            | inl negative ↦ rw negative at h
-            | inr plain ↦ rw (plain, other) at h
-          ]))
-    ]
+positive_named (o ∷ os) line h = let rest = positive_named os line in grind (arith, rest)
 
 pub subset : (operands : List Operand) (line : ℕ) → has (line_set (wanting_one operands)) line ≡ true → has (line_set operands) line ≡ true
 subset operands line h = has-line_set operands line ∙ positive_named operands line (sym (has-line_set (wanting_one operands) line) ∙ h)

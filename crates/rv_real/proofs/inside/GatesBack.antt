@@ -84,12 +84,7 @@ all_controls names care want controls targets are count =
 
 pub few_controls : (line : ℕ) (names : List (List ℕ)) (care want : ℕ) → length (controls_from line names care want) ≤ length names
 few_controls line [] care want = omega arith
-few_controls line (name ∷ names) care want =
-    let rest = few_controls (line + 1) names care want in
-    elim (has care line) as (λ t. length (cond t (control_word name (has want line) ∷ []) [] ++ controls_from (line + 1) names care want) ≤ length (name ∷ names)) [
-      | true ↦ omega arith
-      | false ↦ omega arith
-    ]
+few_controls line (name ∷ names) care want = let rest = few_controls (line + 1) names care want in grind (arith, rest, length-append)
 
 with_room : (c : Cascade) (gate : Shape) → length c.gates < 1048576 → with_gate c gate ≡ Ok (record c { gates = c.gates ++ gate ∷ [] })
 with_room c gate room = rw (lt-ltb (length c.gates) 1048576 room) refl
