@@ -60,12 +60,7 @@ one_line_after (c ∷ cs) (suc at) h = one_line_after cs at (and_parts (is_inner
 
 label_from : (bytes : List ℕ) → IsOneLine bytes → holds_quote bytes ≡ false → IsLabel bytes
 label_from [] h k = refl
-label_from (c ∷ cs) h k =
-    let t = and_parts (is_inner c) (list_all is_inner cs) h in
-    elim (nat_eq c 34) as (λ q. (q || holds_quote cs) ≡ false → ((not q && not (nat_eq c 10)) && list_all is_label_byte cs) ≡ true) [
-      | true ↦ λ (e : true ≡ false). absurd cc
-      | false ↦ λ e. rw t.0 (label_from cs t.1 e)
-    ] k
+label_from (c ∷ cs) h k = let rest = label_from cs in grind (arith, rest)
 
 free_of_quote : (quoted held : Bool) → (not quoted && held) ≡ false → not (quoted && held) ≡ true → held ≡ false
 free_of_quote quoted held h k = grind arith

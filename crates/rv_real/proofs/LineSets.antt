@@ -94,7 +94,4 @@ has_repeated-push (p ∷ operands) o =
 pub named_below : (lines : ℕ) (operands : List Operand) (line : ℕ) → All (λ o. o.line < lines) operands → names_line operands line ≡ true → line < lines
 named_below lines [] line below h = absurd cc
 named_below lines (o ∷ os) line below h =
-    elim (cases_Bool (nat_eq o.line line)) [
-      | inl here ↦ (let at : o.line ≡ line = eqb-true _ _ here in let lt : o.line < lines = All-head (λ o. o.line < lines) o os below in omega arith)
-      | inr other ↦ named_below lines os line (All-tail (λ o. o.line < lines) o os below) (rw other at h)
-    ]
+    let here = All-head (λ o. o.line < lines) o os below in let rest = named_below lines os line (All-tail (λ o. o.line < lines) o os below) in grind (arith, here, rest)

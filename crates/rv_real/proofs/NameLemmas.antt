@@ -28,10 +28,7 @@ some_from name [] from line at = absurd cc
 some_from name (n ∷ names) from zero at =
     let same : n ≡ name = cc in
     rw ((bytes_eq-Decides name n).1 (sym same)) refl
-some_from name (n ∷ names) from (suc line) at = elim (bytes_eq name n) as (λ t. is_some (cond t (Some from) (position_from (bytes_eq name) (from + 1) names)) ≡ true) [
-  | true ↦ refl
-  | false ↦ some_from name names (from + 1) line at
-]
+some_from name (n ∷ names) from (suc line) at = let rest = some_from name names (from + 1) line at in grind (arith, rest)
 
 -- a name that a line has is found
 pub is_found : (names : List (List ℕ)) (name : List ℕ) (line : ℕ) → slice_get names line ≡ Some name → is_some (line_of_name names name) ≡ true

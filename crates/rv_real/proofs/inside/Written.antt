@@ -68,12 +68,7 @@ is_gap c = is_blank [] c || nat_eq c 35
 
 label_bytes : (label : List ℕ) → IsLabel label → list_any is_gap label ≡ false → list_all (is_word_byte []) label ≡ true
 label_bytes [] h k = refl
-label_bytes (c ∷ cs) h k =
-    let t = and_parts (is_label_byte c) (list_all is_label_byte cs) h in
-    let p = label_parts c t.0 in
-    let g = or_parts (is_gap c) (list_any is_gap cs) k in
-    let b = or_parts (is_blank [] c) (nat_eq c 35) g.0 in
-    rw (b.0, b.1, p.0, p.1) (label_bytes cs t.1 g.1)
+label_bytes (c ∷ cs) h k = let rest = label_bytes cs in grind (arith, rest)
 
 some_length : (label : List ℕ) → nat_eq (length label) 0 ≡ false → 0 < length label
 some_length [] h = absurd (true≢false h)
