@@ -46,8 +46,7 @@ rising_none left e = none_rise (has left) 64 (λ k lt. ap (λ s. has s k) e ∙ 
 -- ---- the free lines
 
 one_more : (b : Bool) (m n : ℕ) → m ≤ n → m + cond {A = ℕ} b 1 0 ≤ suc n
-one_more true m n le = omega arith
-one_more false m n le = omega arith
+one_more b m n le = grind arith
 
 pub count_few : (p : ℕ → Bool) (n : ℕ) → count p n ≤ n
 count_few p zero = omega (arith, count_zero p)

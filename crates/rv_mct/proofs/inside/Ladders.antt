@@ -17,8 +17,7 @@ use Rattle.rv_gate.proofs.Bits.{same_true, same_from, and_assoc, xor_assoc, xor_
 -- ---- bits
 
 same_one : (b : Bool) → same b true ≡ b
-same_one true = refl
-same_one false = refl
+same_one b = grind arith
 
 -- the helper was p, and is changed by k between two flips under m and the helper
 around : (m k p q : Bool) → xor (m && xor k p) (xor (m && p) q) ≡ xor (m && k) q
@@ -55,8 +54,7 @@ pub free_two : (a b t : ℕ) → t ≢ a → t ≢ b → has (bit_or (2 ^ a) (2 
 free_two a b t ta tb = has-lines a b t ∙ ap (λ x. x || eqb t b) (ne_eqb t a ta) ∙ ne_eqb t b tb
 
 place_at : (line : ℕ) (w : Bool) (at : ℕ) → has (cond w (2 ^ line) 0) at ≡ (w && eqb at line)
-place_at line true at = has-line line at
-place_at line false at = has-none at
+place_at line w at = grind (arith, has-line, has-none)
 
 want_first : (v u x : Bool) → ((v && true) || (u && false)) ≡ v
 want_first v u x = grind arith

@@ -142,12 +142,7 @@ met_all_append (c ∷ xs) ys word = ap (λ z. met c word && z) (met_all_append x
 
 met_all_reverse : (xs : List Control) (word : List Bool) → met_all (reverse xs) word ≡ met_all xs word
 met_all_reverse [] word = refl
-met_all_reverse (c ∷ xs) word =
-    ap (λ l. met_all l word) (reverse-cons c xs)
-    ∙ met_all_append (reverse xs) (c ∷ []) word
-    ∙ ap (λ z. z && (met c word && true)) (met_all_reverse xs word)
-    ∙ ap (λ z. met_all xs word && z) (and_true (met c word))
-    ∙ and_comm (met_all xs word) (met c word)
+met_all_reverse (c ∷ xs) word = let rest = met_all_reverse xs word in grind (arith, rest, reverse-cons, met_all_append, and_comm)
 
 met_down_all : (a b : Control) (more : List Control) (word : List Bool) → met_down a b more word ≡ (met_all more word && (met a word && met b word))
 met_down_all a b [] word = refl

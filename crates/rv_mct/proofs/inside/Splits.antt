@@ -103,12 +103,10 @@ not_from x k i h =
     ap (λ y. has y i) (whole x k) ∙ ap (λ b. eqb b 1) (ap (λ y. bit_at y i) (sym z) ∙ bit_at_cat_low (x / 2 ^ k) k 0 i h ∙ bit_at-zero i)
 
 pub below_part : (x k i : ℕ) → has (below x k) i ≡ true → has x i ≡ true
-below_part x k i on =
-    elim (cases_lt i k) [ inl lt ↦ sym (has_below x k i lt) ∙ on | inr ge ↦ absurd (false≢true (sym (not_below x k i ge) ∙ on)) ]
+below_part x k i on = grind (arith, cases_lt, has_below, not_below)
 
 pub from_part : (x k i : ℕ) → has (from x k) i ≡ true → has x i ≡ true
-from_part x k i on =
-    elim (cases_lt i k) [ inl lt ↦ absurd (false≢true (sym (not_from x k i lt) ∙ on)) | inr ge ↦ sym (has_from x k i ge) ∙ on ]
+from_part x k i on = grind (arith, cases_lt, has_from, not_from)
 
 pub off_from : (x y i : ℕ) → has y i ≡ false → (has x i ≡ true → has y i ≡ true) → has x i ≡ false
 off_from x y i off part = elim (cases_Bool (has x i)) [ inl on ↦ absurd (false≢true (sym off ∙ part on)) | inr gone ↦ gone ]
@@ -126,8 +124,7 @@ sum_or : (p q : Bool) → (p ≡ true → q ≡ false) → cond {A = ℕ} p 1 0 
 sum_or p q h = grind arith
 
 sum_not : (p : Bool) → cond {A = ℕ} (not p) 1 0 + cond p 1 0 ≡ 1
-sum_not true = refl
-sum_not false = refl
+sum_not p = grind arith
 
 pub free_count : (n care target : ℕ) → IsLong n care target → count (is_free care target) n + count_lines care + 1 ≡ n
 free_count n care target long =
