@@ -16,13 +16,7 @@ rising-suc p n = filter-suc p n
 -- where none passes from a line on
 pub rising_upto : (p q : ℕ → Bool) (n line : ℕ) → line ≤ n → ((x : ℕ) → x < line → q x ≡ p x) → ((x : ℕ) → line ≤ x → x < n → q x ≡ false) → rising q n ≡ rising p line
 rising_upto p q zero line few low high = let e : zero ≡ line = omega arith in rising_zero q ∙ sym (rising_zero p) ∙ ap (rising p) e
-rising_upto p q (suc n) line few low high =
-    elim (cases_lt n line) [
-      | inl lt ↦
-          let e : suc n ≡ line = omega arith in
-          rw (rising-suc q n, rising_upto p q n n (omega arith) (λ x l. low x (omega arith)) (λ x g l. absurd (omega arith)), low n lt) (sym (rising-suc p n) ∙ ap (rising p) e)
-      | inr ge ↦ rw (rising-suc q n, high n ge (omega arith)) (append-nil (rising q n) ∙ rising_upto p q n line ge low (λ x g l. high x g (omega arith)))
-    ]
+rising_upto p q (suc n) line few low high = let i0 = rising_upto p q n n in let i1 = rising_upto p q n line in grind (arith, i0, i1, rising-suc, append-nil)
 
 pub count_zero : (p : ℕ → Bool) → count p 0 ≡ 0
 unfolding count

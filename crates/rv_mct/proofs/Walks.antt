@@ -18,21 +18,7 @@ none_rise p n h = rising_upto p p n 0 (omega arith) (λ x l. refl) (λ x g l. h 
 first_rises : (p q : ℕ → Bool) (line n : ℕ) → line < n → p line ≡ true → q line ≡ false → ((k : ℕ) → k < line → (p k ≡ false) × (q k ≡ false))
     → ((k : ℕ) → k < n → k ≢ line → q k ≡ p k) → rising p n ≡ line ∷ rising q n
 first_rises p q line zero within on off low same = absurd (omega arith)
-first_rises p q line (suc n) within on off low same =
-    elim (cases_eq n line) [
-      | inl here ↦
-          let gone : rising q (suc n) ≡ [] = none_rise q (suc n) (λ k lt. elim (cases_eq k line) [ inl at ↦ ap q at ∙ off | inr other ↦ (low k (omega arith)).1 ]) in
-          rising-suc p n
-          ∙ ap (λ (b : Bool). rising p n ++ cond b (n ∷ []) []) (ap p here ∙ on)
-          ∙ ap (λ l. l ++ n ∷ []) (none_rise p n (λ k lt. (low k (omega arith)).0))
-          ∙ ap (λ k. k ∷ []) here
-          ∙ ap (λ l. line ∷ l) (sym gone)
-      | inr other ↦
-          rising-suc p n
-          ∙ ap (λ l. l ++ cond (p n) (n ∷ []) []) (first_rises p q line n (omega arith) on off low (λ k lt ne. same k (omega arith) ne))
-          ∙ ap (λ (b : Bool). line ∷ (rising q n ++ cond b (n ∷ []) [])) (sym (same n (omega arith) other))
-          ∙ ap (λ l. line ∷ l) (sym (rising-suc q n))
-    ]
+first_rises p q line (suc n) within on off low same = let i0 = first_rises p q line n in grind (arith, i0, none_rise, rising-suc)
 
 pub rising_lowest : (left line rest : ℕ) → IsLowest left line rest → rising (has left) 64 ≡ line ∷ rising (has rest) 64
 rising_lowest left line rest lowest =
@@ -75,11 +61,7 @@ free_all care target lines small lt e line =
     ]
 
 pub free_below : (care target lines : ℕ) → care < 2 ^ 64 → target < 64 → lines ≤ 64 → FreeSet (below (bit_not w64 (bit_or care (2 ^ target))) lines) care target lines
-free_below care target lines small lt few line =
-    elim (cases_lt line lines) [
-      | inl l ↦ rw (lt-ltb line lines l) (has_below _ lines line l ∙ has_others _ line (touched_small care target small lt) (omega arith) ∙ ap not (has-with_line care target line))
-      | inr ge ↦ rw (le-ltb line lines ge) (not_below _ lines line ge)
-    ]
+free_below care target lines small lt few line = grind (arith, lt-ltb, has_below, has_others, touched_small, has-with_line, le-ltb, not_below)
 
 free_low : (set care target lines : ℕ) → FreeSet set care target lines → (x : ℕ) → x < lines → has set x ≡ is_free care target x
 free_low set care target lines free x lt = free x ∙ ap (λ b. b && is_free care target x) (lt-ltb x lines lt)

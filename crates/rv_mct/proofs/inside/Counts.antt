@@ -37,9 +37,7 @@ or_few p q = grind arith
 
 count_or : (p q r : ℕ → Bool) (n : ℕ) → ((x : ℕ) → r x ≡ (p x || q x)) → count r n ≤ count p n + count q n
 count_or p q r zero h = omega (arith, count_zero r)
-count_or p q r (suc n) h =
-    let e : cond {A = ℕ} (r n) 1 0 ≡ cond (p n || q n) 1 0 = ap (λ t. cond t 1 0) (h n) in
-    omega (arith, count-suc p n, count-suc q n, count-suc r n, count_or p q r n h, or_few (p n) (q n))
+count_or p q r (suc n) h = let i0 = count_or p q r n h in grind (arith, i0, count-suc, or_few)
 
 pub plain_both : (c d : Control) (t : ℕ) → IsPlain (both c d t)
 plain_both c d t =
@@ -103,17 +101,10 @@ plain_cond false xs ys px py = py
 
 plain_long : (aux : Aux) (n extra care want t : ℕ) → Plain (long_flip aux n extra care want t)
 plain_long Clean n extra care want t = plain_clean_ladder (controls_of care want) n t
-plain_long Borrowed n extra care want t =
-    plain_cond (nat_lt (count (is_free care t) (n + extra) + 2) (count_lines care)) _ _
-    (plain_split (n + extra) care want t (get_or (rising (is_free care t) (n + extra)) 0 0)) (plain_borrowed_ladder (n + extra) care want t)
+plain_long Borrowed n extra care want t = grind (arith, plain_cond, nat_lt, plain_split, plain_borrowed_ladder)
 
 pub plain_block : (aux : Aux) (n extra : ℕ) (g : Shape) → Plain (flip_block aux n extra g)
-plain_block aux n extra (Flip care want t) =
-    elim (cases_lt (count_lines care) 3) [
-      | inl lt ↦
-          rw (lt-ltb (count_lines care) 3 lt) (All-cons IsPlain (Flip care want t) [] (omega arith) (All-nil IsPlain))
-      | inr ge ↦ rw (le-ltb (count_lines care) 3 ge) (plain_long aux n extra care want t)
-    ]
+plain_block aux n extra (Flip care want t) = grind (arith, lt-ltb, le-ltb, plain_long)
 plain_block aux n extra (Swap care want a b) = All-nil IsPlain
 plain_block aux n extra (Peres a b c) = All-nil IsPlain
 

@@ -156,10 +156,7 @@ first_in [] h = absurd (omega arith)
 first_in (x ∷ xs) h = inl refl
 
 pub long_of : (aux : Aux) (n extra care want target : ℕ) → Ready aux n extra care want target → IsLong (n + extra) care target
-long_of aux n extra care want target r =
-    let within : Within care n = fits_flip_care _ care want target n refl r.own.2 in
-    let lt : target < n = fits_flip _ care want target n refl r.own.2 in
-    record { few = r.few; within = λ line on. let l : line < n = within line on in omega arith; aimed = omega arith; free = r.own.1.1 }
+long_of aux n extra care want target r = grind (arith, fits_flip_care, fits_flip)
 
 pub first_free : (p : ℕ → Bool) (n : ℕ) → 1 ≤ count p n → (get_or (rising p n) 0 0 < n) × (p (get_or (rising p n) 0 0) ≡ true)
 first_free p n h = let l = length-rising p n in in_rising p n (get_or (rising p n) 0 0) (first_in (rising p n) (omega arith))
@@ -214,10 +211,7 @@ flip_works aux n extra (Peres a b c) few own enough word held lw lh may = absurd
 
 pub flat_map_extends : (aux : Aux) (n extra : ℕ) (made : Shape → List Shape) (gates : List Shape) → Every (Works aux n extra made) gates → Extends aux n extra (flat_map made gates) gates
 flat_map_extends aux n extra made [] works word held lw lh may = refl
-flat_map_extends aux n extra made (g ∷ rest) works word held lw lh may =
-    run-append (made g) (flat_map made rest) (word ++ held)
-    ∙ ap (run (flat_map made rest)) (works.0 word held lw lh may)
-    ∙ flat_map_extends aux n extra made rest works.1 (act g word) held (length-act g word ∙ lw) lh may
+flat_map_extends aux n extra made (g ∷ rest) works word held lw lh may = let i0 = flat_map_extends aux n extra made rest works.1 in grind (arith, i0, run-append, length-act)
 
 -- ---- gates
 
@@ -226,10 +220,7 @@ pub each_within : (wishes : Shape → ℕ) (K P : Shape → Type 0) (extra : ℕ
     → Every P xs
 unfolding greatest
 each_within wishes K P extra each [] are enough = tt
-each_within wishes K P extra each (g ∷ xs) are enough =
-    let l = le-max_left (wishes g) (greatest wishes xs) in
-    let r = le-max_right (wishes g) (greatest wishes xs) in
-    (each g are.0 (omega arith), each_within wishes K P extra each xs are.1 (omega arith))
+each_within wishes K P extra each (g ∷ xs) are enough = let i0 = each_within wishes K P extra each xs are.1 in grind (arith, i0, le-max_left, le-max_right)
 
 abbrev pub IsOwn : ℕ → Shape → Type 0
 IsOwn n g = IsGate g × FitsIn g n

@@ -42,10 +42,7 @@ put_put word line a b lt =
     set-set word line _ _ ∙ ap (set word line) (ap (xor b) (get_or-set_same word line (xor a (bit_of word line)) false lt) ∙ sym (xor_assoc b a (bit_of word line)))
 
 pub put_comm : (word : List Bool) (s t : ℕ) (a b : Bool) → s ≢ t → put (put word s a) t b ≡ put (put word t b) s a
-put_comm word s t a b ne =
-    ap (λ q. set (put word s a) t (xor b q)) (get_or-set_other word s t _ false (λ e. ne (sym e)))
-    ∙ set_comm word s t _ _ ne
-    ∙ ap (λ q. set (put word t b) s (xor a q)) (sym (get_or-set_other word t s _ false ne))
+put_comm word s t a b ne = grind (arith, get_or-set_other, set_comm)
 
 pub put_twice : (word : List Bool) (line : ℕ) (a : Bool) → line < length word → put (put word line a) line a ≡ word
 put_twice word line a lt = put_put word line a a lt ∙ ap (put word line) (xor_same a) ∙ ap (set word line) (false_xor (bit_of word line)) ∙ set-get_or word line false
@@ -81,14 +78,7 @@ met_other c word x v other = ap (λ b. same b c.wanted) (get_or-set_other word x
 
 pub frame_both : (c d : Control) (target : ℕ) (word : List Bool) (x : ℕ) (v : Bool) → c.line ≢ x → d.line ≢ x → target ≢ x
     → act (both c d target) (set word x v) ≡ set (act (both c d target) word) x v
-frame_both c d target word x v xc xd xt =
-    let care : ℕ = bit_or (2 ^ c.line) (2 ^ d.line) in
-    let h : Bool = holds care (bit_or (wanted_place c) (wanted_place d)) word in
-    flip_if _ (set word x v) target
-    ∙ ap (put (set word x v) target) (holds-set care _ x word v (free_two c.line d.line x (λ e. xc (sym e)) (λ e. xd (sym e))))
-    ∙ ap (λ q. set (set word x v) target (xor h q)) (get_or-set_other word x target v false xt)
-    ∙ set_comm word x target v _ (λ e. xt (sym e))
-    ∙ ap (λ w. set w x v) (sym (flip_if h word target))
+frame_both c d target word x v xc xd xt = grind (arith, flip_if, holds-set, free_two, get_or-set_other, set_comm)
 
 pub twice_both : (c d : Control) (target : ℕ) (word : List Bool) → target < length word → target ≢ c.line → target ≢ d.line
     → act (both c d target) (act (both c d target) word) ≡ word
@@ -257,9 +247,7 @@ zeros_set (h ∷ hs) word x v apart z =
 pub met_all_other : (n : ℕ) (on : ℕ → Bool) (cs : List Control) (word : List Bool) (x : ℕ) (v : Bool) → Every (IsOn n on) cs → on x ≡ false
     → met_all cs (set word x v) ≡ met_all cs word
 met_all_other n on [] word x v e off = refl
-met_all_other n on (c ∷ cs) word x v e off =
-    ap (λ z. z && met_all cs (set word x v)) (met_other c word x v (off_on on c.line x e.0.1 off))
-    ∙ ap (λ z. met c word && z) (met_all_other n on cs word x v e.1 off)
+met_all_other n on (c ∷ cs) word x v e off = let i0 = met_all_other n on cs word x v e.1 off in grind (arith, i0, met_other, off_on)
 
 -- the helper becomes a control
 abbrev pub with_line : (ℕ → Bool) → ℕ → ℕ → Bool

@@ -25,11 +25,7 @@ use Rattle.rv_gate.proofs.Lists.{take_same}
 
 in_append : (x : ℕ) (xs ys : List ℕ) → In x (xs ++ ys) → In x xs ⊎ In x ys
 in_append x [] ys i = inr i
-in_append x (y ∷ xs) ys i =
-    elim i [
-      | inl at ↦ inl (inl at)
-      | inr later ↦ (elim (in_append x xs ys later) [ inl l ↦ inl (inr l) | inr r ↦ inr r ])
-    ]
+in_append x (y ∷ xs) ys i = let i0 = in_append x xs ys in grind (arith, i0)
 
 in_left : (x : ℕ) (xs ys : List ℕ) → In x xs → In x (xs ++ ys)
 in_left x [] ys i = absurd i
@@ -57,11 +53,7 @@ in_rising p (suc n) x i =
 
 pub rising_in : (p : ℕ → Bool) (n x : ℕ) → x < n → p x ≡ true → In x (rising p n)
 rising_in p zero x lt on = absurd (omega arith)
-rising_in p (suc n) x lt on =
-    rw (rising-suc p n) (elim (cases_eq x n) [
-      | inl at ↦ in_right x (rising p n) _ (let Q : ℕ → Type 0 = λ k. In k (cond (p n) (n ∷ []) []) in rw at (last_in n (p n) (sym (ap p at) ∙ on)))
-      | inr other ↦ in_left x (rising p n) _ (rising_in p n x (omega arith) on)
-    ])
+rising_in p (suc n) x lt on = let i0 = rising_in p n x in grind (arith, i0, rising-suc, in_right, last_in, in_left)
 
 length-last : (n : ℕ) (b : Bool) → length (cond b (n ∷ []) []) ≡ cond b 1 0
 length-last n true = refl
@@ -69,9 +61,7 @@ length-last n false = refl
 
 pub length-rising : (p : ℕ → Bool) (n : ℕ) → length (rising p n) ≡ count p n
 length-rising p zero = ap length (rising_zero p) ∙ sym (count_zero p)
-length-rising p (suc n) =
-    ap length (rising-suc p n) ∙ length-append (rising p n) _ ∙ ap (λ k. k + length (cond (p n) (n ∷ []) [])) (length-rising p n) ∙ ap (λ k. count p n + k) (length-last n (p n))
-    ∙ sym (count-suc p n)
+length-rising p (suc n) = let i0 = length-rising p n in grind (arith, i0, rising-suc, length-append, length-last, count-suc)
 
 distinct_append : (xs ys : List ℕ) → Distinct xs → Distinct ys → ((x : ℕ) → In x xs → Apart x ys) → Distinct (xs ++ ys)
 distinct_append [] ys dx dy apart = dy
@@ -154,12 +144,7 @@ met_down_reverse a b more word = grind (arith, met_down_all, met_all_reverse, an
 
 met_each : (want : ℕ) (xs : List ℕ) (word : List Bool) → met_all (map (control want) xs) word ≡ true → (x : ℕ) → In x xs → bit_of word x ≡ has want x
 met_each want [] word h x i = absurd i
-met_each want (y ∷ xs) word h x i =
-    let parts = and_parts _ _ h in
-    elim i [
-      | inl at ↦ rw at (same_true _ _ parts.0)
-      | inr later ↦ met_each want xs word parts.1 x later
-    ]
+met_each want (y ∷ xs) word h x i = let i0 = met_each want xs word in grind (arith, i0, same_true)
 
 each_met : (want : ℕ) (xs : List ℕ) (word : List Bool) → ((x : ℕ) → In x xs → bit_of word x ≡ has want x) → met_all (map (control want) xs) word ≡ true
 each_met want [] word h = refl
@@ -270,11 +255,7 @@ run_borrowed_ladder n care want target word long some enough len =
 
 pub in_range : (first k x : ℕ) → In x (range_with_len first k) → (first ≤ x) × (x < first + k)
 in_range first zero x i = absurd i
-in_range first (suc k) x i =
-    elim i [
-      | inl at ↦ (omega arith, omega arith)
-      | inr later ↦ let r = in_range (first + 1) k x later in (omega (arith, r.0), omega (arith, r.1))
-    ]
+in_range first (suc k) x i = let i0 = in_range (first + 1) k x in grind (arith, i0)
 
 pub distinct_range : (first k : ℕ) → Distinct (range_with_len first k)
 distinct_range first zero = tt

@@ -18,10 +18,7 @@ append_none (x ∷ xs) = ap (λ l. x ∷ l) (append_none xs)
 -- ---- gates after gates
 
 pub grown_then : (c0 c1 c2 : Cascade) (x y : List Shape) → Grown c0 c1 x → Grown c1 c2 y → Grown c0 c2 (x ++ y)
-grown_then c0 c1 c2 x y first second =
-    second
-    ∙ ap (λ (t : Cascade). record t { gates = t.gates ++ y }) first
-    ∙ ap (λ l. record c0 { gates = l }) (append_assoc c0.gates x y)
+grown_then c0 c1 c2 x y first second = grind (arith, append_assoc)
 
 pub grown_lines : (c0 c1 : Cascade) (x : List Shape) → Grown c0 c1 x → length c1.names ≡ length c0.names
 grown_lines c0 c1 x g = ap (λ (t : Cascade). length t.names) g
@@ -118,9 +115,7 @@ grown_none c made = sym (ap (λ l. record c { gates = l }) (append_none c.gates)
 
 pub grown_next : (c0 c1 c2 : Cascade) (made : Shape → List Shape) (xs : List Shape) (k : ℕ) (x : Shape) → k < length xs → x ≡ get_or xs k x
     → Grown c0 c1 (flat_map made (take k xs)) → Grown c1 c2 (made x) → Grown c0 c2 (flat_map made (take (k + 1) xs))
-grown_next c0 c1 c2 made xs k x h at g1 g2 =
-    grown_twice c0 c1 c2 (flat_map made (take k xs)) (made x) _ g1 g2
-    (sym (ap (flat_map made) (take_more xs k x h) ∙ sym (flat_map_more made [] (take k xs) (get_or xs k x)) ∙ ap (λ y. flat_map made (take k xs) ++ made y) (sym at)))
+grown_next c0 c1 c2 made xs k x h at g1 g2 = grind (arith, grown_twice, take_more, flat_map_more)
 
 pub sum_by_next : (f : Shape → ℕ) (xs : List Shape) (k : ℕ) (x : Shape) → k < length xs → x ≡ get_or xs k x → sum_by f (take (k + 1) xs) ≡ sum_by f (take k xs) + f x
 sum_by_next f xs k x h at = ap (sum_by f) (take_more xs k x h) ∙ sum_by_push f (take k xs) (get_or xs k x) ∙ ap (λ y. sum_by f (take k xs) + f y) (sym at)
