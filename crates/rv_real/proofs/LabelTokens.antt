@@ -1,14 +1,14 @@
 -- Tokens of a line are labels, where none without quotes holds a quote.
-use Rattle.std.proofs.Common.{◌≡◌, ◌≤◌, ◌+◌, length, ℕ, zero, suc, Bool, true, false, not, cond, ◌&&◌, ◌||◌, List, [], ◌∷◌, ◌++◌, drop, refl, nat_eq, ap, ◌∙◌, inl, inr, arith}
+use Rattle.std.proofs.Common.{◌≡◌, ◌≤◌, ◌+◌, length, ℕ, zero, suc, Bool, true, false, not, ◌&&◌, ◌||◌, List, [], ◌∷◌, ◌++◌, drop, refl, nat_eq, ap, ◌∙◌, inl, inr, arith}
 use Rattle.std.specs.Prelude.{All}
 use Rattle.std.specs.List.{list_all, list_any}
 use Rattle.std.proofs.lemmas.Bool.{and_parts, cases_Bool}
 use Rattle.rv_text.proofs.inside.Spelled.{list_all-push}
 use Rattle.rv_text.specs.declared.found.Token.{Token}
-use Rattle.rv_text.specs.Tokens.{Lexeme, Open, between, inside, quoting, tokens_from, tokens_of, is_blank, plain, in_quotes}
+use Rattle.rv_text.specs.Tokens.{Lexeme, Open, between, inside, quoting, tokens_from, tokens_of}
 use Rattle.rv_text.specs.Found.{lexeme_at}
 use Rattle.rv_text.specs.Spelled.{IsOneLine}
-use Rattle.rv_gate.specs.Circuit.{is_label_byte, IsLabel}
+use Rattle.rv_gate.specs.Circuit.{IsLabel}
 use Rattle.rv_gate.proofs.Bits.{or_assoc, or_comm}
 use Rattle.rv_real.specs.Rules.{in_order}
 use Rattle.rv_real.specs.Header.{holds_quote, with_label}

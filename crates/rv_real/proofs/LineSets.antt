@@ -1,7 +1,7 @@
 -- The sets of the lines of operands.
-use Rattle.std.proofs.Common.{◌≡◌, ◌≢◌, ℕ, zero, suc, ◌^◌, ◌<◌, ◌≤◌, Bool, true, false, not, cond, ◌||◌, List, [], ◌∷◌, ◌++◌, length, take, nat_eq, refl, sym, ap, ◌∙◌, inl, inr, arith, eq-eqb, true≢false}
+use Rattle.std.proofs.Common.{◌≡◌, ◌≢◌, ℕ, zero, suc, ◌^◌, ◌<◌, ◌≤◌, Bool, true, false, not, cond, ◌||◌, List, [], ◌∷◌, ◌++◌, length, take, nat_eq, refl, sym, ap, ◌∙◌, arith, eq-eqb, true≢false}
 use Rattle.std.specs.Prelude.{All, bit_or}
-use Rattle.std.proofs.lemmas.Bool.{cases_Bool, eqb-true, or_parts}
+use Rattle.std.proofs.lemmas.Bool.{or_parts}
 use Rattle.std.proofs.lemmas.List.{append-nil}
 use Rattle.std.proofs.lemmas.List.Elements.{All-head, All-tail, filter-append}
 use Rattle.std.proofs.lemmas.Nat.Bits.{same_from_bits}
@@ -16,11 +16,7 @@ nat_eq-swap a b = grind arith
 -- the set of the lines has those that operands name
 pub has-line_set : (operands : List Operand) (line : ℕ) → has (line_set operands) line ≡ names_line operands line
 has-line_set [] line = has-none line
-has-line_set (o ∷ os) line =
-    has-with_line (line_set os) o.line line
-    ∙ ap (λ t. t || nat_eq line o.line) (has-line_set os line)
-    ∙ ap (λ t. names_line os line || t) (nat_eq-swap line o.line)
-    ∙ or_comm (names_line os line) (nat_eq o.line line)
+has-line_set (o ∷ os) line = let hyp = has-line_set os line in grind (arith, hyp, has-with_line, nat_eq, nat_eq-swap, or_comm)
 
 -- one operand more
 pub names_line-push : (operands : List Operand) (o : Operand) (line : ℕ) → names_line (operands ++ o ∷ []) line ≡ (names_line operands line || nat_eq o.line line)
@@ -66,10 +62,7 @@ pub apart : (operands : List Operand) (m k : ℕ) → m ≤ k → k < length ope
 apart [] m k le lt h = absurd (omega (arith, lt))
 apart (o ∷ os) zero k le lt h = refl
 apart (o ∷ os) (suc m) zero le lt h = absurd (omega (arith, le))
-apart (o ∷ os) (suc m) (suc k) le lt h =
-    let parts = or_parts (names_line os o.line) (has_repeated os) h in
-    rw (nat_eq-swap o.line (line_at os k), not_named os o.line k parts.0 (omega (arith, lt)))
-    (apart os m k (omega (arith, le)) (omega (arith, lt)) parts.1)
+apart (o ∷ os) (suc m) (suc k) le lt h = let hyp = apart os m k in grind (arith, hyp, or_parts, nat_eq-swap, not_named)
 
 pub differ : (operands : List Operand) (i k : ℕ) → i < k → k < length operands → has_repeated operands ≡ false → line_at operands i ≢ line_at operands k
 differ [] i k lt within h e = absurd (omega (arith, within))
@@ -85,10 +78,7 @@ has_repeated-step a b c d e h = grind arith
 
 pub has_repeated-push : (operands : List Operand) (o : Operand) → has_repeated (operands ++ o ∷ []) ≡ (has_repeated operands || names_line operands o.line)
 has_repeated-push [] o = refl
-has_repeated-push (p ∷ operands) o =
-    ap (λ t. t || has_repeated (operands ++ o ∷ [])) (names_line-push operands o p.line)
-    ∙ ap (λ t. (names_line operands p.line || nat_eq o.line p.line) || t) (has_repeated-push operands o)
-    ∙ has_repeated-step (names_line operands p.line) (nat_eq o.line p.line) (nat_eq p.line o.line) (has_repeated operands) (names_line operands o.line) (nat_eq-swap o.line p.line)
+has_repeated-push (p ∷ operands) o = let hyp = has_repeated-push operands o in grind (arith, hyp, names_line-push, nat_eq, has_repeated-step, nat_eq-swap)
 
 -- the lines of operands that are below a number
 pub named_below : (lines : ℕ) (operands : List Operand) (line : ℕ) → All (λ o. o.line < lines) operands → names_line operands line ≡ true → line < lines

@@ -3,8 +3,8 @@ use Rattle.std.proofs.Common.{arith}
 use Rattle.std.proofs.Common.{◌≡◌, ℕ, Bool, true, false, not, cond, ◌||◌, List, [], ◌∷◌, ◌++◌, Result, Ok, Err, codes, if◌then◌else◌, nat_eq, nat_lt, refl, ◌∙◌, length, inl, inr}
 use Rattle.std.specs.List.{list_all, list_any}
 use Rattle.std.proofs.lemmas.Bool.{and_parts, cases_Bool}
-use Rattle.rv_text.specs.Bytes.{quote, hash, begins_with_dot}
-use Rattle.rv_text.specs.Tokens.{Lexeme, Open, tokens_from, tokens_of, between, inside, quoting, is_blank, plain, in_quotes}
+use Rattle.rv_text.specs.Bytes.{begins_with_dot}
+use Rattle.rv_text.specs.Tokens.{Lexeme, Open, tokens_from, tokens_of, between, inside, quoting}
 use Rattle.rv_gate.specs.Circuit.{Cascade}
 use Rattle.rv_gate.specs.declared.gate.Shape.{Shape}
 use Rattle.rv_reader.specs.declared.stop.Stop.{Stop}
