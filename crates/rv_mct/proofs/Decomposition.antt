@@ -1,5 +1,5 @@
 -- The decomposed circuit is a decomposition: helper lines that begin with the constant 0 and end as garbage change no output.
-use Rattle.std.proofs.Common.{◌≡◌, ℕ, ◌+◌, Bool, true, false, List, [], ◌∷◌, ◌++◌, ◌≤◌, length, replicate, ap, refl, sym, arith}
+use Rattle.std.proofs.Common.{◌≡◌, ℕ, ◌+◌, Bool, true, false, List, [], ◌∷◌, ◌++◌, ◌≤◌, length, replicate, ap, sym, arith}
 use Rattle.std.proofs.lemmas.List.{length-append, length-replicate}
 use Rattle.std.specs.Prelude.{All}
 use Rattle.rv_gate.specs.Circuit.{Cascade, IsCascade}

@@ -1,7 +1,7 @@
 -- The lines of a set one by one, the lowest first, and the free lines as a set.
 use Rattle.std.proofs.Common.{length, length-append, ◌≡◌, ◌≢◌, ℕ, zero, suc, ◌^◌, ◌<◌, ◌≤◌, Bool, true, false, not, cond, ltb, eqb, ◌+◌, ◌&&◌, [], List, ◌∷◌, ◌++◌, refl, sym, ◌∙◌, ap, inl, inr, arith, w64, bit_or}
 use Rattle.std.specs.Int.{bit_not}
-use Rattle.std.proofs.lemmas.Bool.{cases_eq, cases_lt, lt-ltb, le-ltb, or_cases, eqb-true}
+use Rattle.std.proofs.lemmas.Bool.{cases_lt, lt-ltb, le-ltb, or_cases, eqb-true}
 use Rattle.std.proofs.lemmas.Nat.Bits.{bit_at_not}
 use Rattle.rv_gate.specs.Word.{has}
 use Rattle.rv_gate.proofs.LineSets.{bit_cases, has-above, has-with_line, Within-below, below-Within}
@@ -18,7 +18,7 @@ none_rise p n h = rising_upto p p n 0 (omega arith) (λ x l. refl) (λ x g l. h 
 first_rises : (p q : ℕ → Bool) (line n : ℕ) → line < n → p line ≡ true → q line ≡ false → ((k : ℕ) → k < line → (p k ≡ false) × (q k ≡ false))
     → ((k : ℕ) → k < n → k ≢ line → q k ≡ p k) → rising p n ≡ line ∷ rising q n
 first_rises p q line zero within on off low same = absurd (omega arith)
-first_rises p q line (suc n) within on off low same = let i0 = first_rises p q line n in grind (arith, i0, none_rise, rising-suc)
+first_rises p q line (suc n) within on off low same = let hyp = first_rises p q line n in grind (arith, hyp, none_rise, rising-suc)
 
 pub rising_lowest : (left line rest : ℕ) → IsLowest left line rest → rising (has left) 64 ≡ line ∷ rising (has rest) 64
 rising_lowest left line rest lowest =

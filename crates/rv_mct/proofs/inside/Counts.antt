@@ -1,5 +1,5 @@
 -- How many flips there are, and how many controls each has.
-use Rattle.std.proofs.Common.{◌≡◌, ℕ, zero, suc, ◌+◌, ◌-◌, ◌*◌, ◌/◌, ◌^◌, ◌≤◌, Bool, true, false, cond, ◌||◌, eqb, List, [], ◌∷◌, ◌++◌, length, take, reverse, get_or, nat_lt, All, refl, ◌∙◌, ap, inl, inr, arith, ne_eqb, length-append}
+use Rattle.std.proofs.Common.{◌≡◌, ℕ, zero, suc, ◌+◌, ◌-◌, ◌*◌, ◌/◌, ◌^◌, ◌≤◌, Bool, true, false, cond, ◌||◌, eqb, List, [], ◌∷◌, ◌++◌, length, take, reverse, nat_lt, All, refl, ◌∙◌, ap, inl, inr, arith, ne_eqb, length-append}
 use Rattle.std.specs.Prelude.{bit_or}
 use Rattle.std.proofs.lemmas.Bool.{cases_lt, lt-ltb, le-ltb}
 use Rattle.std.proofs.lemmas.List.Sums.{sum_by-cons}
@@ -37,7 +37,7 @@ or_few p q = grind arith
 
 count_or : (p q r : ℕ → Bool) (n : ℕ) → ((x : ℕ) → r x ≡ (p x || q x)) → count r n ≤ count p n + count q n
 count_or p q r zero h = omega (arith, count_zero r)
-count_or p q r (suc n) h = let i0 = count_or p q r n h in grind (arith, i0, count-suc, or_few)
+count_or p q r (suc n) h = let hyp = count_or p q r n h in grind (arith, hyp, count-suc, or_few)
 
 pub plain_both : (c d : Control) (t : ℕ) → IsPlain (both c d t)
 plain_both c d t =

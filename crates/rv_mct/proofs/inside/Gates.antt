@@ -7,7 +7,7 @@ use Rattle.std.proofs.lemmas.List.{set-set, set_comm, set-get_or, get_or-append_
 use Rattle.std.proofs.lemmas.List.Elements.{All-head, All-tail}
 use Rattle.std.proofs.Math.Nat.{le-max_left, le-max_right}
 use Rattle.rv_gate.specs.Word.{has, bit_of}
-use Rattle.rv_gate.specs.Gate.{holds, exchanged, xor, act, run, flip_under, Within, FitsIn, IsGate, IsFlipOn}
+use Rattle.rv_gate.specs.Gate.{holds, exchanged, xor, act, run, flip_under, FitsIn, IsGate, IsFlipOn}
 use Rattle.rv_gate.specs.declared.gate.Shape.{Shape}
 use Rattle.rv_gate.specs.declared.gate.Shape.TheVariants.{Flip, Swap, Peres}
 use Rattle.rv_gate.proofs.inside.GateLemmas.{holds-set, flip_if, length-act, run-append, fits_flip, fits_flip_care, fits_swap_a, fits_swap_b, fits_peres_a, fits_peres_b, fits_peres_c}
@@ -211,7 +211,7 @@ flip_works aux n extra (Peres a b c) few own enough word held lw lh may = absurd
 
 pub flat_map_extends : (aux : Aux) (n extra : ℕ) (made : Shape → List Shape) (gates : List Shape) → Every (Works aux n extra made) gates → Extends aux n extra (flat_map made gates) gates
 flat_map_extends aux n extra made [] works word held lw lh may = refl
-flat_map_extends aux n extra made (g ∷ rest) works word held lw lh may = let i0 = flat_map_extends aux n extra made rest works.1 in grind (arith, i0, run-append, length-act)
+flat_map_extends aux n extra made (g ∷ rest) works word held lw lh may = let hyp = flat_map_extends aux n extra made rest works.1 in grind (arith, hyp, run-append, length-act)
 
 -- ---- gates
 
@@ -220,7 +220,7 @@ pub each_within : (wishes : Shape → ℕ) (K P : Shape → Type 0) (extra : ℕ
     → Every P xs
 unfolding greatest
 each_within wishes K P extra each [] are enough = tt
-each_within wishes K P extra each (g ∷ xs) are enough = let i0 = each_within wishes K P extra each xs are.1 in grind (arith, i0, le-max_left, le-max_right)
+each_within wishes K P extra each (g ∷ xs) are enough = let hyp = each_within wishes K P extra each xs are.1 in grind (arith, hyp, le-max_left, le-max_right)
 
 abbrev pub IsOwn : ℕ → Shape → Type 0
 IsOwn n g = IsGate g × FitsIn g n

@@ -247,7 +247,7 @@ zeros_set (h ∷ hs) word x v apart z =
 pub met_all_other : (n : ℕ) (on : ℕ → Bool) (cs : List Control) (word : List Bool) (x : ℕ) (v : Bool) → Every (IsOn n on) cs → on x ≡ false
     → met_all cs (set word x v) ≡ met_all cs word
 met_all_other n on [] word x v e off = refl
-met_all_other n on (c ∷ cs) word x v e off = let i0 = met_all_other n on cs word x v e.1 off in grind (arith, i0, met_other, off_on)
+met_all_other n on (c ∷ cs) word x v e off = let hyp = met_all_other n on cs word x v e.1 off in grind (arith, hyp, met_other, off_on)
 
 -- the helper becomes a control
 abbrev pub with_line : (ℕ → Bool) → ℕ → ℕ → Bool

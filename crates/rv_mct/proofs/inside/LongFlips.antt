@@ -2,7 +2,7 @@
 use Rattle.std.proofs.lemmas.Grind.{common_steps}
 use Rattle.std.proofs.Common.{◌≡◌, ◌≢◌, ℕ, zero, suc, ◌+◌, ◌-◌, ◌<◌, ◌≤◌, Bool, true, false, cond, ◌&&◌, List, [], ◌∷◌, ◌++◌, length, map, take, drop, get_or, reverse, refl, sym, ◌∙◌, ap, inl, inr, arith, length-append}
 use Rattle.std.specs.Prelude.{◌⊎◌}
-use Rattle.std.proofs.lemmas.Bool.{cases_eq, cases_Bool, false≢true, and_parts, and_from}
+use Rattle.std.proofs.lemmas.Bool.{cases_Bool, false≢true, and_from}
 use Rattle.std.proofs.lemmas.Bool.Decides.{same_from_decides}
 use Rattle.std.proofs.lemmas.List.FromFn.{length-range_with_len}
 use Rattle.std.proofs.lemmas.List.{reverse-append, length-reverse, length-take-le, length-map, length-drop}
@@ -18,14 +18,14 @@ use Rattle.rv_mct.specs.inside.Long.{IsLong}
 use Rattle.rv_mct.specs.inside.LadderLines.{In, Every, Distinct, IsOn, IsOff, AreDivided, BorrowedDivided, CleanDivided, no_control}
 use Rattle.rv_mct.proofs.Rising.{rising_zero, rising-suc, count_zero, count-suc}
 use Rattle.rv_mct.proofs.inside.Ladders.{Apart, met, met_all, met_down, put, run_ladder, run_down_up_twice}
-use Rattle.rv_gate.proofs.Bits.{same_true, same_from, and_comm, and_assoc, and_true}
+use Rattle.rv_gate.proofs.Bits.{same_true, same_from, and_comm, and_assoc}
 use Rattle.rv_gate.proofs.Lists.{take_same}
 
 -- ---- lists of lines
 
 in_append : (x : ℕ) (xs ys : List ℕ) → In x (xs ++ ys) → In x xs ⊎ In x ys
 in_append x [] ys i = inr i
-in_append x (y ∷ xs) ys i = let i0 = in_append x xs ys in grind (arith, i0)
+in_append x (y ∷ xs) ys i = let hyp = in_append x xs ys in grind (arith, hyp)
 
 in_left : (x : ℕ) (xs ys : List ℕ) → In x xs → In x (xs ++ ys)
 in_left x [] ys i = absurd i
@@ -53,7 +53,7 @@ in_rising p (suc n) x i =
 
 pub rising_in : (p : ℕ → Bool) (n x : ℕ) → x < n → p x ≡ true → In x (rising p n)
 rising_in p zero x lt on = absurd (omega arith)
-rising_in p (suc n) x lt on = let i0 = rising_in p n x in grind (arith, i0, rising-suc, in_right, last_in, in_left)
+rising_in p (suc n) x lt on = let hyp = rising_in p n x in grind (arith, hyp, rising-suc, in_right, last_in, in_left)
 
 length-last : (n : ℕ) (b : Bool) → length (cond b (n ∷ []) []) ≡ cond b 1 0
 length-last n true = refl
@@ -61,7 +61,7 @@ length-last n false = refl
 
 pub length-rising : (p : ℕ → Bool) (n : ℕ) → length (rising p n) ≡ count p n
 length-rising p zero = ap length (rising_zero p) ∙ sym (count_zero p)
-length-rising p (suc n) = let i0 = length-rising p n in grind (arith, i0, rising-suc, length-append, length-last, count-suc)
+length-rising p (suc n) = let hyp = length-rising p n in grind (arith, hyp, rising-suc, length-append, length-last, count-suc)
 
 distinct_append : (xs ys : List ℕ) → Distinct xs → Distinct ys → ((x : ℕ) → In x xs → Apart x ys) → Distinct (xs ++ ys)
 distinct_append [] ys dx dy apart = dy
@@ -144,7 +144,7 @@ met_down_reverse a b more word = grind (arith, met_down_all, met_all_reverse, an
 
 met_each : (want : ℕ) (xs : List ℕ) (word : List Bool) → met_all (map (control want) xs) word ≡ true → (x : ℕ) → In x xs → bit_of word x ≡ has want x
 met_each want [] word h x i = absurd i
-met_each want (y ∷ xs) word h x i = let i0 = met_each want xs word in grind (arith, i0, same_true)
+met_each want (y ∷ xs) word h x i = let hyp = met_each want xs word in grind (arith, hyp, same_true)
 
 each_met : (want : ℕ) (xs : List ℕ) (word : List Bool) → ((x : ℕ) → In x xs → bit_of word x ≡ has want x) → met_all (map (control want) xs) word ≡ true
 each_met want [] word h = refl
@@ -255,7 +255,7 @@ run_borrowed_ladder n care want target word long some enough len =
 
 pub in_range : (first k x : ℕ) → In x (range_with_len first k) → (first ≤ x) × (x < first + k)
 in_range first zero x i = absurd i
-in_range first (suc k) x i = let i0 = in_range (first + 1) k x in grind (arith, i0)
+in_range first (suc k) x i = let hyp = in_range (first + 1) k x in grind (arith, hyp)
 
 pub distinct_range : (first k : ℕ) → Distinct (range_with_len first k)
 distinct_range first zero = tt
