@@ -1,5 +1,5 @@
 -- The decomposed circuit is a decomposition: helper lines that begin with the constant 0 and end as garbage change no output.
-use Rattle.std.proofs.Common.{◌≡◌, ℕ, ◌+◌, Bool, true, false, List, [], ◌∷◌, ◌++◌, ◌≤◌, length, replicate, ap, refl, sym, arith}
+use Rattle.std.proofs.Common.{◌≡◌, ℕ, ◌+◌, Bool, true, false, List, [], ◌∷◌, ◌++◌, ◌≤◌, length, replicate, ap, sym, arith}
 use Rattle.std.proofs.lemmas.List.{length-append, length-replicate}
 use Rattle.std.specs.Prelude.{All}
 use Rattle.rv_gate.specs.Circuit.{Cascade, IsCascade}
@@ -51,24 +51,7 @@ decomposed-lines aux c few = grind (arith, added_names, helper_count, length-app
 
 -- the law
 pub decomposes : (aux : Aux) (c : Cascade) → IsCascade c → lines_with_helpers aux c ≤ MOST_LINES → Decomposes aux c (decomposed aux c)
-decomposes aux c given few =
-    let n : ℕ = length c.names in
-    let extra : ℕ = helper_count aux c in
-    let kept : Extends aux n extra (decomposed aux c).gates c.gates = extends aux n extra c.gates few given.valid given.fitting (omega arith) in record {
-      extends = kept;
-      plain = plain_decomposition aux n extra c.gates;
-      counted = length_decomposition aux n extra c.gates few given.valid given.fitting (omega arith);
-      same = same_output aux c given kept;
-      helpers = record {
-        helpers = added_names c.names extra;
-        counted = length-added_names c.names extra few;
-        names = refl;
-        input_labels = refl;
-        output_labels = refl;
-        constants = refl;
-        garbage = refl;
-      };
-    }
+decomposes aux c given few = grind (arith, extends, plain_decomposition, length_decomposition, same_output, length-added_names)
 
 -- the same of what equals it
 pub record DecomposesAs (aux : Aux) (c made : Cascade) (extra : ℕ) : Type 0 where

@@ -17,8 +17,7 @@ use Rattle.rv_gate.proofs.NameLemmas.{AreNames-push, IsName-numbered_name, lengt
 use Rattle.rv_mct.specs.Widened.{is_taken, spare_names, added_names}
 
 pub taken_not : (b : Bool) → not b ≡ true → b ≡ false
-taken_not true h = sym h
-taken_not false h = refl
+taken_not b h = grind arith
 
 -- numbered names are names, each once
 pub AreNames-numbered : (prefix n : ℕ) → IsPrefixByte prefix → n ≤ MOST_LINES → AreNames (numbered prefix n)

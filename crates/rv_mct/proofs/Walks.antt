@@ -1,43 +1,24 @@
 -- The lines of a set one by one, the lowest first, and the free lines as a set.
 use Rattle.std.proofs.Common.{length, length-append, ◌≡◌, ◌≢◌, ℕ, zero, suc, ◌^◌, ◌<◌, ◌≤◌, Bool, true, false, not, cond, ltb, eqb, ◌+◌, ◌&&◌, [], List, ◌∷◌, ◌++◌, refl, sym, ◌∙◌, ap, inl, inr, arith, w64, bit_or}
 use Rattle.std.specs.Int.{bit_not}
-use Rattle.std.proofs.lemmas.Bool.{cases_eq, cases_lt, lt-ltb, le-ltb, or_cases, eqb-true}
+use Rattle.std.proofs.lemmas.Bool.{cases_lt, lt-ltb, le-ltb, or_cases, eqb-true}
 use Rattle.std.proofs.lemmas.Nat.Bits.{bit_at_not}
 use Rattle.rv_gate.specs.Word.{has}
 use Rattle.rv_gate.proofs.LineSets.{bit_cases, has-above, has-with_line, Within-below, below-Within}
 use Rattle.rv_gate.proofs.LowestLine.{IsLowest, none_left}
 use Rattle.rv_mct.specs.Blocks.{rising, count, count_lines, is_free, below}
-use Rattle.rv_mct.proofs.Rising.{rising_zero, rising-suc, count_zero, count-suc}
-use Rattle.std.proofs.lemmas.List.{append-nil}
+use Rattle.rv_mct.proofs.Rising.{rising_zero, rising-suc, rising_upto, count_zero, count-suc}
 use Rattle.rv_mct.proofs.inside.Splits.{count_upto, has_below, not_below}
 
 -- ---- the lowest line, and the others
 
-pub none_rise : (p : ℕ → Bool) (n : ℕ) → ((k : ℕ) → k < n → p k ≡ false) → rising p n ≡ []
-none_rise p zero h = rising_zero p
-none_rise p (suc n) h =
-    rising-suc p n
-    ∙ ap (λ (b : Bool). rising p n ++ cond b (n ∷ []) []) (h n (omega arith))
-    ∙ ap (λ l. l ++ []) (none_rise p n (λ k lt. h k (omega arith)))
+none_rise : (p : ℕ → Bool) (n : ℕ) → ((k : ℕ) → k < n → p k ≡ false) → rising p n ≡ []
+none_rise p n h = rising_upto p p n 0 (omega arith) (λ x l. refl) (λ x g l. h x l) ∙ rising_zero p
 
 first_rises : (p q : ℕ → Bool) (line n : ℕ) → line < n → p line ≡ true → q line ≡ false → ((k : ℕ) → k < line → (p k ≡ false) × (q k ≡ false))
     → ((k : ℕ) → k < n → k ≢ line → q k ≡ p k) → rising p n ≡ line ∷ rising q n
 first_rises p q line zero within on off low same = absurd (omega arith)
-first_rises p q line (suc n) within on off low same =
-    elim (cases_eq n line) [
-      | inl here ↦
-          let gone : rising q (suc n) ≡ [] = none_rise q (suc n) (λ k lt. elim (cases_eq k line) [ inl at ↦ ap q at ∙ off | inr other ↦ (low k (omega arith)).1 ]) in
-          rising-suc p n
-          ∙ ap (λ (b : Bool). rising p n ++ cond b (n ∷ []) []) (ap p here ∙ on)
-          ∙ ap (λ l. l ++ n ∷ []) (none_rise p n (λ k lt. (low k (omega arith)).0))
-          ∙ ap (λ k. k ∷ []) here
-          ∙ ap (λ l. line ∷ l) (sym gone)
-      | inr other ↦
-          rising-suc p n
-          ∙ ap (λ l. l ++ cond (p n) (n ∷ []) []) (first_rises p q line n (omega arith) on off low (λ k lt ne. same k (omega arith) ne))
-          ∙ ap (λ (b : Bool). line ∷ (rising q n ++ cond b (n ∷ []) [])) (sym (same n (omega arith) other))
-          ∙ ap (λ l. line ∷ l) (sym (rising-suc q n))
-    ]
+first_rises p q line (suc n) within on off low same = let hyp = first_rises p q line n in grind (arith, hyp, none_rise, rising-suc)
 
 pub rising_lowest : (left line rest : ℕ) → IsLowest left line rest → rising (has left) 64 ≡ line ∷ rising (has rest) 64
 rising_lowest left line rest lowest =
@@ -51,28 +32,11 @@ rising_none left e = none_rise (has left) 64 (λ k lt. ap (λ s. has s k) e ∙ 
 -- ---- the free lines
 
 one_more : (b : Bool) (m n : ℕ) → m ≤ n → m + cond {A = ℕ} b 1 0 ≤ suc n
-one_more true m n le = omega arith
-one_more false m n le = omega arith
+one_more b m n le = grind arith
 
 pub count_few : (p : ℕ → Bool) (n : ℕ) → count p n ≤ n
 count_few p zero = omega (arith, count_zero p)
 count_few p (suc n) = omega (arith, count-suc p n, one_more (p n) (count p n) n (count_few p n))
-
-rising_upto : (p q : ℕ → Bool) (n line : ℕ) → line ≤ n → ((x : ℕ) → x < line → q x ≡ p x) → ((x : ℕ) → line ≤ x → q x ≡ false) → rising q n ≡ rising p line
-rising_upto p q zero line few low high = let e : zero ≡ line = omega arith in rising_zero q ∙ sym (rising_zero p) ∙ ap (rising p) e
-rising_upto p q (suc n) line few low high =
-    elim (cases_lt n line) [
-      | inl lt ↦ let e : suc n ≡ line = omega arith in same_rise (suc n) (λ x l. low x (omega arith)) ∙ ap (rising p) e
-      | inr ge ↦
-          rising-suc q n
-          ∙ ap (λ (b : Bool). rising q n ++ cond b (n ∷ []) []) (high n ge)
-          ∙ append-nil (rising q n)
-          ∙ rising_upto p q n line ge low high
-    ]
-  where
-    same_rise : (m : ℕ) → ((x : ℕ) → x < m → q x ≡ p x) → rising q m ≡ rising p m
-    same_rise zero h = rising_zero q ∙ sym (rising_zero p)
-    same_rise (suc m) h = rw (rising-suc p m, rising-suc q m, same_rise m (λ x lt. h x (omega arith)), h m (omega arith)) refl
 
 -- the set of the free lines
 abbrev pub FreeSet : ℕ → ℕ → ℕ → ℕ → Type 0
@@ -97,11 +61,7 @@ free_all care target lines small lt e line =
     ]
 
 pub free_below : (care target lines : ℕ) → care < 2 ^ 64 → target < 64 → lines ≤ 64 → FreeSet (below (bit_not w64 (bit_or care (2 ^ target))) lines) care target lines
-free_below care target lines small lt few line =
-    elim (cases_lt line lines) [
-      | inl l ↦ rw (lt-ltb line lines l) (has_below _ lines line l ∙ has_others _ line (touched_small care target small lt) (omega arith) ∙ ap not (has-with_line care target line))
-      | inr ge ↦ rw (le-ltb line lines ge) (not_below _ lines line ge)
-    ]
+free_below care target lines small lt few line = grind (arith, lt-ltb, has_below, has_others, touched_small, has-with_line, le-ltb, not_below)
 
 free_low : (set care target lines : ℕ) → FreeSet set care target lines → (x : ℕ) → x < lines → has set x ≡ is_free care target x
 free_low set care target lines free x lt = free x ∙ ap (λ b. b && is_free care target x) (lt-ltb x lines lt)
@@ -111,11 +71,11 @@ free_high set care target lines free x ge = free x ∙ ap (λ b. b && is_free ca
 
 pub count_free : (set care target lines : ℕ) → lines ≤ 64 → FreeSet set care target lines → count_lines set ≡ count (is_free care target) lines
 count_free set care target lines few free =
-    count_upto (is_free care target) (has set) 64 lines few (free_low set care target lines free) (free_high set care target lines free)
+    count_upto (is_free care target) (has set) 64 lines few (free_low set care target lines free) (λ x ge lt. free_high set care target lines free x ge)
 
 pub rising_free : (set care target lines : ℕ) → lines ≤ 64 → FreeSet set care target lines → rising (has set) 64 ≡ rising (is_free care target) lines
 rising_free set care target lines few free =
-    rising_upto (is_free care target) (has set) 64 lines few (free_low set care target lines free) (free_high set care target lines free)
+    rising_upto (is_free care target) (has set) 64 lines few (free_low set care target lines free) (λ x ge lt. free_high set care target lines free x ge)
 
 -- ---- room for one more
 

@@ -1,8 +1,8 @@
-ghost use Rattle.std.specs.Prelude.{◌≡◌, ◌≢◌, ◌+◌, ◌^◌, ◌<◌, ◌≤◌, ◌++◌, ◌∷◌, [], reverse, length, OnOk};
+ghost use Rattle.std.specs.Prelude.{◌≡◌, ◌+◌, ◌^◌, ◌<◌, ◌≤◌, ◌++◌, ◌∷◌, [], reverse, length, OnOk};
 ghost use Rattle.rv_gate.specs.Gate.{FitsIn, IsGate};
 ghost use Rattle.rv_mct.specs.Blocks.{both, wanted_place, ladder, down_up, inner, down_up_twice};
 ghost use Rattle.std.specs.List.{range_with_len};
-ghost use Rattle.rv_mct.specs.inside.LadderLines.{AreDivided, Grown};
+ghost use Rattle.rv_mct.specs.inside.LadderLines.{AreDivided, Grown, IsRung};
 
 use crate::control::{Control, positive};
 use rv_gate::{Circuit, Gate, LineSet, MOST_LINES};
@@ -28,11 +28,7 @@ fn wanted_place(control: Control) -> LineSet
 
 /// The flip under two controls.
 fn both(a: Control, b: Control, target: u8) -> Gate
-    requires first { a.line < MOST_LINES }
-    requires second { b.line < MOST_LINES }
-    requires target { target < MOST_LINES }
-    requires not_first { target ≢ a.line }
-    requires not_second { target ≢ b.line }
+    requires { IsRung MOST_LINES a b target }
     ensures { result ≡ both a b target }
 {
     let care = place(a.line) | place(b.line);
@@ -56,11 +52,7 @@ pub(crate) fn push(circuit: &mut Circuit, gate: Gate) -> Result<(), AllocError>
 
 fn push_both(circuit: &mut Circuit, a: Control, b: Control, target: u8) -> Result<(), AllocError>
     requires few { length circuit.old.names ≤ MOST_LINES }
-    requires first { a.line < length circuit.old.names }
-    requires second { b.line < length circuit.old.names }
-    requires target { target < length circuit.old.names }
-    requires not_first { target ≢ a.line }
-    requires not_second { target ≢ b.line }
+    requires rung { IsRung (length circuit.old.names) a b target }
     ensures { OnOk result (Grown circuit.old circuit.new (both a b target ∷ [])) }
 {
     push(circuit, both(a, b, target))?;
@@ -83,20 +75,13 @@ pub(crate) fn ladder(
     ensures { OnOk result
         (Grown circuit.old circuit.new (ladder a b more.now (range_with_len helper (length more.now)) target)) }
 {
-    if more.is_empty() {
+    let Some((c, rest)) = more.split_first() else {
         push_both(circuit, a, b, target)?;
         return Ok(());
-    }
+    };
     let first = both(a, b, helper);
     push(circuit, first)?;
-    ladder(
-        circuit,
-        positive(helper),
-        more[0],
-        &more[1..],
-        helper + 1,
-        target,
-    )?;
+    ladder(circuit, positive(helper), *c, rest, helper + 1, target)?;
     let undone = first;
     push(circuit, undone)?;
     Ok(())
@@ -117,15 +102,16 @@ pub(crate) fn down_up(
     ensures { OnOk result
         (Grown circuit.old circuit.new (down_up a b (reverse more.now) (reverse helpers.now) target)) }
 {
-    if more.is_empty() {
+    let Some((c, rest)) = more.split_last() else {
         push_both(circuit, a, b, target)?;
         return Ok(());
-    }
-    let last = more.len() - 1;
-    let helper = helpers[last];
-    let outer = both(more[last], positive(helper), target);
+    };
+    let Some((helper, free)) = helpers.split_last() else {
+        unreachable!()
+    };
+    let outer = both(*c, positive(*helper), target);
     push(circuit, outer)?;
-    down_up(circuit, a, b, &more[..last], &helpers[..last], helper)?;
+    down_up(circuit, a, b, rest, free, *helper)?;
     push(circuit, outer)?;
     Ok(())
 }
@@ -146,10 +132,12 @@ pub(crate) fn down_up_twice(
         (Grown circuit.old circuit.new (down_up_twice a b (reverse more.now) (reverse helpers.now) target)) }
 {
     down_up(circuit, a, b, more, helpers, target)?;
-    if !more.is_empty() {
-        let last = more.len() - 1;
-        let helper = helpers[last];
-        down_up(circuit, a, b, &more[..last], &helpers[..last], helper)?;
-    }
+    let Some((_, rest)) = more.split_last() else {
+        return Ok(());
+    };
+    let Some((helper, others)) = helpers.split_last() else {
+        unreachable!()
+    };
+    down_up(circuit, a, b, rest, others, *helper)?;
     Ok(())
 }

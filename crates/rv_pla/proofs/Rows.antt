@@ -1,8 +1,7 @@
 -- The places of characters, as sets.
-use Rattle.std.proofs.Common.{◌≡◌, ℕ, ◌+◌, ◌-◌, ◌*◌, ◌^◌, ◌<◌, ◌≤◌, Bool, true, false, ◌&&◌, cond, List, length, get_or, map, drop, refl, sym, ap, ◌∙◌, inl, inr, arith, drop-cons, add-one}
+use Rattle.std.proofs.Common.{◌≡◌, ℕ, ◌+◌, ◌-◌, ◌*◌, ◌^◌, ◌<◌, ◌≤◌, Bool, true, false, ◌&&◌, cond, List, length, get_or, map, drop, refl, sym, ap, ◌∙◌, arith, drop-cons, add-one}
 use Rattle.std.specs.List.{list_all}
-use Rattle.std.proofs.lemmas.Bool.{cases_eq}
-use Rattle.std.proofs.lemmas.Nat.{pow_below}
+use Rattle.std.proofs.Math.Nat.{pow-le-pow_right}
 use Rattle.std.proofs.lemmas.List.{length-drop, length-map, drop_all, get_or-map}
 use Rattle.rv_gate.specs.Word.{has, ones_of}
 use Rattle.rv_gate.proofs.inside.Ones.{has-ones_of, ones_of-lt}
@@ -44,11 +43,7 @@ from_more a b row i set new some within so_far is =
 
 pub few_from : (a b : ℕ) (row : List ℕ) (i set : ℕ) → 0 < i → length row ≤ 16 → AreFrom a b row i set → set < 2 ^ 15
 few_from a b row i set some short from =
-    let few = from.few in
-    elim (cases_eq (length row - i) 15) [
-      | inl most ↦ rw most at few
-      | inr less ↦ (let p = pow_below (length row - i) 15 (omega arith) in omega arith)
-    ]
+    let p : 2 ^ (length row - i) ≤ 2 ^ 15 = pow-le-pow_right {n = 2} (omega arith) {i = length row - i} {j = 15} (omega arith) in omega (arith, from.few)
 
 -- all places from one on
 pub all_of_none : (p : ℕ → Bool) (row : List ℕ) → true ≡ list_all p (drop (length row) row)

@@ -1,5 +1,5 @@
 -- The operands of a gate that was written are read back.
-use Rattle.std.proofs.Common.{◌≡◌, ◌≢◌, ℕ, suc, ◌+◌, ◌<◌, ◌≤◌, Bool, true, false, not, cond, List, [], ◌∷◌, ◌++◌, length, map, get_or, slice_get, nat_eq, nat_lt, Some, Ok, refl, sym, ap, ◌∙◌, inl, inr, arith, append_assoc, eq-eqb, ne_eqb}
+use Rattle.std.proofs.Common.{◌≡◌, ◌≢◌, ℕ, ◌+◌, ◌<◌, ◌≤◌, Bool, true, false, not, cond, List, [], ◌∷◌, ◌++◌, length, map, get_or, slice_get, nat_lt, Some, Ok, refl, sym, ap, ◌∙◌, arith, append_assoc, eq-eqb, ne_eqb}
 use Rattle.std.specs.Prelude.{AllPairs}
 use Rattle.std.proofs.lemmas.Bool.{cases_Bool, cases_eq, cases_lt, lt-ltb, eqb-true}
 use Rattle.std.proofs.lemmas.Nat.Bits.{same_from_bits}
@@ -59,11 +59,7 @@ control_operands line (name ∷ names) care want = control_operand care want lin
 
 pub control_operands-count : (line : ℕ) (names : List (List ℕ)) (care want : ℕ) → length (control_operands line names care want) ≡ length (controls_from line names care want)
 control_operands-count line [] care want = refl
-control_operands-count line (name ∷ names) care want =
-    elim (has care line) as (λ t. length (cond t (record { line = line; is_negative = not (has want line) } ∷ []) [] ++ control_operands (line + 1) names care want) ≡ length (cond t (control_word name (has want line) ∷ []) [] ++ controls_from (line + 1) names care want)) [
-      | true ↦ ap suc (control_operands-count (line + 1) names care want)
-      | false ↦ control_operands-count (line + 1) names care want
-    ]
+control_operands-count line (name ∷ names) care want = let rest = control_operands-count (line + 1) names care want in grind (arith, rest, length-append)
 
 control_read : (names : List (List ℕ)) (line : ℕ) (wanted : Bool) → AreNames names → line < length names
     → operand_of names true (plain (control_word (name_at names line) wanted)) ≡ Ok (record { line = line; is_negative = not wanted })
@@ -101,27 +97,11 @@ controls_read names front (name ∷ rest) controls care want line so_far tail ar
 -- a line that a control is on is in the set, and not before the first
 control_named : (line : ℕ) (names : List (List ℕ)) (care want x : ℕ) → names_line (control_operands line names care want) x ≡ true → (has care x ≡ true) × (line ≤ x)
 control_named line [] care want x h = absurd cc
-control_named line (name ∷ names) care want x h =
-    elim (cases_Bool (has care line)) [
-      | inl on ↦ (elim (cases_Bool (nat_eq line x)) [
-        | inl same ↦ (let at : line ≡ x = eqb-true _ _ same in (ap (has care) (sym at) ∙ on, omega arith))
-        | inr other ↦ (let rest = control_named (line + 1) names care want x (rw (on, other) at h) in (rest.0, omega (arith, rest.1)))
-      ])
-      | inr off ↦ (let rest = control_named (line + 1) names care want x (rw off at h) in (rest.0, omega (arith, rest.1)))
-    ]
+control_named line (name ∷ names) care want x h = let rest = control_named (line + 1) names care want x in grind (arith, rest, eqb-true)
 
 control_there : (line : ℕ) (names : List (List ℕ)) (care want x : ℕ) → has care x ≡ true → line ≤ x → x < line + length names → names_line (control_operands line names care want) x ≡ true
 control_there line [] care want x on le lt = absurd (omega (arith, le, lt))
-control_there line (name ∷ names) care want x on le lt =
-    elim (cases_eq line x) [
-      | inl same ↦ (let here : has care line ≡ true = ap (has care) same ∙ on in rw (here, eq-eqb line x same) refl)
-      | inr other ↦
-          (let rest : names_line (control_operands (line + 1) names care want) x ≡ true = control_there (line + 1) names care want x on (omega (arith, le, other)) (omega (arith, lt)) in
-          elim (has care line) as (λ t. names_line (cond t (record { line = line; is_negative = not (has want line) } ∷ []) [] ++ control_operands (line + 1) names care want) x ≡ true) [
-            | true ↦ rw (ne_eqb line x other) rest
-            | false ↦ rest
-          ])
-    ]
+control_there line (name ∷ names) care want x on le lt = let rest = control_there (line + 1) names care want x on in grind (arith, rest, cases_eq, eq-eqb, ne_eqb)
 
 -- all lines of a set are below the number of names
 abbrev pub AreBelow : ℕ → ℕ → Type 0
@@ -139,13 +119,7 @@ positive_as : (line : ℕ) (names : List (List ℕ)) (care want : ℕ) → ((x :
     → wanting_one (control_operands line names care want) ≡ control_operands line names want want
 positive_as line [] care want within = refl
 positive_as line (name ∷ names) care want within =
-    elim (cases_Bool (has want line)) [
-      | inl wanted ↦ rw (wanted, within line wanted) (ap (λ operands. record { line = line; is_negative = false } ∷ operands) (positive_as (line + 1) names care want within))
-      | inr not_wanted ↦ rw not_wanted (elim (has care line) as (λ t. wanting_one (cond t (record { line = line; is_negative = true } ∷ []) [] ++ control_operands (line + 1) names care want) ≡ control_operands (line + 1) names want want) [
-        | true ↦ positive_as (line + 1) names care want within
-        | false ↦ positive_as (line + 1) names care want within
-      ])
-    ]
+    let rest = positive_as (line + 1) names care want within in let here = within line in grind (arith, rest, here)
 
 pub positive_back : (names : List (List ℕ)) (care want : ℕ) → AreBelow care (length names) → ((x : ℕ) → has want x ≡ true → has care x ≡ true) → line_set (wanting_one (control_operands 0 names care want)) ≡ want
 positive_back names care want below within = ap line_set (positive_as 0 names care want within) ∙ lines_back names want want (λ line on. below line (within line on))
@@ -154,12 +128,4 @@ positive_back names care want below within = ap line_set (positive_as 0 names ca
 pub controls_once : (line : ℕ) (names : List (List ℕ)) (care want : ℕ) → has_repeated (control_operands line names care want) ≡ false
 controls_once line [] care want = refl
 controls_once line (name ∷ names) care want =
-    let rest : has_repeated (control_operands (line + 1) names care want) ≡ false = controls_once (line + 1) names care want in
-    elim (has care line) as (λ t. has_repeated (cond t (record { line = line; is_negative = not (has want line) } ∷ []) [] ++ control_operands (line + 1) names care want) ≡ false) [
-      | true ↦
-          (elim (cases_Bool (names_line (control_operands (line + 1) names care want) line)) [
-            | inl named ↦ absurd (omega (arith, (control_named (line + 1) names care want line named).1))
-            | inr none ↦ rw none rest
-          ])
-      | false ↦ rest
-    ]
+    let rest = controls_once (line + 1) names care want in let named = control_named (line + 1) names care want line in grind (arith, rest, named)

@@ -1,5 +1,5 @@
 -- Operands, one after the other.
-use Rattle.std.proofs.Common.{arith, ◌≡◌, ℕ, ◌+◌, true, List, [], ◌∷◌, length, drop, Result, Ok, Err, Some, refl, sym, ap, ◌∙◌}
+use Rattle.std.proofs.Common.{arith, ◌≡◌, ℕ, ◌+◌, true, List, [], length, drop, Result, Ok, Some, ap}
 use Rattle.rv_text.specs.declared.found.Token.{Token}
 use Rattle.rv_text.specs.Tokens.{Lexeme, tokens_of}
 use Rattle.rv_text.specs.Found.{lexeme_at, place_after, first_and_rest}
@@ -20,17 +20,11 @@ pub token_ok : {A : Type 0} (rule : A → Lexeme → Result A ℕ) (x next : A) 
     → rule x (lexeme_at line found) ≡ Ok next
     → in_order rule x (tokens_of true [] (drop at line)) ≡ whole
     → in_order rule next (tokens_of true [] (drop (place_after found) line)) ≡ whole
-token_ok {A} rule x next line at found whole cut ok so_far =
-    let rest : List Lexeme = tokens_of true [] (drop (place_after found) line) in
-    let one : in_order rule x (lexeme_at line found ∷ rest) ≡ in_order rule next rest = rw ok refl in
-    sym one ∙ ap (in_order rule x) (sym cut) ∙ so_far
+token_ok {A} rule x next line at found whole cut ok so_far = grind arith
 
 pub token_fails : {A : Type 0} (rule : A → Lexeme → Result A ℕ) (x : A) (line : List ℕ) (at : ℕ) (found : Token) (whole : Result A ℕ) (e : Stop) → Cut line at found
     → Fails e (rule x (lexeme_at line found))
     → in_order rule x (tokens_of true [] (drop at line)) ≡ whole
     → Fails e whole
-token_fails {A} rule x line at found whole (stops.Fault code) cut fails so_far =
-    let rest : List Lexeme = tokens_of true [] (drop (place_after found) line) in
-    let one : in_order rule x (lexeme_at line found ∷ rest) ≡ Err code = rw fails refl in
-    sym so_far ∙ ap (in_order rule x) cut ∙ one
+token_fails {A} rule x line at found whole (stops.Fault code) cut fails so_far = grind arith
 token_fails rule x line at found whole stops.Mem cut fails so_far = tt

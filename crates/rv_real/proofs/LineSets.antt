@@ -1,18 +1,14 @@
 -- The sets of the lines of operands.
-use Rattle.std.proofs.Common.{◌≡◌, ◌≢◌, ℕ, zero, suc, ◌^◌, ◌<◌, ◌≤◌, Bool, true, false, not, cond, ◌||◌, List, [], ◌∷◌, ◌++◌, length, take, nat_eq, refl, sym, ap, ◌∙◌, inl, inr, arith, eq-eqb, true≢false}
+use Rattle.std.proofs.Common.{◌≡◌, ◌≢◌, ℕ, zero, suc, ◌^◌, ◌<◌, ◌≤◌, Bool, true, false, not, cond, ◌||◌, List, [], ◌∷◌, ◌++◌, length, take, nat_eq, refl, sym, ap, ◌∙◌, arith, eq-eqb, true≢false}
 use Rattle.std.specs.Prelude.{All, bit_or}
-use Rattle.std.proofs.lemmas.Bool.{cases_Bool, eqb-true, or_parts}
+use Rattle.std.proofs.lemmas.Bool.{or_parts}
 use Rattle.std.proofs.lemmas.List.{append-nil}
 use Rattle.std.proofs.lemmas.List.Elements.{All-head, All-tail, filter-append}
 use Rattle.std.proofs.lemmas.Nat.Bits.{same_from_bits}
 use Rattle.rv_gate.specs.Word.{has}
 use Rattle.rv_gate.proofs.LineSets.{has-none, has-with_line, bits_from_has}
 use Rattle.rv_real.specs.Body.{Operand, names_line, has_repeated, line_set, wanting_one, line_at}
-use Rattle.rv_gate.proofs.Bits.{or_comm}
-
-pub or_assoc : (a b c : Bool) → ((a || b) || c) ≡ (a || (b || c))
-or_assoc true b c = refl
-or_assoc false b c = refl
+use Rattle.rv_gate.proofs.Bits.{or_assoc, or_comm}
 
 pub nat_eq-swap : (a b : ℕ) → nat_eq a b ≡ nat_eq b a
 nat_eq-swap a b = grind arith
@@ -20,16 +16,12 @@ nat_eq-swap a b = grind arith
 -- the set of the lines has those that operands name
 pub has-line_set : (operands : List Operand) (line : ℕ) → has (line_set operands) line ≡ names_line operands line
 has-line_set [] line = has-none line
-has-line_set (o ∷ os) line =
-    has-with_line (line_set os) o.line line
-    ∙ ap (λ t. t || nat_eq line o.line) (has-line_set os line)
-    ∙ ap (λ t. names_line os line || t) (nat_eq-swap line o.line)
-    ∙ or_comm (names_line os line) (nat_eq o.line line)
+has-line_set (o ∷ os) line = let hyp = has-line_set os line in grind (arith, hyp, has-with_line, nat_eq, nat_eq-swap, or_comm)
 
 -- one operand more
 pub names_line-push : (operands : List Operand) (o : Operand) (line : ℕ) → names_line (operands ++ o ∷ []) line ≡ (names_line operands line || nat_eq o.line line)
 names_line-push [] o line = or_comm (nat_eq o.line line) false
-names_line-push (p ∷ operands) o line = ap (λ t. nat_eq p.line line || t) (names_line-push operands o line) ∙ sym (or_assoc (nat_eq p.line line) (names_line operands line) (nat_eq o.line line))
+names_line-push (p ∷ operands) o line = ap (λ t. nat_eq p.line line || t) (names_line-push operands o line) ∙ or_assoc (nat_eq p.line line) (names_line operands line) (nat_eq o.line line)
 
 pub line_set-push : (operands : List Operand) (o : Operand) → line_set (operands ++ o ∷ []) ≡ bit_or (line_set operands) (2 ^ o.line)
 line_set-push operands o =
@@ -54,24 +46,10 @@ positive-push operands o =
 -- the lines that want 1 are among the lines
 positive_named : (operands : List Operand) (line : ℕ) → names_line (wanting_one operands) line ≡ true → names_line operands line ≡ true
 positive_named [] line h = h
-positive_named (o ∷ os) line h =
-    elim (cases_Bool (nat_eq o.line line)) [
-      | inl here ↦ rw here refl
-      | inr other ↦
-          rw other
-          (positive_named os line
-          (elim (cases_Bool o.is_negative) [
-            | inl negative ↦ rw negative at h
-            | inr plain ↦ rw (plain, other) at h
-          ]))
-    ]
+positive_named (o ∷ os) line h = let rest = positive_named os line in grind (arith, rest)
 
 pub subset : (operands : List Operand) (line : ℕ) → has (line_set (wanting_one operands)) line ≡ true → has (line_set operands) line ≡ true
 subset operands line h = has-line_set operands line ∙ positive_named operands line (sym (has-line_set (wanting_one operands) line) ∙ h)
-
-or_true : (a b : Bool) → (a || b) ≡ true → (a ≡ false → b ≡ true)
-or_true true b h k = absurd cc
-or_true false b h k = h
 
 -- a line that no operand names is not the line of one of them
 pub not_named : (operands : List Operand) (line k : ℕ) → names_line operands line ≡ false → k < length operands → nat_eq (line_at operands k) line ≡ false
@@ -84,10 +62,7 @@ pub apart : (operands : List Operand) (m k : ℕ) → m ≤ k → k < length ope
 apart [] m k le lt h = absurd (omega (arith, lt))
 apart (o ∷ os) zero k le lt h = refl
 apart (o ∷ os) (suc m) zero le lt h = absurd (omega (arith, le))
-apart (o ∷ os) (suc m) (suc k) le lt h =
-    let parts = or_parts (names_line os o.line) (has_repeated os) h in
-    rw (nat_eq-swap o.line (line_at os k), not_named os o.line k parts.0 (omega (arith, lt)))
-    (apart os m k (omega (arith, le)) (omega (arith, lt)) parts.1)
+apart (o ∷ os) (suc m) (suc k) le lt h = let hyp = apart os m k in grind (arith, hyp, or_parts, nat_eq-swap, not_named)
 
 pub differ : (operands : List Operand) (i k : ℕ) → i < k → k < length operands → has_repeated operands ≡ false → line_at operands i ≢ line_at operands k
 differ [] i k lt within h e = absurd (omega (arith, within))
@@ -103,16 +78,10 @@ has_repeated-step a b c d e h = grind arith
 
 pub has_repeated-push : (operands : List Operand) (o : Operand) → has_repeated (operands ++ o ∷ []) ≡ (has_repeated operands || names_line operands o.line)
 has_repeated-push [] o = refl
-has_repeated-push (p ∷ operands) o =
-    ap (λ t. t || has_repeated (operands ++ o ∷ [])) (names_line-push operands o p.line)
-    ∙ ap (λ t. (names_line operands p.line || nat_eq o.line p.line) || t) (has_repeated-push operands o)
-    ∙ has_repeated-step (names_line operands p.line) (nat_eq o.line p.line) (nat_eq p.line o.line) (has_repeated operands) (names_line operands o.line) (nat_eq-swap o.line p.line)
+has_repeated-push (p ∷ operands) o = let hyp = has_repeated-push operands o in grind (arith, hyp, names_line-push, nat_eq, has_repeated-step, nat_eq-swap)
 
 -- the lines of operands that are below a number
 pub named_below : (lines : ℕ) (operands : List Operand) (line : ℕ) → All (λ o. o.line < lines) operands → names_line operands line ≡ true → line < lines
 named_below lines [] line below h = absurd cc
 named_below lines (o ∷ os) line below h =
-    elim (cases_Bool (nat_eq o.line line)) [
-      | inl here ↦ (let at : o.line ≡ line = eqb-true _ _ here in let lt : o.line < lines = All-head (λ o. o.line < lines) o os below in omega arith)
-      | inr other ↦ named_below lines os line (All-tail (λ o. o.line < lines) o os below) (rw other at h)
-    ]
+    let here = All-head (λ o. o.line < lines) o os below in let rest = named_below lines os line (All-tail (λ o. o.line < lines) o os below) in grind (arith, here, rest)

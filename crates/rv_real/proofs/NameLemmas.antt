@@ -1,6 +1,6 @@
 -- Names among names.
 use Rattle.std.proofs.Common.{arith}
-use Rattle.std.proofs.Common.{◌≡◌, ℕ, zero, suc, ◌+◌, ◌<◌, Bool, true, false, cond, List, [], ◌∷◌, ◌++◌, length, get_or, slice_get, is_some, Option, Some, None, Ok, Err, refl, sym, ap, ◌∙◌, true≢false}
+use Rattle.std.proofs.Common.{◌≡◌, ℕ, zero, suc, ◌+◌, ◌<◌, Bool, true, false, List, [], ◌∷◌, ◌++◌, length, get_or, slice_get, is_some, Option, Some, None, Ok, Err, refl, sym, ap, ◌∙◌, true≢false}
 use Rattle.std.specs.Prelude.{Contains, IfSome, ◌↔◌}
 use Rattle.std.specs.List.{position_from}
 use Rattle.std.specs.Str.{bytes_eq}
@@ -25,13 +25,8 @@ none_found names name free (Some line) e = absurd (free line (at_line names name
 
 some_from : (name : List ℕ) (names : List (List ℕ)) (from line : ℕ) → slice_get names line ≡ Some name → is_some (position_from (bytes_eq name) from names) ≡ true
 some_from name [] from line at = absurd cc
-some_from name (n ∷ names) from zero at =
-    let same : n ≡ name = cc in
-    rw ((bytes_eq-Decides name n).1 (sym same)) refl
-some_from name (n ∷ names) from (suc line) at = elim (bytes_eq name n) as (λ t. is_some (cond t (Some from) (position_from (bytes_eq name) (from + 1) names)) ≡ true) [
-  | true ↦ refl
-  | false ↦ some_from name names (from + 1) line at
-]
+some_from name (n ∷ names) from zero at = grind (arith, bytes_eq-Decides)
+some_from name (n ∷ names) from (suc line) at = let rest = some_from name names (from + 1) line at in grind (arith, rest)
 
 -- a name that a line has is found
 pub is_found : (names : List (List ℕ)) (name : List ℕ) (line : ℕ) → slice_get names line ≡ Some name → is_some (line_of_name names name) ≡ true

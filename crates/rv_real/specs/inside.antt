@@ -7,6 +7,7 @@ pub mod BodySteps
 pub mod ByName
 pub mod LineByLine
 pub mod Kept
+pub mod LabelRows
 pub mod Operands
 pub mod HeaderLines
 pub mod Texts

@@ -1,5 +1,5 @@
 ghost use Rattle.std.specs.Prelude.{◌≡◌, ℕ, List, ◌==◌, ◌||◌, ◌+◌, ◌<◌, ◌≤◌, [], ◌∷◌, ◌++◌, length, map, decimal};
-ghost use Rattle.std.specs.Prelude.{slice_index};
+ghost use Rattle.std.specs.Prelude.{slice_get, slice_index, Some};
 ghost use Rattle.rv_io.specs.Sink.{Sends};
 ghost use Rattle.rv_io.specs.Writer.{Adds};
 ghost use Rattle.rv_text.specs.Spelled.{more_words, spelled, words_line};
@@ -8,6 +8,7 @@ ghost use Rattle.rv_gate.specs.declared.word.TheConstants.{MOST_LINES};
 ghost use Rattle.rv_real.specs.Reading.{real_of};
 ghost use Rattle.rv_real.specs.Text.{control_word, controls_from, gate_words, header_lines, label_lines, label_word};
 ghost use Rattle.rv_real.specs.Text.{name_at, size_lines, text_of, variables_line};
+ghost use Rattle.rv_real.specs.inside.LabelRows.{labels_of};
 ghost use Rattle.rv_real.specs.inside.Texts.{AreTexts};
 
 use crate::label::put_label;
@@ -84,27 +85,31 @@ fn put_labels<O: Sink>(writer: &mut Writer, sink: &mut O, circuit: &Circuit)
     ensures { Adds writer.old (O.view sink.old) (spelled (label_lines circuit.now)) writer.new (O.view sink.new) }
 {
     writer.put(sink, b".inputs");
-    put_input_labels(writer, sink, circuit);
+    put_label_row(writer, sink, circuit, false);
     writer.put(sink, b"\n.outputs");
-    put_output_labels(writer, sink, circuit);
+    put_label_row(writer, sink, circuit, true);
     writer.put(sink, b"\n");
 }
 
-fn put_input_labels<O: Sink>(writer: &mut Writer, sink: &mut O, circuit: &Circuit)
-    ensures { Adds writer.old (O.view sink.old) (more_words (map label_word circuit.now.input_labels)) writer.new
-        (O.view sink.new) }
+// The label of a line at its output, or at its input.
+fn label_at(circuit: &Circuit, line: u8, ends: bool) -> &[u8]
+    requires { line < length circuit.now.names }
+    ensures { slice_get (labels_of circuit.now ends) line ≡ Some result.now }
 {
-    for line in 0..circuit.line_count() {
-        put_next_label(writer, sink, circuit.input_label(line));
+    if ends {
+        circuit.output_label(line)
+    } else {
+        circuit.input_label(line)
     }
 }
 
-fn put_output_labels<O: Sink>(writer: &mut Writer, sink: &mut O, circuit: &Circuit)
-    ensures { Adds writer.old (O.view sink.old) (more_words (map label_word circuit.now.output_labels)) writer.new
+// The labels of the outputs, or of the inputs, each after a space.
+fn put_label_row<O: Sink>(writer: &mut Writer, sink: &mut O, circuit: &Circuit, ends: bool)
+    ensures { Adds writer.old (O.view sink.old) (more_words (map label_word (labels_of circuit.now ends))) writer.new
         (O.view sink.new) }
 {
     for line in 0..circuit.line_count() {
-        put_next_label(writer, sink, circuit.output_label(line));
+        put_next_label(writer, sink, label_at(circuit, line, ends));
     }
 }
 

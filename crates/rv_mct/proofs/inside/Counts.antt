@@ -1,12 +1,11 @@
 -- How many flips there are, and how many controls each has.
-use Rattle.std.proofs.Common.{◌≡◌, ℕ, zero, suc, ◌+◌, ◌-◌, ◌*◌, ◌/◌, ◌^◌, ◌≤◌, Bool, true, false, cond, ◌||◌, eqb, List, [], ◌∷◌, ◌++◌, length, take, reverse, get_or, nat_lt, All, refl, sym, ◌∙◌, ap, inl, inr, arith, eq-eqb, ne_eqb, length-append}
+use Rattle.std.proofs.Common.{◌≡◌, ℕ, zero, suc, ◌+◌, ◌-◌, ◌*◌, ◌/◌, ◌^◌, ◌≤◌, Bool, true, false, cond, ◌||◌, eqb, List, [], ◌∷◌, ◌++◌, length, take, reverse, nat_lt, All, refl, ◌∙◌, ap, inl, inr, arith, ne_eqb, length-append}
 use Rattle.std.specs.Prelude.{bit_or}
-use Rattle.std.proofs.lemmas.Bool.{cases_eq, cases_lt, lt-ltb, le-ltb}
+use Rattle.std.proofs.lemmas.Bool.{cases_lt, lt-ltb, le-ltb}
 use Rattle.std.proofs.lemmas.List.Sums.{sum_by-cons}
 use Rattle.std.proofs.lemmas.List.FromFn.{length-range_with_len}
 use Rattle.std.proofs.lemmas.List.{length-reverse, length-take-le}
-use Rattle.std.proofs.lemmas.List.Elements.{All-nil, All-cons, All-append, All-head, All-tail}
-use Rattle.std.proofs.Math.Nat.{le-max_left, le-max_right}
+use Rattle.std.proofs.lemmas.List.Elements.{All-nil, All-cons, All-append}
 use Rattle.rv_gate.specs.Word.{has}
 use Rattle.rv_gate.specs.Gate.{IsGate, FitsIn, IsFlipOn}
 use Rattle.rv_gate.specs.declared.gate.Shape.{Shape}
@@ -15,7 +14,6 @@ use Rattle.rv_gate.proofs.LineSets.{has-lines}
 use Rattle.rv_mct.specs.declared.control.Control.{Control}
 use Rattle.rv_mct.specs.declared.aux.Aux.{Aux}
 use Rattle.rv_mct.specs.declared.aux.Aux.TheVariants.{Borrowed, Clean}
-use Rattle.rv_gate.specs.Greatest.{greatest}
 use Rattle.rv_mct.specs.Blocks.{rising, count, is_free, controls_of, count_lines, positive, both, ladder, clean_ladder, down_up, inner, down_up_twice, borrowed_ladder_over, borrowed_ladder, middle, below, from, halves, split, flips_of, long_flip, flip_block, block_of, decomposition_of, flip_wish, wish, added, borrowed_ladder_cost, long_cost, flip_cost, gate_cost, cost_of}
 use Rattle.std.specs.List.{flat_map, range_with_len, sum_by}
 use Rattle.rv_mct.specs.Extends.{IsPlain}
@@ -23,39 +21,27 @@ use Rattle.rv_mct.specs.inside.Long.{IsCut, Ready}
 use Rattle.rv_mct.specs.inside.LadderLines.{Every}
 use Rattle.rv_mct.proofs.Rising.{count_zero, count-suc}
 use Rattle.rv_mct.proofs.inside.LongFlips.{length-controls_of, length-rising}
-use Rattle.rv_mct.proofs.inside.Splits.{cut_of}
-use Rattle.rv_mct.proofs.inside.Gates.{flips_own, long_of, free_some, first_free}
+use Rattle.rv_mct.proofs.inside.Splits.{count_none, count_one, cut_of}
+use Rattle.rv_mct.proofs.inside.Gates.{IsOwn, each_within, flips_own, gates_own, long_of, free_some, first_free}
 
 -- ---- at most two controls
 
-few_eq : (b n : ℕ) → (count (λ x. eqb x b) n ≤ 1) × (n ≤ b → count (λ x. eqb x b) n ≡ 0)
-few_eq b zero = (omega (arith, count_zero (λ x. eqb x b)), λ l. count_zero (λ x. eqb x b))
-few_eq b (suc n) =
-    let more = count-suc (λ x. eqb x b) n in
-    let r = few_eq b n in
-    elim (cases_eq n b) [
-      | inl at ↦
-          let one : cond {A = ℕ} (eqb n b) 1 0 ≡ 1 = ap (λ t. cond t 1 0) (eq-eqb n b at) in
-          let none : count (λ x. eqb x b) n ≡ 0 = r.1 (omega arith) in
-          (omega arith, λ l. absurd (omega arith))
-      | inr other ↦
-          let z : cond {A = ℕ} (eqb n b) 1 0 ≡ 0 = ap (λ t. cond t 1 0) (ne_eqb n b other) in
-          let f : count (λ x. eqb x b) n ≤ 1 = r.0 in
-          (omega arith, λ l. (let none : count (λ x. eqb x b) n ≡ 0 = r.1 (omega arith) in omega arith))
-    ]
+few_eq : (b n : ℕ) → count (λ x. eqb x b) n ≤ 1
+few_eq b n = elim (cases_lt b n) [
+  | inl lt ↦ omega (arith, count_one b n lt)
+  | inr ge ↦ omega (arith, count_none (λ x. eqb x b) n (λ x lt. ne_eqb x b (λ e. omega arith)))
+]
 
 or_few : (p q : Bool) → cond {A = ℕ} (p || q) 1 0 ≤ cond p 1 0 + cond q 1 0
 or_few p q = grind arith
 
 count_or : (p q r : ℕ → Bool) (n : ℕ) → ((x : ℕ) → r x ≡ (p x || q x)) → count r n ≤ count p n + count q n
 count_or p q r zero h = omega (arith, count_zero r)
-count_or p q r (suc n) h =
-    let e : cond {A = ℕ} (r n) 1 0 ≡ cond (p n || q n) 1 0 = ap (λ t. cond t 1 0) (h n) in
-    omega (arith, count-suc p n, count-suc q n, count-suc r n, count_or p q r n h, or_few (p n) (q n))
+count_or p q r (suc n) h = let hyp = count_or p q r n h in grind (arith, hyp, count-suc, or_few)
 
 pub plain_both : (c d : Control) (t : ℕ) → IsPlain (both c d t)
 plain_both c d t =
-    omega (arith, count_or (λ x. eqb x c.line) (λ x. eqb x d.line) (has (bit_or (2 ^ c.line) (2 ^ d.line))) 64 (has-lines c.line d.line), (few_eq c.line 64).0, (few_eq d.line 64).0)
+    omega (arith, count_or (λ x. eqb x c.line) (λ x. eqb x d.line) (has (bit_or (2 ^ c.line) (2 ^ d.line))) 64 (has-lines c.line d.line), few_eq c.line 64, few_eq d.line 64)
 
 abbrev Plain : List Shape → Type 0
 Plain = All IsPlain
@@ -115,17 +101,10 @@ plain_cond false xs ys px py = py
 
 plain_long : (aux : Aux) (n extra care want t : ℕ) → Plain (long_flip aux n extra care want t)
 plain_long Clean n extra care want t = plain_clean_ladder (controls_of care want) n t
-plain_long Borrowed n extra care want t =
-    plain_cond (nat_lt (count (is_free care t) (n + extra) + 2) (count_lines care)) _ _
-    (plain_split (n + extra) care want t (get_or (rising (is_free care t) (n + extra)) 0 0)) (plain_borrowed_ladder (n + extra) care want t)
+plain_long Borrowed n extra care want t = grind (arith, plain_cond, nat_lt, plain_split, plain_borrowed_ladder)
 
 pub plain_block : (aux : Aux) (n extra : ℕ) (g : Shape) → Plain (flip_block aux n extra g)
-plain_block aux n extra (Flip care want t) =
-    elim (cases_lt (count_lines care) 3) [
-      | inl lt ↦
-          rw (lt-ltb (count_lines care) 3 lt) (All-cons IsPlain (Flip care want t) [] (omega arith) (All-nil IsPlain))
-      | inr ge ↦ rw (le-ltb (count_lines care) 3 ge) (plain_long aux n extra care want t)
-    ]
+plain_block aux n extra (Flip care want t) = grind (arith, lt-ltb, le-ltb, plain_long)
 plain_block aux n extra (Swap care want a b) = All-nil IsPlain
 plain_block aux n extra (Peres a b c) = All-nil IsPlain
 
@@ -183,32 +162,18 @@ length_long Clean n extra care want t r many =
 length_long Borrowed n extra care want t r many =
     let N : ℕ = n + extra in
     let f = first_free (is_free care t) N (free_some n extra care want t r many) in
-    let h : ℕ = get_or (rising (is_free care t) N) 0 0 in
-    let m : ℕ = count_lines care in
-    let x : ℕ = 2 * borrowed_ladder_cost ((m + 1) / 2) + 2 * borrowed_ladder_cost (m / 2 + 1) in
     elim (cases_lt (count (is_free care t) N + 2) (count_lines care)) [
       | inl lt ↦
-          ap (λ b. length (cond b (split N care want t h) (borrowed_ladder N care want t))) (lt-ltb _ _ lt)
-          ∙ length_split N care want t h (cut_of N care t h (long_of Borrowed n extra care want t r) many f.0 f.1) many
-          ∙ sym (ap (λ b. cond b x (borrowed_ladder_cost m)) (lt-ltb _ _ lt))
-      | inr ge ↦
-          ap (λ b. length (cond b (split N care want t h) (borrowed_ladder N care want t))) (le-ltb _ _ ge)
-          ∙ length_borrowed_ladder N care want t (omega arith) ge
-          ∙ sym (ap (λ b. cond b x (borrowed_ladder_cost m)) (le-ltb _ _ ge))
+          rw (lt-ltb (count (is_free care t) N + 2) (count_lines care) lt)
+          (length_split N care want t _ (cut_of N care t _ (long_of Borrowed n extra care want t r) many f.0 f.1) many)
+      | inr ge ↦ rw (le-ltb (count (is_free care t) N + 2) (count_lines care) ge) (length_borrowed_ladder N care want t (omega arith) ge)
     ]
 
 pub length_block : (aux : Aux) (n extra : ℕ) (g : Shape) → n + extra ≤ 64 → IsFlipOn n g → flip_wish aux n g ≤ extra → length (flip_block aux n extra g) ≡ flip_cost aux (n + extra) g
-length_block aux n extra (Flip care want t) few own enough =
-    let r : Ready aux n extra care want t = record { few = few; own = own; enough = enough } in
-    let g : Shape = Flip care want t in
-    let k : ℕ = long_cost aux (count (is_free care t) (n + extra)) (count_lines care) in
-    elim (cases_lt (count_lines care) 3) [
-      | inl lt ↦ ap (λ b. length (cond b (g ∷ []) (long_flip aux n extra care want t))) (lt-ltb (count_lines care) 3 lt) ∙ sym (ap (λ b. cond b 1 k) (lt-ltb (count_lines care) 3 lt))
-      | inr ge ↦
-          ap (λ b. length (cond b (g ∷ []) (long_flip aux n extra care want t))) (le-ltb (count_lines care) 3 ge)
-          ∙ length_long aux n extra care want t r ge
-          ∙ sym (ap (λ b. cond b 1 k) (le-ltb (count_lines care) 3 ge))
-    ]
+length_block aux n extra (Flip care want t) few own enough = elim (cases_lt (count_lines care) 3) [
+  | inl lt ↦ rw (lt-ltb (count_lines care) 3 lt) refl
+  | inr ge ↦ rw (le-ltb (count_lines care) 3 ge) (length_long aux n extra care want t (record { few = few; own = own; enough = enough }) ge)
+]
 length_block aux n extra (Swap care want a b) few own enough = refl
 length_block aux n extra (Peres a b c) few own enough = refl
 
@@ -216,31 +181,13 @@ length_made : (made : Shape → List Shape) (cost : Shape → ℕ) (gates : List
 length_made made cost [] h = refl
 length_made made cost (g ∷ rest) h = omega (arith, length-append (made g) (flat_map made rest), sum_by-cons cost g rest, h.0, length_made made cost rest h.1)
 
-length_flips : (aux : Aux) (n extra : ℕ) (flips : List Shape) → n + extra ≤ 64 → Every (IsFlipOn n) flips → greatest (flip_wish aux n) flips ≤ extra
-    → Every (λ g. length (flip_block aux n extra g) ≡ flip_cost aux (n + extra) g) flips
-unfolding greatest
-length_flips aux n extra [] few owns enough = tt
-length_flips aux n extra (g ∷ rest) few owns enough =
-    let l = le-max_left (flip_wish aux n g) (greatest (flip_wish aux n) rest) in
-    let r = le-max_right (flip_wish aux n g) (greatest (flip_wish aux n) rest) in
-    (length_block aux n extra g few owns.0 (omega arith), length_flips aux n extra rest few owns.1 (omega arith))
-
-pub length_gate : (aux : Aux) (n extra : ℕ) (g : Shape) → n + extra ≤ 64 → IsGate g → FitsIn g n → wish aux n g ≤ extra → length (block_of aux n extra g) ≡ gate_cost aux (n + extra) g
-length_gate aux n extra g few is fits enough =
-    length_made (flip_block aux n extra) (flip_cost aux (n + extra)) (flips_of g) (length_flips aux n extra (flips_of g) few (flips_own g n (omega arith) is fits) enough)
-
-length_gates : (aux : Aux) (n extra : ℕ) (gates : List Shape) → n + extra ≤ 64 → All IsGate gates → All (λ g. FitsIn g n) gates → added aux n gates ≤ extra
-    → Every (λ g. length (block_of aux n extra g) ≡ gate_cost aux (n + extra) g) gates
-unfolding greatest
-length_gates aux n extra [] few valid fitting enough = tt
-length_gates aux n extra (g ∷ rest) few valid fitting enough =
-    let l = le-max_left (wish aux n g) (greatest (wish aux n) rest) in
-    let r = le-max_right (wish aux n g) (greatest (wish aux n) rest) in (
-      length_gate aux n extra g few (All-head IsGate g rest valid) (All-head (λ h. FitsIn h n) g rest fitting) (omega arith),
-      length_gates aux n extra rest few (All-tail IsGate g rest valid) (All-tail (λ h. FitsIn h n) g rest fitting) (omega arith),
-    )
+pub length_gate : (aux : Aux) (n extra : ℕ) (g : Shape) → n + extra ≤ 64 → IsOwn n g → wish aux n g ≤ extra → length (block_of aux n extra g) ≡ gate_cost aux (n + extra) g
+length_gate aux n extra g few own enough =
+    length_made (flip_block aux n extra) (flip_cost aux (n + extra)) (flips_of g)
+    (each_within (flip_wish aux n) (IsFlipOn n) _ extra (λ f is. length_block aux n extra f few is) (flips_of g) (flips_own g n (omega arith) own.0 own.1) enough)
 
 pub length_decomposition : (aux : Aux) (n extra : ℕ) (gates : List Shape) → n + extra ≤ 64 → All IsGate gates → All (λ g. FitsIn g n) gates → added aux n gates ≤ extra
     → length (decomposition_of aux n extra gates) ≡ cost_of aux (n + extra) gates
 length_decomposition aux n extra gates few valid fitting enough =
-    length_made (block_of aux n extra) (gate_cost aux (n + extra)) gates (length_gates aux n extra gates few valid fitting enough)
+    length_made (block_of aux n extra) (gate_cost aux (n + extra)) gates
+    (each_within (wish aux n) (IsOwn n) _ extra (λ g own. length_gate aux n extra g few own) gates (gates_own n gates valid fitting) enough)

@@ -1,16 +1,16 @@
 -- What a gate stands for, and what a decomposition keeps.
 use Rattle.std.proofs.lemmas.Grind.{common_steps}
-use Rattle.std.proofs.Common.{◌≡◌, ◌≢◌, ℕ, ◌+◌, ◌-◌, ◌^◌, ◌<◌, ◌≤◌, Bool, true, false, not, cond, ◌&&◌, ◌||◌, eqb, List, [], ◌∷◌, ◌++◌, length, get_or, set, All, refl, sym, ◌∙◌, ap, inl, inr, arith, eq-eqb, ne_eqb, get_or-set_same, get_or-set_other, length-set, length-append}
+use Rattle.std.proofs.Common.{◌≡◌, ◌≢◌, ℕ, ◌+◌, ◌-◌, ◌^◌, ◌<◌, ◌≤◌, Bool, true, false, not, cond, ◌&&◌, ◌||◌, eqb, List, [], ◌∷◌, ◌++◌, length, get_or, nat_lt, set, All, refl, sym, ◌∙◌, ap, inl, inr, arith, ne_eqb, get_or-set_same, get_or-set_other, length-set, length-append}
 use Rattle.std.specs.Prelude.{bit_or}
-use Rattle.std.proofs.lemmas.Bool.{cases_eq, cases_lt, cases_Bool, eqb-true, false≢true, or_cases, lt-ltb, le-ltb, or_left, or_right}
+use Rattle.std.proofs.lemmas.Bool.{cases_eq, cases_lt, false≢true, lt-ltb, le-ltb}
 use Rattle.std.proofs.lemmas.List.{set-set, set_comm, set-get_or, get_or-append_right}
 use Rattle.std.proofs.lemmas.List.Elements.{All-head, All-tail}
 use Rattle.std.proofs.Math.Nat.{le-max_left, le-max_right}
 use Rattle.rv_gate.specs.Word.{has, bit_of}
-use Rattle.rv_gate.specs.Gate.{holds, exchanged, xor, act, run, flip_under, Within, FitsIn, IsGate, IsFlipOn}
+use Rattle.rv_gate.specs.Gate.{holds, exchanged, xor, act, run, flip_under, FitsIn, IsGate, IsFlipOn}
 use Rattle.rv_gate.specs.declared.gate.Shape.{Shape}
 use Rattle.rv_gate.specs.declared.gate.Shape.TheVariants.{Flip, Swap, Peres}
-use Rattle.rv_gate.proofs.inside.GateLemmas.{holds-set, flip_if, length-act, run-append, fits_flip, fits_swap_a, fits_swap_b, fits_peres_a, fits_peres_b, fits_peres_c}
+use Rattle.rv_gate.proofs.inside.GateLemmas.{holds-set, flip_if, length-act, run-append, fits_flip, fits_flip_care, fits_swap_a, fits_swap_b, fits_peres_a, fits_peres_b, fits_peres_c}
 use Rattle.rv_gate.proofs.Longer.{act_append}
 use Rattle.rv_gate.proofs.InverseLemmas.{holds_one_line, holds_two_lines}
 use Rattle.rv_gate.proofs.LineSets.{has-line, has-lines, has-or, has-with_line, with_other}
@@ -18,12 +18,13 @@ use Rattle.rv_mct.specs.declared.aux.Aux.{Aux}
 use Rattle.rv_mct.specs.declared.aux.Aux.TheVariants.{Borrowed, Clean}
 use Rattle.rv_mct.specs.declared.control.Control.{Control}
 use Rattle.rv_gate.specs.Greatest.{greatest}
-use Rattle.rv_mct.specs.Blocks.{both, wanted_place, rising, count, is_free, count_lines, borrowed_ladder, split, flips_of, long_flip, flip_block, block_of, decomposition_of, flip_wish, wish, added}
+use Rattle.rv_mct.specs.Blocks.{both, wanted_place, rising, count, is_free, count_lines, flips_of, long_flip, flip_block, block_of, decomposition_of, flip_wish, wish, added}
 use Rattle.std.specs.List.{flat_map}
 use Rattle.rv_mct.specs.Extends.{MayHold, Extends}
 use Rattle.rv_mct.specs.inside.Long.{IsLong, Ready}
-use Rattle.rv_mct.specs.inside.LadderLines.{In, Every}
-use Rattle.rv_mct.proofs.inside.LongFlips.{length-rising, in_rising, run_borrowed_ladder, run_clean_ladder}
+use Rattle.rv_mct.specs.inside.LadderLines.{In, Every, IsRung}
+use Rattle.rv_mct.proofs.inside.LongFlips.{length-rising, in_rising, not_within, run_borrowed_ladder, run_clean_ladder}
+use Rattle.rv_mct.proofs.inside.Ladders.{free_two}
 use Rattle.rv_mct.proofs.inside.Splits.{holds_with, count_some, run_split}
 use Rattle.rv_gate.proofs.Bits.{xor_comm}
 
@@ -37,53 +38,30 @@ pub wish_of_flip : (aux : Aux) (lines care want target : ℕ) (gate : Shape) →
 wish_of_flip aux lines care want target gate is = rw is (greatest_one (flip_wish aux lines) (Flip care want target))
 
 pub own_under : (n a t : ℕ) → a < n → t < n → a ≢ t → n ≤ 64 → IsFlipOn n (flip_under (2 ^ a) t)
-own_under n a t la lt other few = (
-  refl,
-  (omega arith, has-line a t ∙ ne_eqb t a (λ e. other (sym e)), λ line on. on),
-  λ line on. elim (or_cases (has (2 ^ a) line) (eqb line t) on) [
-    | inl c ↦ let e : line ≡ a = eqb-true line a (sym (has-line a line) ∙ c) in omega arith
-    | inr c ↦ let e : line ≡ t = eqb-true line t c in omega arith
-  ],
-)
+own_under n a t la lt other few =
+    (refl, (omega arith, has-line a t ∙ ne_eqb t a (λ e. other (sym e)), λ line on. on), λ line on. grind (arith, has-line))
+
+-- under two controls
+fits_two : (n a b t want : ℕ) → a < n → b < n → t < n → FitsIn (Flip (bit_or (2 ^ a) (2 ^ b)) want t) n
+fits_two n a b t want la lb lt line on = grind (arith, has-lines)
 
 pub own_two : (n a b t : ℕ) → a < n → b < n → t < n → a ≢ t → b ≢ t → n ≤ 64 → IsFlipOn n (flip_under (bit_or (2 ^ a) (2 ^ b)) t)
-own_two n a b t la lb lt ot1 ot2 few = (
-  refl,
-  (omega arith, has-lines a b t ∙ ap (λ x. x || eqb t b) (ne_eqb t a (λ e. ot1 (sym e))) ∙ ne_eqb t b (λ e. ot2 (sym e)), λ line on. on),
-  λ line on. elim (or_cases (has (bit_or (2 ^ a) (2 ^ b)) line) (eqb line t) on) [
-    | inl c ↦
-        (elim (or_cases (eqb line a) (eqb line b) (sym (has-lines a b line) ∙ c)) [
-          | inl d ↦ let e : line ≡ a = eqb-true line a d in omega arith
-          | inr d ↦ let e : line ≡ b = eqb-true line b d in omega arith
-        ])
-    | inr c ↦ let e : line ≡ t = eqb-true line t c in omega arith
-  ],
-)
+own_two n a b t la lb lt ot1 ot2 few =
+    (refl, (omega arith, free_two a b t (λ e. ot1 (sym e)) (λ e. ot2 (sym e)), λ line on. on), fits_two n a b t (bit_or (2 ^ a) (2 ^ b)) la lb lt)
+
+or_both : (p q r s : Bool) → (p ≡ true → r ≡ true) → (q ≡ true → s ≡ true) → (p || q) ≡ true → (r || s) ≡ true
+or_both p q r s h k on = grind arith
 
 pub middle_gate : (care want a b : ℕ) → IsGate (Swap care want a b) → IsGate (Flip (bit_or care (2 ^ a)) (bit_or want (2 ^ a)) b)
-middle_gate care want a b is =
-    let ba : b ≢ a = λ e. is.2 (sym e) in (
-      is.1,
-      with_other care a b ba ∙ is.4,
-      λ line on. elim (or_cases (has want line) (eqb line a) (sym (has-with_line want a line) ∙ on)) [
-        | inl w ↦ has-with_line care a line ∙ or_left (has care line) (eqb line a) (is.5 line w)
-        | inr at ↦ has-with_line care a line ∙ or_right (has care line) (eqb line a) at
-      ],
-    )
+middle_gate care want a b is = (
+  is.1,
+  with_other care a b (λ e. is.2 (sym e)) ∙ is.4,
+  λ line on. has-with_line care a line ∙ or_both _ _ _ _ (is.5 line) (λ at. at) (sym (has-with_line want a line) ∙ on),
+)
 
 own_middle : (n care want a b : ℕ) → IsGate (Swap care want a b) → FitsIn (Swap care want a b) n → IsFlipOn n (Flip (bit_or care (2 ^ a)) (bit_or want (2 ^ a)) b)
-own_middle n care want a b is fits = (
-  refl,
-  middle_gate care want a b is,
-  λ line on. elim (or_cases (has (bit_or care (2 ^ a)) line) (eqb line b) on) [
-    | inl c ↦
-        (elim (or_cases (has care line) (eqb line a) (sym (has-with_line care a line) ∙ c)) [
-          | inl d ↦ fits line (or_left (has care line || eqb line a) (eqb line b) (or_left (has care line) (eqb line a) d))
-          | inr d ↦ fits line (or_left (has care line || eqb line a) (eqb line b) (or_right (has care line) (eqb line a) d))
-        ])
-    | inr c ↦ fits line (or_right (has care line || eqb line a) (eqb line b) c)
-  ],
-)
+own_middle n care want a b is fits =
+    (refl, middle_gate care want a b is, λ line on. fits line (ap (λ t. t || eqb line b) (sym (has-with_line care a line)) ∙ on))
 
 pub flips_own : (g : Shape) (n : ℕ) → n ≤ 64 → IsGate g → FitsIn g n → Every (IsFlipOn n) (flips_of g)
 flips_own (Flip care want target) n few is fits = ((refl, is, fits), tt)
@@ -178,55 +156,38 @@ first_in [] h = absurd (omega arith)
 first_in (x ∷ xs) h = inl refl
 
 pub long_of : (aux : Aux) (n extra care want target : ℕ) → Ready aux n extra care want target → IsLong (n + extra) care target
-long_of aux n extra care want target r =
-    let within : Within care n = λ line on. r.own.2 line (or_left (has care line) (eqb line target) on) in
-    let lt : target < n = fits_flip (Flip care want target) care want target n refl r.own.2 in
-    record { few = r.few; within = λ line on. let l : line < n = within line on in omega arith; aimed = omega arith; free = r.own.1.1 }
-
--- with a line to borrow there is a free one
-pub free_some : (n extra care want target : ℕ) → Ready Borrowed n extra care want target → 3 ≤ count_lines care → 1 ≤ count (is_free care target) (n + extra)
-free_some n extra care want target r many =
-    let within : Within care n = λ line on. r.own.2 line (or_left (has care line) (eqb line target) on) in
-    let lt : target < n = fits_flip (Flip care want target) care want target n refl r.own.2 in
-    elim (cases_eq (count (is_free care target) n) 0) [
-      | inl none ↦
-          let wanted : flip_wish Borrowed n (Flip care want target) ≡ 1 =
-          ap (λ b. cond {A = ℕ} b 0 (cond (eqb (count (is_free care target) n) 0) 1 0)) (le-ltb (count_lines care) 3 many) ∙ ap (λ b. cond {A = ℕ} b 1 0) (eq-eqb _ 0 none) in
-          let e = r.enough in
-          let some : 1 ≤ extra = omega arith in
-          let off : has care n ≡ false = elim (cases_Bool (has care n)) [ inl on ↦ (let l : n < n = within n on in absurd (omega arith)) | inr gone ↦ gone ] in
-          count_some (is_free care target) (n + extra) n (omega arith) (ap (λ b. not (b || eqb n target)) off ∙ ap not (ne_eqb n target (λ e. omega arith)))
-      | inr some ↦
-          count_more (is_free care target) n extra (omega arith)
-    ]
-  where
-    count_more : (p : ℕ → Bool) (n extra : ℕ) → 1 ≤ count p n → 1 ≤ count p (n + extra)
-    count_more p n extra h =
-        let l = length-rising p n in
-        let i = in_rising p n (get_or (rising p n) 0 0) (first_in (rising p n) (omega arith)) in
-        let lt : get_or (rising p n) 0 0 < n = i.0 in
-        count_some p (n + extra) (get_or (rising p n) 0 0) (omega arith) i.1
+long_of aux n extra care want target r = grind (arith, fits_flip_care, fits_flip)
 
 pub first_free : (p : ℕ → Bool) (n : ℕ) → 1 ≤ count p n → (get_or (rising p n) 0 0 < n) × (p (get_or (rising p n) 0 0) ≡ true)
 first_free p n h = let l = length-rising p n in in_rising p n (get_or (rising p n) 0 0) (first_in (rising p n) (omega arith))
 
+wanted_one : (m k : ℕ) → 3 ≤ m → k ≡ 0 → cond {A = ℕ} (nat_lt m 3) 0 (cond (eqb k 0) 1 0) ≡ 1
+wanted_one m k many none = grind arith
+
+-- with a line to borrow there is a free one
+pub free_some : (n extra care want target : ℕ) → Ready Borrowed n extra care want target → 3 ≤ count_lines care → 1 ≤ count (is_free care target) (n + extra)
+free_some n extra care want target r many =
+    let lt : target < n = fits_flip _ care want target n refl r.own.2 in
+    elim (cases_eq (count (is_free care target) n) 0) [
+      | inl none ↦
+          let some : 1 ≤ extra = omega (arith, r.enough, wanted_one (count_lines care) (count (is_free care target) n) many none) in
+          let off = not_within care n n (fits_flip_care _ care want target n refl r.own.2) (omega arith) in
+          count_some (is_free care target) (n + extra) n (omega arith) (ap (λ b. not (b || eqb n target)) off ∙ ap not (ne_eqb n target (λ e. omega arith)))
+      | inr some ↦
+          let f = first_free (is_free care target) n (omega arith) in count_some (is_free care target) (n + extra) _ (omega (arith, f.0)) f.1
+    ]
+
 run_long : (aux : Aux) (n extra care want target : ℕ) (word : List Bool) → Ready aux n extra care want target → 3 ≤ count_lines care → length word ≡ n + extra
     → (aux ≡ Clean → (z : ℕ) → n ≤ z → bit_of word z ≡ false) → run (long_flip aux n extra care want target) word ≡ act (Flip care want target) word
 run_long Clean n extra care want target word r many len zeros =
-    let long = long_of Clean n extra care want target r in
     let e : count_lines care - 2 ≤ extra = r.enough in
-    run_clean_ladder n extra care want target word r.few (λ line on. r.own.2 line (or_left (has care line) (eqb line target) on)) (fits_flip (Flip care want target) care want target n refl r.own.2) r.own.1.1 (omega arith) (omega arith) len (zeros refl)
+    run_clean_ladder n extra care want target word r.few (fits_flip_care _ care want target n refl r.own.2) (fits_flip _ care want target n refl r.own.2) r.own.1.1 (omega arith) (omega arith) len (zeros refl)
 run_long Borrowed n extra care want target word r many len zeros =
     let long = long_of Borrowed n extra care want target r in
-    let N : ℕ = n + extra in
-    let f = first_free (is_free care target) N (free_some n extra care want target r many) in
-    elim (cases_lt (count (is_free care target) N + 2) (count_lines care)) [
-      | inl lt ↦
-          ap (λ b. run (cond b (split N care want target (get_or (rising (is_free care target) N) 0 0)) (borrowed_ladder N care want target)) word) (lt-ltb _ _ lt)
-          ∙ run_split N care want target (get_or (rising (is_free care target) N) 0 0) word long many f.0 f.1 len
-      | inr ge ↦
-          ap (λ b. run (cond b (split N care want target (get_or (rising (is_free care target) N) 0 0)) (borrowed_ladder N care want target)) word) (le-ltb _ _ ge)
-          ∙ run_borrowed_ladder N care want target word long (omega arith) ge len
+    let f = first_free (is_free care target) (n + extra) (free_some n extra care want target r many) in
+    elim (cases_lt (count (is_free care target) (n + extra) + 2) (count_lines care)) [
+      | inl lt ↦ rw (lt-ltb (count (is_free care target) (n + extra) + 2) (count_lines care) lt) (run_split (n + extra) care want target _ word long many f.0 f.1 len)
+      | inr ge ↦ rw (le-ltb (count (is_free care target) (n + extra) + 2) (count_lines care) ge) (run_borrowed_ladder (n + extra) care want target word long (omega arith) ge len)
     ]
 
 -- what replaces one gate does as it does, whatever the added lines may hold
@@ -237,81 +198,62 @@ Works aux n extra made g =
 pub flip_works : (aux : Aux) (n extra : ℕ) (g : Shape) → n + extra ≤ 64 → IsFlipOn n g → flip_wish aux n g ≤ extra → Works aux n extra (flip_block aux n extra) g
 flip_works aux n extra (Flip care want target) few own enough word held lw lh may =
     let g : Shape = Flip care want target in
-    let r : Ready aux n extra care want target = record { few = few; own = own; enough = enough } in
-    let fits : FitsIn g (length word) = rw lw own.2 in
     let both : List Bool = word ++ held in
-    let l : length both ≡ n + extra = length-append word held ∙ ap (λ k. k + length held) lw ∙ ap (λ k. n + k) lh in
+    let l : length both ≡ n + extra = omega (arith, length-append word held) in
     let zeros : aux ≡ Clean → (z : ℕ) → n ≤ z → bit_of both z ≡ false = λ e z le. held_zero aux word held e may z (omega arith) in
     elim (cases_lt (count_lines care) 3) [
-      | inl lt ↦ ap (λ b. run (cond b (g ∷ []) (long_flip aux n extra care want target)) both) (lt-ltb (count_lines care) 3 lt)
-      | inr ge ↦ ap (λ b. run (cond b (g ∷ []) (long_flip aux n extra care want target)) both) (le-ltb (count_lines care) 3 ge) ∙ run_long aux n extra care want target both r ge l zeros
+      | inl lt ↦ rw (lt-ltb (count_lines care) 3 lt) refl
+      | inr ge ↦ rw (le-ltb (count_lines care) 3 ge) (run_long aux n extra care want target both (record { few = few; own = own; enough = enough }) ge l zeros)
     ]
-    ∙ act_append g word held own.0 fits
+    ∙ act_append g word held own.0 (rw lw own.2)
 flip_works aux n extra (Swap care want a b) few own enough word held lw lh may = absurd (false≢true own.0)
 flip_works aux n extra (Peres a b c) few own enough word held lw lh may = absurd (false≢true own.0)
 
 pub flat_map_extends : (aux : Aux) (n extra : ℕ) (made : Shape → List Shape) (gates : List Shape) → Every (Works aux n extra made) gates → Extends aux n extra (flat_map made gates) gates
 flat_map_extends aux n extra made [] works word held lw lh may = refl
-flat_map_extends aux n extra made (g ∷ rest) works word held lw lh may =
-    run-append (made g) (flat_map made rest) (word ++ held)
-    ∙ ap (run (flat_map made rest)) (works.0 word held lw lh may)
-    ∙ flat_map_extends aux n extra made rest works.1 (act g word) held (length-act g word ∙ lw) lh may
+flat_map_extends aux n extra made (g ∷ rest) works word held lw lh may = let hyp = flat_map_extends aux n extra made rest works.1 in grind (arith, hyp, run-append, length-act)
 
 -- ---- gates
 
-flips_work : (aux : Aux) (n extra : ℕ) (flips : List Shape) → n + extra ≤ 64 → Every (IsFlipOn n) flips → greatest (flip_wish aux n) flips ≤ extra
-    → Every (Works aux n extra (flip_block aux n extra)) flips
+-- what holds of each that wants no more lines than there are
+pub each_within : (wishes : Shape → ℕ) (K P : Shape → Type 0) (extra : ℕ) → ((g : Shape) → K g → wishes g ≤ extra → P g) → (xs : List Shape) → Every K xs → greatest wishes xs ≤ extra
+    → Every P xs
 unfolding greatest
-flips_work aux n extra [] few owns enough = tt
-flips_work aux n extra (g ∷ rest) few owns enough =
-    let l = le-max_left (flip_wish aux n g) (greatest (flip_wish aux n) rest) in
-    let r = le-max_right (flip_wish aux n g) (greatest (flip_wish aux n) rest) in
-    (flip_works aux n extra g few owns.0 (omega arith), flips_work aux n extra rest few owns.1 (omega arith))
+each_within wishes K P extra each [] are enough = tt
+each_within wishes K P extra each (g ∷ xs) are enough = let hyp = each_within wishes K P extra each xs are.1 in grind (arith, hyp, le-max_left, le-max_right)
 
-pub gate_works : (aux : Aux) (n extra : ℕ) (g : Shape) → n + extra ≤ 64 → IsGate g → FitsIn g n → wish aux n g ≤ extra → Works aux n extra (block_of aux n extra) g
-gate_works aux n extra g few is fits enough word held lw lh may =
-    flat_map_extends aux n extra (flip_block aux n extra) (flips_of g) (flips_work aux n extra (flips_of g) few (flips_own g n (omega arith) is fits) enough) word held lw lh may
-    ∙ ap (λ w. w ++ held) (run_flips g word is (rw lw fits))
+abbrev pub IsOwn : ℕ → Shape → Type 0
+IsOwn n g = IsGate g × FitsIn g n
 
-pub gates_work : (aux : Aux) (n extra : ℕ) (gates : List Shape) → n + extra ≤ 64 → All IsGate gates → All (λ g. FitsIn g n) gates → added aux n gates ≤ extra
-    → Every (Works aux n extra (block_of aux n extra)) gates
-unfolding greatest
-gates_work aux n extra [] few valid fitting enough = tt
-gates_work aux n extra (g ∷ rest) few valid fitting enough =
-    let l = le-max_left (wish aux n g) (greatest (wish aux n) rest) in
-    let r = le-max_right (wish aux n g) (greatest (wish aux n) rest) in (
-      gate_works aux n extra g few (All-head IsGate g rest valid) (All-head (λ h. FitsIn h n) g rest fitting) (omega arith),
-      gates_work aux n extra rest few (All-tail IsGate g rest valid) (All-tail (λ h. FitsIn h n) g rest fitting) (omega arith),
-    )
+pub gates_own : (n : ℕ) (gates : List Shape) → All IsGate gates → All (λ g. FitsIn g n) gates → Every (IsOwn n) gates
+gates_own n [] valid fitting = tt
+gates_own n (g ∷ rest) valid fitting =
+    ((All-head IsGate g rest valid, All-head (λ h. FitsIn h n) g rest fitting), gates_own n rest (All-tail IsGate g rest valid) (All-tail (λ h. FitsIn h n) g rest fitting))
+
+pub gate_works : (aux : Aux) (n extra : ℕ) (g : Shape) → n + extra ≤ 64 → IsOwn n g → wish aux n g ≤ extra → Works aux n extra (block_of aux n extra) g
+gate_works aux n extra g few own enough word held lw lh may =
+    flat_map_extends aux n extra (flip_block aux n extra) (flips_of g)
+    (each_within (flip_wish aux n) (IsFlipOn n) _ extra (λ f is. flip_works aux n extra f few is) (flips_of g) (flips_own g n (omega arith) own.0 own.1) enough) word held lw lh may
+    ∙ ap (λ w. w ++ held) (run_flips g word own.0 (rw lw own.1))
 
 -- the whole circuit
 pub extends : (aux : Aux) (n extra : ℕ) (gates : List Shape) → n + extra ≤ 64 → All IsGate gates → All (λ g. FitsIn g n) gates → added aux n gates ≤ extra
     → Extends aux n extra (decomposition_of aux n extra gates) gates
 extends aux n extra gates few valid fitting enough =
-    flat_map_extends aux n extra (block_of aux n extra) gates (gates_work aux n extra gates few valid fitting enough)
+    flat_map_extends aux n extra (block_of aux n extra) gates
+    (each_within (wish aux n) (IsOwn n) _ extra (λ g own. gate_works aux n extra g few own) gates (gates_own n gates valid fitting) enough)
 
 -- ---- flips with two controls
 
-pub fits_both : (n : ℕ) (c d : Control) (t : ℕ) → c.line < n → d.line < n → t < n → FitsIn (both c d t) n
-fits_both n c d t lc ld lt line on =
-    elim (or_cases (has (bit_or (2 ^ c.line) (2 ^ d.line)) line) (eqb line t) on) [
-      | inl x ↦
-          (elim (or_cases (eqb line c.line) (eqb line d.line) (sym (has-lines c.line d.line line) ∙ x)) [
-            | inl y ↦ let e : line ≡ c.line = eqb-true line c.line y in omega arith
-            | inr y ↦ let e : line ≡ d.line = eqb-true line d.line y in omega arith
-          ])
-      | inr x ↦ let e : line ≡ t = eqb-true line t x in omega arith
-    ]
+pub fits_both : (n : ℕ) (c d : Control) (t : ℕ) → IsRung n c d t → FitsIn (both c d t) n
+fits_both n c d t r = fits_two n c.line d.line t (bit_or (wanted_place c) (wanted_place d)) r.first r.second r.target
 
 place_part : (c : Control) (line : ℕ) → has (wanted_place c) line ≡ true → has (2 ^ c.line) line ≡ true
 place_part c line on = grind arith
 
-pub gate_both : (c d : Control) (t : ℕ) → t < 64 → t ≢ c.line → t ≢ d.line → IsGate (both c d t)
-gate_both c d t lt tc td = (
-  lt,
-  has-lines c.line d.line t ∙ ap (λ x. x || eqb t d.line) (ne_eqb t c.line tc) ∙ ne_eqb t d.line td,
-  λ line on. elim (or_cases (has (wanted_place c) line) (has (wanted_place d) line) (sym (has-or (wanted_place c) (wanted_place d) line) ∙ on)) [
-    | inl x ↦ has-or (2 ^ c.line) (2 ^ d.line) line ∙ or_left (has (2 ^ c.line) line) _ (place_part c line x)
-    | inr x ↦ has-or (2 ^ c.line) (2 ^ d.line) line ∙ or_right (has (2 ^ c.line) line) _ (place_part d line x)
-  ],
+pub gate_both : (c d : Control) (t : ℕ) → IsRung 64 c d t → IsGate (both c d t)
+gate_both c d t r = (
+  r.target,
+  free_two c.line d.line t r.not_first r.not_second,
+  λ line on. has-or (2 ^ c.line) (2 ^ d.line) line ∙ or_both _ _ _ _ (place_part c line) (place_part d line) (sym (has-or (wanted_place c) (wanted_place d) line) ∙ on),
 )

@@ -7,18 +7,17 @@ use Rattle.std.proofs.lemmas.List.{set-set, set_comm, set-get_or}
 use Rattle.rv_gate.specs.Word.{has, bit_of}
 use Rattle.rv_gate.specs.Gate.{holds, same, xor, act, run}
 use Rattle.rv_gate.specs.declared.gate.Shape.{Shape}
-use Rattle.rv_gate.proofs.inside.GateLemmas.{holds_Decides, flip_if, flip_twice, length-act, length-run, run-append}
+use Rattle.rv_gate.proofs.inside.GateLemmas.{holds_Decides, holds-set, flip_if, flip_twice, length-act, length-run, run-append}
 use Rattle.rv_gate.proofs.LineSets.{has-line, has-lines, has-or, has-none}
 use Rattle.rv_mct.specs.declared.control.Control.{Control}
 use Rattle.rv_mct.specs.inside.LadderLines.{In, Every, IsOn, IsOff, Divides}
 use Rattle.rv_mct.specs.Blocks.{positive, wanted_place, both, ladder, down_up, inner, down_up_twice}
-use Rattle.rv_gate.proofs.Bits.{same_true, same_from, and_assoc, xor_false, xor_same}
+use Rattle.rv_gate.proofs.Bits.{same_true, same_from, and_assoc, xor_assoc, xor_false, false_xor, xor_same}
 
 -- ---- bits
 
 same_one : (b : Bool) → same b true ≡ b
-same_one true = refl
-same_one false = refl
+same_one b = grind arith
 
 -- the helper was p, and is changed by k between two flips under m and the helper
 around : (m k p q : Bool) → xor (m && xor k p) (xor (m && p) q) ≡ xor (m && k) q
@@ -38,9 +37,21 @@ met_all (c ∷ rest) word = met c word && met_all rest word
 abbrev pub put : List Bool → ℕ → Bool → List Bool
 put word line on = set word line (xor on (bit_of word line))
 
+pub put_put : (word : List Bool) (line : ℕ) (a b : Bool) → line < length word → put (put word line a) line b ≡ put word line (xor b a)
+put_put word line a b lt =
+    set-set word line _ _ ∙ ap (set word line) (ap (xor b) (get_or-set_same word line (xor a (bit_of word line)) false lt) ∙ sym (xor_assoc b a (bit_of word line)))
+
+pub put_comm : (word : List Bool) (s t : ℕ) (a b : Bool) → s ≢ t → put (put word s a) t b ≡ put (put word t b) s a
+put_comm word s t a b ne = grind (arith, get_or-set_other, set_comm)
+
+pub put_twice : (word : List Bool) (line : ℕ) (a : Bool) → line < length word → put (put word line a) line a ≡ word
+put_twice word line a lt = put_put word line a a lt ∙ ap (put word line) (xor_same a) ∙ ap (set word line) (false_xor (bit_of word line)) ∙ set-get_or word line false
+
+pub free_two : (a b t : ℕ) → t ≢ a → t ≢ b → has (bit_or (2 ^ a) (2 ^ b)) t ≡ false
+free_two a b t ta tb = has-lines a b t ∙ ap (λ x. x || eqb t b) (ne_eqb t a ta) ∙ ne_eqb t b tb
+
 place_at : (line : ℕ) (w : Bool) (at : ℕ) → has (cond w (2 ^ line) 0) at ≡ (w && eqb at line)
-place_at line true at = has-line line at
-place_at line false at = has-none at
+place_at line w at = grind (arith, has-line, has-none)
 
 want_first : (v u x : Bool) → ((v && true) || (u && false)) ≡ v
 want_first v u x = grind arith
@@ -65,9 +76,9 @@ act_both c d target word lc ld apart = grind (arith, holds_both, flip_if)
 pub met_other : (c : Control) (word : List Bool) (x : ℕ) (v : Bool) → c.line ≢ x → met c (set word x v) ≡ met c word
 met_other c word x v other = ap (λ b. same b c.wanted) (get_or-set_other word x c.line v false other)
 
-pub frame_both : (c d : Control) (target : ℕ) (word : List Bool) (x : ℕ) (v : Bool) → c.line < length word → d.line < length word → c.line ≢ d.line
-    → c.line ≢ x → d.line ≢ x → target ≢ x → act (both c d target) (set word x v) ≡ set (act (both c d target) word) x v
-frame_both c d target word x v lc ld apart xc xd xt = grind (arith, length-set, act_both, bit_of, met_other, get_or-set_other, set_comm)
+pub frame_both : (c d : Control) (target : ℕ) (word : List Bool) (x : ℕ) (v : Bool) → c.line ≢ x → d.line ≢ x → target ≢ x
+    → act (both c d target) (set word x v) ≡ set (act (both c d target) word) x v
+frame_both c d target word x v xc xd xt = grind (arith, flip_if, holds-set, free_two, get_or-set_other, set_comm)
 
 pub twice_both : (c d : Control) (target : ℕ) (word : List Bool) → target < length word → target ≢ c.line → target ≢ d.line
     → act (both c d target) (act (both c d target) word) ≡ word
@@ -91,28 +102,20 @@ abbrev pub Apart : ℕ → List ℕ → Type 0
 Apart x spots = (y : ℕ) → In y spots → y ≢ x
 
 pub frame_down_up : (n : ℕ) (on : ℕ → Bool) (a b : Control) (more : List Control) (hs : List ℕ) (t : ℕ) (word : List Bool) (x : ℕ) (v : Bool)
-    → Divides n on a b more (t ∷ hs) → length word ≡ n → on x ≡ false → Apart x (t ∷ hs)
+    → Divides n on a b more (t ∷ hs) → on x ≡ false → Apart x (t ∷ hs)
     → run (down_up a b more hs t) (set word x v) ≡ set (run (down_up a b more hs t) word) x v
 unfolding down_up
-frame_down_up n on a b [] hs t word x v r len off apart =
-    frame_both a b t word x v (omega (arith, r.first.0)) (omega (arith, r.second.0)) r.apart (off_on on a.line x r.first.1 off) (off_on on b.line x r.second.1 off) (apart t (inl refl))
-frame_down_up n on a b (c ∷ more) [] t word x v r len off apart = refl
-frame_down_up n on a b (c ∷ more) (h ∷ hs) t word x v r len off apart =
+frame_down_up n on a b [] hs t word x v r off apart =
+    frame_both a b t word x v (off_on on a.line x r.first.1 off) (off_on on b.line x r.second.1 off) (apart t (inl refl))
+frame_down_up n on a b (c ∷ more) [] t word x v r off apart = refl
+frame_down_up n on a b (c ∷ more) (h ∷ hs) t word x v r off apart =
     let g : Shape = both c (positive h) t in
     let V : List Shape = down_up a b more hs h in
-    let s : Divides n on a b more (h ∷ hs) = lower n on a b c more t (h ∷ hs) r in
-    let lc : c.line < n = r.more.0.0 in
-    let lh : h < n = r.spots.1.0.0 in
-    let ch : c.line ≢ h = off_on on c.line h r.more.0.1 r.spots.1.0.1 in
     let cx : c.line ≢ x = off_on on c.line x r.more.0.1 off in
-    let hx : h ≢ x = apart h (inr (inl refl)) in
-    let tx : t ≢ x = apart t (inl refl) in
-    let l1 : length (act g word) ≡ n = length-act g word ∙ len in
-    let l2 : length (run V (act g word)) ≡ n = length-run V (act g word) ∙ l1 in
     run_around g V (set word x v)
-    ∙ ap (λ w. act g (run V w)) (frame_both c (positive h) t word x v (omega arith) (omega arith) ch cx hx tx)
-    ∙ ap (act g) (frame_down_up n on a b more hs h (act g word) x v s l1 off (λ y i. apart y (inr i)))
-    ∙ frame_both c (positive h) t (run V (act g word)) x v (omega arith) (omega arith) ch cx hx tx
+    ∙ ap (λ w. act g (run V w)) (frame_both c (positive h) t word x v cx (apart h (inr (inl refl))) (apart t (inl refl)))
+    ∙ ap (act g) (frame_down_up n on a b more hs h (act g word) x v (lower n on a b c more t (h ∷ hs) r) off (λ y i. apart y (inr i)))
+    ∙ frame_both c (positive h) t (run V (act g word)) x v cx (apart h (inr (inl refl))) (apart t (inl refl))
     ∙ ap (λ w. set w x v) (sym (run_around g V word))
 
 pub twice_down_up : (n : ℕ) (on : ℕ → Bool) (a b : Control) (more : List Control) (hs : List ℕ) (t : ℕ) (word : List Bool)
@@ -136,31 +139,21 @@ twice_down_up n on a b (c ∷ more) (h ∷ hs) t word r len =
     ∙ ap (act g) (twice_down_up n on a b more hs h (act g word) s l1)
     ∙ twice_both c (positive h) t word (omega arith) tc th
 
-kept_both : (c d : Control) (target : ℕ) (word : List Bool) (x : ℕ) → c.line < length word → d.line < length word → c.line ≢ d.line → x ≢ target
-    → bit_of (act (both c d target) word) x ≡ bit_of word x
-kept_both c d target word x lc ld apart other =
-    ap (λ w. bit_of w x) (act_both c d target word lc ld apart) ∙ get_or-set_other word target x _ false other
+kept_both : (c d : Control) (target : ℕ) (word : List Bool) (x : ℕ) → x ≢ target → bit_of (act (both c d target) word) x ≡ bit_of word x
+kept_both c d target word x other = ap (λ w. bit_of w x) (flip_if _ word target) ∙ get_or-set_other word target x _ false other
 
-pub kept_down_up : (n : ℕ) (on : ℕ → Bool) (a b : Control) (more : List Control) (hs : List ℕ) (t : ℕ) (word : List Bool) (x : ℕ)
-    → Divides n on a b more (t ∷ hs) → length word ≡ n → Apart x (t ∷ hs) → bit_of (run (down_up a b more hs t) word) x ≡ bit_of word x
+pub kept_down_up : (a b : Control) (more : List Control) (hs : List ℕ) (t : ℕ) (word : List Bool) (x : ℕ) → Apart x (t ∷ hs)
+    → bit_of (run (down_up a b more hs t) word) x ≡ bit_of word x
 unfolding down_up
-kept_down_up n on a b [] hs t word x r len apart =
-    kept_both a b t word x (omega (arith, r.first.0)) (omega (arith, r.second.0)) r.apart (λ e. apart t (inl refl) (sym e))
-kept_down_up n on a b (c ∷ more) [] t word x r len apart = refl
-kept_down_up n on a b (c ∷ more) (h ∷ hs) t word x r len apart =
+kept_down_up a b [] hs t word x apart = kept_both a b t word x (λ e. apart t (inl refl) (sym e))
+kept_down_up a b (c ∷ more) [] t word x apart = refl
+kept_down_up a b (c ∷ more) (h ∷ hs) t word x apart =
     let g : Shape = both c (positive h) t in
     let V : List Shape = down_up a b more hs h in
-    let s : Divides n on a b more (h ∷ hs) = lower n on a b c more t (h ∷ hs) r in
-    let lc : c.line < n = r.more.0.0 in
-    let lh : h < n = r.spots.1.0.0 in
-    let ch : c.line ≢ h = off_on on c.line h r.more.0.1 r.spots.1.0.1 in
-    let xt : x ≢ t = λ e. apart t (inl refl) (sym e) in
-    let l1 : length (act g word) ≡ n = length-act g word ∙ len in
-    let l2 : length (run V (act g word)) ≡ n = length-run V (act g word) ∙ l1 in
     ap (λ w. bit_of w x) (run_around g V word)
-    ∙ kept_both c (positive h) t (run V (act g word)) x (omega arith) (omega arith) ch xt
-    ∙ kept_down_up n on a b more hs h (act g word) x s l1 (λ y i. apart y (inr i))
-    ∙ kept_both c (positive h) t word x (omega arith) (omega arith) ch xt
+    ∙ kept_both c (positive h) t (run V (act g word)) x (λ e. apart t (inl refl) (sym e))
+    ∙ kept_down_up a b more hs h (act g word) x (λ y i. apart y (inr i))
+    ∙ kept_both c (positive h) t word x (λ e. apart t (inl refl) (sym e))
 
 -- the controls on the way down and up
 abbrev pub met_down : Control → Control → List Control → List Bool → Bool
@@ -168,12 +161,12 @@ met_down a b [] word = met a word && met b word
 met_down a b (c ∷ more) word = met c word && met_down a b more word
 
 frame_inner : (n : ℕ) (on : ℕ → Bool) (a b : Control) (more : List Control) (hs : List ℕ) (t : ℕ) (word : List Bool) (v : Bool)
-    → Divides n on a b more (t ∷ hs) → length word ≡ n → run (inner a b more hs) (set word t v) ≡ set (run (inner a b more hs) word) t v
+    → Divides n on a b more (t ∷ hs) → run (inner a b more hs) (set word t v) ≡ set (run (inner a b more hs) word) t v
 unfolding inner
-frame_inner n on a b [] hs t word v r len = refl
-frame_inner n on a b (c ∷ more) [] t word v r len = refl
-frame_inner n on a b (c ∷ more) (h ∷ hs) t word v r len =
-    frame_down_up n on a b more hs h word t v (lower n on a b c more t (h ∷ hs) r) len r.spots.0.1 r.distinct.0
+frame_inner n on a b [] hs t word v r = refl
+frame_inner n on a b (c ∷ more) [] t word v r = refl
+frame_inner n on a b (c ∷ more) (h ∷ hs) t word v r =
+    frame_down_up n on a b more hs h word t v (lower n on a b c more t (h ∷ hs) r) r.spots.0.1 r.distinct.0
 
 twice_inner : (n : ℕ) (on : ℕ → Bool) (a b : Control) (more : List Control) (hs : List ℕ) (t : ℕ) (word : List Bool)
     → Divides n on a b more (t ∷ hs) → length word ≡ n → run (inner a b more hs) (run (inner a b more hs) word) ≡ word
@@ -212,12 +205,12 @@ run_down_up n on a b (c ∷ more) (h ∷ hs) t word r len enough =
     ap (λ w. bit_of w h) (run_down_up n on a b more hs h word s len (omega arith))
     ∙ get_or-set_same (run (inner a b more hs) word) h (xor k p) false (omega (arith, length-run (inner a b more hs) word)) in
     let still : bit_of after c.line ≡ bit_of word c.line =
-    kept_down_up n on a b more hs h word c.line s len (λ y i e. off_on on c.line y r.more.0.1 (every_in (IsOff n on) (h ∷ hs) y r.spots.1 i).1 (sym e)) in
+    kept_down_up a b more hs h word c.line (λ y i e. off_on on c.line y r.more.0.1 (every_in (IsOff n on) (h ∷ hs) y r.spots.1 i).1 (sym e)) in
     let m2 : met c w2 ≡ m = met_other c after t y0 ct ∙ ap (λ z. same z c.wanted) still in
     let p2 : met (positive h) w2 ≡ xor k p = met_other (positive h) after t y0 ht ∙ same_one (bit_of after h) ∙ inside in
     run_around g V word
     ∙ ap (λ w. act g (run V w)) start
-    ∙ ap (act g) (frame_down_up n on a b more hs h word t y0 s len r.spots.0.1 r.distinct.0)
+    ∙ ap (act g) (frame_down_up n on a b more hs h word t y0 s r.spots.0.1 r.distinct.0)
     ∙ act_both c (positive h) t w2 (omega arith) (omega arith) ch
     ∙ ap (λ z. set w2 t (xor (z && met (positive h) w2) (bit_of w2 t))) m2
     ∙ ap (λ z. set w2 t (xor (m && z) (bit_of w2 t))) p2
@@ -238,7 +231,7 @@ run_down_up_twice n on a b more hs t word r len enough =
     let y : Bool = xor (met_down a b more word) (bit_of word t) in
     run-append (down_up a b more hs t) I word
     ∙ ap (run I) (run_down_up n on a b more hs t word r len enough)
-    ∙ frame_inner n on a b more hs t (run I word) y r (length-run I word ∙ len)
+    ∙ frame_inner n on a b more hs t (run I word) y r
     ∙ ap (λ w. set w t y) (twice_inner n on a b more hs t word r len)
 
 -- ---- over lines that hold 0
@@ -254,9 +247,7 @@ zeros_set (h ∷ hs) word x v apart z =
 pub met_all_other : (n : ℕ) (on : ℕ → Bool) (cs : List Control) (word : List Bool) (x : ℕ) (v : Bool) → Every (IsOn n on) cs → on x ≡ false
     → met_all cs (set word x v) ≡ met_all cs word
 met_all_other n on [] word x v e off = refl
-met_all_other n on (c ∷ cs) word x v e off =
-    ap (λ z. z && met_all cs (set word x v)) (met_other c word x v (off_on on c.line x e.0.1 off))
-    ∙ ap (λ z. met c word && z) (met_all_other n on cs word x v e.1 off)
+met_all_other n on (c ∷ cs) word x v e off = let hyp = met_all_other n on cs word x v e.1 off in grind (arith, hyp, met_other, off_on)
 
 -- the helper becomes a control
 abbrev pub with_line : (ℕ → Bool) → ℕ → ℕ → Bool
@@ -306,43 +297,26 @@ run_ladder n on a b (c ∷ more) (z ∷ hs) t word r len enough zs =
     let k : Bool = met a word && met b word in
     let rest : Bool = met c word && met_all more word in
     let off_z : on z ≡ false = r.spots.1.0.1 in
-    let off_t : on t ≡ false = r.spots.0.1 in
     let la : a.line < n = r.first.0 in
     let lb : b.line < n = r.second.0 in
     let lz : z < n = r.spots.1.0.0 in
     let lt : t < n = r.spots.0.0 in
     let zt : z ≢ t = r.distinct.0 z (inl refl) in
-    let az : a.line ≢ z = off_on on a.line z r.first.1 off_z in
-    let bz : b.line ≢ z = off_on on b.line z r.second.1 off_z in
-    let ta : a.line ≢ t = off_on on a.line t r.first.1 off_t in
-    let tb : b.line ≢ t = off_on on b.line t r.second.1 off_t in
-    let w1 : List Bool = set word z k in
-    let l1 : length w1 ≡ n = length-set word z k ∙ len in
-    let start : act g word ≡ w1 =
-    act_both a b z word (omega arith) (omega arith) r.apart ∙ ap (λ v. set word z (xor k v)) zs.0 ∙ ap (set word z) (xor_false k) in
-    let zs1 : Zeros hs w1 = zeros_set hs word z k r.distinct.1.0 zs.1 in
-    let all1 : (met (positive z) w1 && (met c w1 && met_all more w1)) ≡ (k && rest) =
-    ap (λ v. v && (met c w1 && met_all more w1)) (same_one (bit_of w1 z) ∙ get_or-set_same word z k false (omega arith))
-    ∙ ap (λ v. k && v) (met_all_other n on (c ∷ more) word z k r.more off_z) in
-    let tz : t ≢ z = λ e. zt (sym e) in
-    let y : Bool = xor (k && rest) (bit_of word t) in
-    let w2 : List Bool = set w1 t y in
-    let l2 : length w2 ≡ n = length-set w1 t y ∙ l1 in
+    let w1 : List Bool = put word z k in
+    let l1 : length w1 ≡ n = length-set word z _ ∙ len in
+    let one : met (positive z) w1 ≡ k = same_one (bit_of w1 z) ∙ get_or-set_same word z _ false (omega arith) ∙ ap (xor k) zs.0 ∙ xor_false k in
+    let w2 : List Bool = put w1 t (k && rest) in
+    let l2 : length w2 ≡ n = length-set w1 t _ ∙ l1 in
     let up : run L w1 ≡ w2 =
-    run_ladder n (with_line on z) (positive z) c more hs t w1 (higher n on a b c more t z hs r) l1 (omega arith) zs1
-    ∙ ap (put w1 t) all1
-    ∙ ap (λ v. set w1 t (xor (k && rest) v)) (get_or-set_other word z t k false tz) in
-    let still : (met a w2 && met b w2) ≡ k =
-    ap (λ v. v && met b w2) (met_other a w1 t y ta ∙ met_other a word z k az)
-    ∙ ap (λ v. met a word && v) (met_other b w1 t y tb ∙ met_other b word z k bz) in
-    let zat : bit_of w2 z ≡ k = get_or-set_other w1 t z y false zt ∙ get_or-set_same word z k false (omega arith) in
+    run_ladder n (with_line on z) (positive z) c more hs t w1 (higher n on a b c more t z hs r) l1 (omega arith) (zeros_set hs word z _ r.distinct.1.0 zs.1)
+    ∙ ap (put w1 t) (ap (λ v. v && (met c w1 && met_all more w1)) one ∙ ap (λ v. k && v) (met_all_other n on (c ∷ more) word z _ r.more off_z)) in
+    let still : (d : Control) → on d.line ≡ true → met d w2 ≡ met d word = λ d is.
+    met_other d w1 t _ (off_on on d.line t is r.spots.0.1) ∙ met_other d word z _ (off_on on d.line z is off_z) in
     run_around g L word
-    ∙ ap (λ w. act g (run L w)) start
+    ∙ ap (λ w. act g (run L w)) (act_both a b z word (omega arith) (omega arith) r.apart)
     ∙ ap (act g) up
     ∙ act_both a b z w2 (omega arith) (omega arith) r.apart
-    ∙ ap (put w2 z) still
-    ∙ ap (λ v. set w2 z (xor k v)) zat
-    ∙ ap (set w2 z) (xor_same k)
-    ∙ set_comm w1 t z y false tz
-    ∙ ap (λ w. set w t y) (set-set word z k false ∙ ap (set word z) (sym zs.0) ∙ set-get_or word z false)
-    ∙ ap (λ v. set word t (xor v (bit_of word t))) (and_assoc (met a word) (met b word) rest)
+    ∙ ap (put w2 z) (ap (λ v. v && met b w2) (still a r.first.1) ∙ ap (λ v. met a word && v) (still b r.second.1))
+    ∙ put_comm w1 t z (k && rest) k (λ e. zt (sym e))
+    ∙ ap (λ w. put w t (k && rest)) (put_twice word z k (omega arith))
+    ∙ ap (put word t) (and_assoc (met a word) (met b word) rest)

@@ -2,10 +2,10 @@
 use Rattle.std.proofs.lemmas.Grind.{common_steps}
 use Rattle.std.proofs.Common.{◌≡◌, ◌≢◌, ℕ, zero, suc, ◌+◌, ◌-◌, ◌<◌, ◌≤◌, Bool, true, false, cond, ◌&&◌, List, [], ◌∷◌, ◌++◌, length, map, take, drop, get_or, reverse, refl, sym, ◌∙◌, ap, inl, inr, arith, length-append}
 use Rattle.std.specs.Prelude.{◌⊎◌}
-use Rattle.std.proofs.lemmas.Bool.{cases_eq, cases_Bool, false≢true, and_parts, and_from}
+use Rattle.std.proofs.lemmas.Bool.{cases_Bool, false≢true, and_from}
 use Rattle.std.proofs.lemmas.Bool.Decides.{same_from_decides}
 use Rattle.std.proofs.lemmas.List.FromFn.{length-range_with_len}
-use Rattle.std.proofs.lemmas.List.{reverse-append, length-reverse, length-take-le, length-map}
+use Rattle.std.proofs.lemmas.List.{reverse-append, length-reverse, length-take-le, length-map, length-drop}
 use Rattle.std.proofs.Math.Seq.{take-length}
 use Rattle.rv_gate.specs.Word.{has, bit_of}
 use Rattle.rv_gate.specs.Gate.{holds, act, run, Within}
@@ -15,21 +15,17 @@ use Rattle.rv_mct.specs.declared.control.Control.{Control}
 use Rattle.rv_mct.specs.Blocks.{rising, count, is_free, control, controls_of, count_lines, clean_ladder, borrowed_ladder_over, borrowed_ladder, down_up_twice, ladder}
 use Rattle.std.specs.List.{range_with_len}
 use Rattle.rv_mct.specs.inside.Long.{IsLong}
-use Rattle.rv_mct.specs.inside.LadderLines.{In, Every, Distinct, IsOn, IsOff, Divides, BorrowedDivided, CleanDivided}
+use Rattle.rv_mct.specs.inside.LadderLines.{In, Every, Distinct, IsOn, IsOff, AreDivided, BorrowedDivided, CleanDivided, no_control}
 use Rattle.rv_mct.proofs.Rising.{rising_zero, rising-suc, count_zero, count-suc}
 use Rattle.rv_mct.proofs.inside.Ladders.{Apart, met, met_all, met_down, put, run_ladder, run_down_up_twice}
-use Rattle.rv_gate.proofs.Bits.{same_true, same_from, and_comm, and_assoc, and_true}
+use Rattle.rv_gate.proofs.Bits.{same_true, same_from, and_comm, and_assoc}
 use Rattle.rv_gate.proofs.Lists.{take_same}
 
 -- ---- lists of lines
 
 in_append : (x : ℕ) (xs ys : List ℕ) → In x (xs ++ ys) → In x xs ⊎ In x ys
 in_append x [] ys i = inr i
-in_append x (y ∷ xs) ys i =
-    elim i [
-      | inl at ↦ inl (inl at)
-      | inr later ↦ (elim (in_append x xs ys later) [ inl l ↦ inl (inr l) | inr r ↦ inr r ])
-    ]
+in_append x (y ∷ xs) ys i = let hyp = in_append x xs ys in grind (arith, hyp)
 
 in_left : (x : ℕ) (xs ys : List ℕ) → In x xs → In x (xs ++ ys)
 in_left x [] ys i = absurd i
@@ -57,11 +53,7 @@ in_rising p (suc n) x i =
 
 pub rising_in : (p : ℕ → Bool) (n x : ℕ) → x < n → p x ≡ true → In x (rising p n)
 rising_in p zero x lt on = absurd (omega arith)
-rising_in p (suc n) x lt on =
-    rw (rising-suc p n) (elim (cases_eq x n) [
-      | inl at ↦ in_right x (rising p n) _ (let Q : ℕ → Type 0 = λ k. In k (cond (p n) (n ∷ []) []) in rw at (last_in n (p n) (sym (ap p at) ∙ on)))
-      | inr other ↦ in_left x (rising p n) _ (rising_in p n x (omega arith) on)
-    ])
+rising_in p (suc n) x lt on = let hyp = rising_in p n x in grind (arith, hyp, rising-suc, in_right, last_in, in_left)
 
 length-last : (n : ℕ) (b : Bool) → length (cond b (n ∷ []) []) ≡ cond b 1 0
 length-last n true = refl
@@ -69,9 +61,7 @@ length-last n false = refl
 
 pub length-rising : (p : ℕ → Bool) (n : ℕ) → length (rising p n) ≡ count p n
 length-rising p zero = ap length (rising_zero p) ∙ sym (count_zero p)
-length-rising p (suc n) =
-    ap length (rising-suc p n) ∙ length-append (rising p n) _ ∙ ap (λ k. k + length (cond (p n) (n ∷ []) [])) (length-rising p n) ∙ ap (λ k. count p n + k) (length-last n (p n))
-    ∙ sym (count-suc p n)
+length-rising p (suc n) = let hyp = length-rising p n in grind (arith, hyp, rising-suc, length-append, length-last, count-suc)
 
 distinct_append : (xs ys : List ℕ) → Distinct xs → Distinct ys → ((x : ℕ) → In x xs → Apart x ys) → Distinct (xs ++ ys)
 distinct_append [] ys dx dy apart = dy
@@ -142,12 +132,7 @@ met_all_append (c ∷ xs) ys word = ap (λ z. met c word && z) (met_all_append x
 
 met_all_reverse : (xs : List Control) (word : List Bool) → met_all (reverse xs) word ≡ met_all xs word
 met_all_reverse [] word = refl
-met_all_reverse (c ∷ xs) word =
-    ap (λ l. met_all l word) (reverse-cons c xs)
-    ∙ met_all_append (reverse xs) (c ∷ []) word
-    ∙ ap (λ z. z && (met c word && true)) (met_all_reverse xs word)
-    ∙ ap (λ z. met_all xs word && z) (and_true (met c word))
-    ∙ and_comm (met_all xs word) (met c word)
+met_all_reverse (c ∷ xs) word = let rest = met_all_reverse xs word in grind (arith, rest, reverse-cons, met_all_append, and_comm)
 
 met_down_all : (a b : Control) (more : List Control) (word : List Bool) → met_down a b more word ≡ (met_all more word && (met a word && met b word))
 met_down_all a b [] word = refl
@@ -159,12 +144,7 @@ met_down_reverse a b more word = grind (arith, met_down_all, met_all_reverse, an
 
 met_each : (want : ℕ) (xs : List ℕ) (word : List Bool) → met_all (map (control want) xs) word ≡ true → (x : ℕ) → In x xs → bit_of word x ≡ has want x
 met_each want [] word h x i = absurd i
-met_each want (y ∷ xs) word h x i =
-    let parts = and_parts _ _ h in
-    elim i [
-      | inl at ↦ rw at (same_true _ _ parts.0)
-      | inr later ↦ met_each want xs word parts.1 x later
-    ]
+met_each want (y ∷ xs) word h x i = let hyp = met_each want xs word in grind (arith, hyp, same_true)
 
 each_met : (want : ℕ) (xs : List ℕ) (word : List Bool) → ((x : ℕ) → In x xs → bit_of word x ≡ has want x) → met_all (map (control want) xs) word ≡ true
 each_met want [] word h = refl
@@ -187,109 +167,134 @@ act_put care want target n word len few within =
 
 -- ---- through lines that hold anything
 
-pub free_parts : (care target x : ℕ) → is_free care target x ≡ true → (has care x ≡ false) × (x ≢ target)
-free_parts care target x h = grind arith
-
-pub borrowed_divides : (n : ℕ) (on : ℕ → Bool) (want target x y : ℕ) (rest free : List ℕ) → Distinct (x ∷ (y ∷ rest))
-    → ((z : ℕ) → In z (x ∷ (y ∷ rest)) → (z < n) × (on z ≡ true)) → IsOff n on target → ((z : ℕ) → In z free → IsOff n on z × (z ≢ target)) → Distinct free
-    → Divides n on (control want x) (control want y) (map (control want) rest) (target ∷ free)
-borrowed_divides n on want target x y rest free dx ons off frees df = record {
-  first = ons x (inl refl);
-  second = ons y (inr (inl refl));
-  apart = λ e. dx.0 y (inl refl) (sym e);
-  more = every_controls n on want rest (λ z i. ons z (inr (inr i)));
-  spots = (off, every_from (IsOff n on) free (λ z i. (frees z i).0));
-  distinct = (λ z i. (frees z i).1, df);
-}
-
-turned : (n : ℕ) (on : ℕ → Bool) (a b : Control) (more : List Control) (target : ℕ) (free : List ℕ) → Divides n on a b more (target ∷ free)
-    → Divides n on a b (reverse more) (target ∷ reverse free)
-turned n on a b more target free r = record {
-  first = r.first;
-  second = r.second;
-  apart = r.apart;
-  more = every_reverse (IsOn n on) more r.more;
-  spots = (r.spots.0, every_reverse (IsOff n on) free r.spots.1);
-  distinct = (λ z i. r.distinct.0 z (in_reverse z free i), distinct_reverse free r.distinct.1);
-}
-
-borrowed_ladder_list : (n care want target : ℕ) (xs free : List ℕ) (word : List Bool) → IsLong n care target → Distinct xs → ((z : ℕ) → In z xs → has care z ≡ true)
-    → ((z : ℕ) → In z free → (z < n) × (is_free care target z ≡ true)) → Distinct free → 2 ≤ length xs → length xs ≤ length free + 2 → length word ≡ n
-    → run (borrowed_ladder_over (map (control want) xs) free target) word ≡ put word target (met_all (map (control want) xs) word)
-borrowed_ladder_list n care want target [] free word long dx ons frees df some enough len = absurd (omega arith)
-borrowed_ladder_list n care want target (x ∷ []) free word long dx ons frees df some enough len = absurd (omega arith)
-borrowed_ladder_list n care want target (x ∷ (y ∷ rest)) free word long dx ons frees df some enough len =
-    let a : Control = control want x in
-    let b : Control = control want y in
-    let more : List Control = map (control want) rest in
-    let m : length more ≡ length rest = length-map rest (control want) in
-    let hs : List ℕ = take (length more) free in
-    let lh : length hs ≡ length more = length-take-le (length more) free (omega arith) in
-    let off : (z : ℕ) → In z hs → IsOff n (has care) z × (z ≢ target) = λ z i.
-    let r = frees z (in_take (length more) z free i) in let p = free_parts care target z r.1 in ((r.0, p.0), p.1) in
-    let divides : Divides n (has care) a b more (target ∷ hs) =
-    borrowed_divides n (has care) want target x y rest hs dx (λ z i. (long.within z (ons z i), ons z i)) (long.aimed, long.free) off (distinct_take (length more) free df) in
-    run_down_up_twice n (has care) a b (reverse more) (reverse hs) target word (turned n (has care) a b more target hs divides) len (length-reverse more ∙ sym lh ∙ sym (length-reverse hs))
-    ∙ ap (put word target) (met_down_reverse a b more word)
-
-pub run_borrowed_ladder : (n care want target : ℕ) (word : List Bool) → IsLong n care target → 2 ≤ count_lines care → count_lines care ≤ count (is_free care target) n + 2 → length word ≡ n
-    → run (borrowed_ladder n care want target) word ≡ act (Flip care want target) word
-unfolding borrowed_ladder
-run_borrowed_ladder n care want target word long some enough len = grind (arith, length-rising, is_free, borrowed_ladder_list, distinct_rising, in_rising, act_put)
-
--- ---- through added lines that hold 0
-
-pub in_range : (first k x : ℕ) → In x (range_with_len first k) → (first ≤ x) × (x < first + k)
-in_range first zero x i = absurd i
-in_range first (suc k) x i =
-    elim i [
-      | inl at ↦ (omega arith, omega arith)
-      | inr later ↦ let r = in_range (first + 1) k x later in (omega (arith, r.0), omega (arith, r.1))
-    ]
-
-pub distinct_range : (first k : ℕ) → Distinct (range_with_len first k)
-distinct_range first zero = tt
-distinct_range first (suc k) = (λ y i e. let r = in_range (first + 1) k y i in let lo : first + 1 ≤ y = r.0 in omega arith, distinct_range (first + 1) k)
-
-clean_ladder_list : (n extra care want target : ℕ) (xs : List ℕ) (word : List Bool) → Within care n → target < n → has care target ≡ false → Distinct xs
-    → ((z : ℕ) → In z xs → has care z ≡ true) → 2 ≤ length xs → length xs ≤ extra + 2 → length word ≡ n + extra
-    → ((z : ℕ) → n ≤ z → bit_of word z ≡ false)
-    → run (clean_ladder (map (control want) xs) n target) word ≡ put word target (met_all (map (control want) xs) word)
-clean_ladder_list n extra care want target [] word within lt free dx ons some enough len zeros = absurd (omega arith)
-clean_ladder_list n extra care want target (x ∷ []) word within lt free dx ons some enough len zeros = absurd (omega arith)
-clean_ladder_list n extra care want target (x ∷ (y ∷ rest)) word within lt free dx ons some enough len zeros =
-    let more : List Control = map (control want) rest in
-    let m : length more ≡ length rest = length-map rest (control want) in
-    let hs : List ℕ = range_with_len n (length more) in
-    let off : (z : ℕ) → In z hs → IsOff (n + extra) (has care) z × (z ≢ target) = λ z i.
-    let r = in_range n (length more) z i in
-    let lo : n ≤ z = r.0 in
-    let hi : z < n + length more = r.1 in
-    ((omega arith, not_within z lo), λ e. omega arith) in
-    let divides : Divides (n + extra) (has care) (control want x) (control want y) more (target ∷ hs) =
-    borrowed_divides (n + extra) (has care) want target x y rest hs dx (λ z i. let l : z < n = within z (ons z i) in (omega arith, ons z i)) (omega arith, free) off (distinct_range n (length more)) in
-    run_ladder (n + extra) (has care) (control want x) (control want y) more hs target word divides len (sym (length-range_with_len n (length more)))
-    (every_from (λ h. bit_of word h ≡ false) hs (λ z i. zeros z (in_range n (length more) z i).0))
-  where
-    not_within : (z : ℕ) → n ≤ z → has care z ≡ false
-    not_within z lo = elim (cases_Bool (has care z)) [ inl on ↦ (let l : z < n = within z on in absurd (omega arith)) | inr off ↦ off ]
-
-pub run_clean_ladder : (n extra care want target : ℕ) (word : List Bool) → n + extra ≤ 64 → Within care n → target < n → has care target ≡ false → 2 ≤ count_lines care
-    → count_lines care ≤ extra + 2 → length word ≡ n + extra → ((z : ℕ) → n ≤ z → bit_of word z ≡ false)
-    → run (clean_ladder (controls_of care want) n target) word ≡ act (Flip care want target) word
-run_clean_ladder n extra care want target word few within lt free some enough len zeros =
-    let l1 = length-rising (has care) 64 in
-    clean_ladder_list n extra care want target (rising (has care) 64) word within lt free (distinct_rising (has care) 64)
-    (λ z i. (in_rising (has care) 64 z i).1) (omega arith) (omega arith) len zeros
-    ∙ sym (act_put care want target (n + extra) word len few (λ z on. let l : z < n = within z on in omega arith))
-
--- ---- the parts of the lists, as they are taken
-
 pub length-controls_of : (care want : ℕ) → length (controls_of care want) ≡ count_lines care
 length-controls_of care want = length-map (rising (has care) 64) (control want) ∙ length-rising (has care) 64
 
 part_two : (a b : Control) (more : List Control) → take (length (a ∷ (b ∷ more)) - 2) more ≡ more
 part_two a b more = let e : suc (suc (length more)) - 2 ≡ length more = omega arith in ap (λ k. take k more) e ∙ take-length more
+
+pub free_parts : (care target x : ℕ) → is_free care target x ≡ true → (has care x ≡ false) × (x ≢ target)
+free_parts care target x h = grind arith
+
+-- the controls after the first two and the helpers may come in any order; here they are turned round
+turned : (n : ℕ) (a b : Control) (more : List Control) (free : List ℕ) (target : ℕ) → AreDivided n a b more free target → AreDivided n a b (reverse more) (reverse free) target
+turned n a b more free target (on, r) = (
+  on,
+  record {
+    first = r.first;
+    second = r.second;
+    apart = r.apart;
+    more = every_reverse (IsOn n on) more r.more;
+    spots = (r.spots.0, every_reverse (IsOff n on) free r.spots.1);
+    distinct = (λ z i. r.distinct.0 z (in_reverse z free i), distinct_reverse free r.distinct.1);
+  },
+)
+
+-- lines of which `on` is true, and a target and helpers of which it is not
+divided_list : (n : ℕ) (on : ℕ → Bool) (want target : ℕ) (xs free : List ℕ) → Distinct xs → ((z : ℕ) → In z xs → (z < n) × (on z ≡ true)) → IsOff n on target
+    → ((z : ℕ) → In z free → IsOff n on z × (z ≢ target)) → Distinct free → 2 ≤ length xs → (cs : List Control) → cs ≡ map (control want) xs
+    → AreDivided n (get_or cs 0 no_control) (get_or cs 1 no_control) (take (length cs - 2) (drop 2 cs)) free target
+divided_list n on want target [] free dx ons off frees df some cs is = absurd (omega arith)
+divided_list n on want target (x ∷ []) free dx ons off frees df some cs is = absurd (omega arith)
+divided_list n on want target (x ∷ (y ∷ rest)) free dx ons off frees df some cs is =
+    rw (is, part_two (control want x) (control want y) (map (control want) rest)) (
+      on,
+      record {
+        first = ons x (inl refl);
+        second = ons y (inr (inl refl));
+        apart = λ e. dx.0 y (inl refl) (sym e);
+        more = every_controls n on want rest (λ z i. ons z (inr (inr i)));
+        spots = (off, every_from (IsOff n on) free (λ z i. (frees z i).0));
+        distinct = (λ z i. (frees z i).1, df);
+      },
+    )
+
+-- as many of the free lines as there are controls but two
+pub borrowed_divided : (n care want target : ℕ) (cs : List Control) (free : List ℕ) → IsLong n care target → 2 ≤ count_lines care → cs ≡ controls_of care want
+    → free ≡ take (length cs - 2) (rising (is_free care target) n) → BorrowedDivided n cs free target
+borrowed_divided n care want target cs free long some e f =
+    let all : List ℕ = rising (is_free care target) n in
+    let k : ℕ = length cs - 2 in
+    let frees : (z : ℕ) → In z (take k all) → IsOff n (has care) z × (z ≢ target) = λ z i.
+    let r = in_rising (is_free care target) n z (in_take k z all i) in let p = free_parts care target z r.1 in ((r.0, p.0), p.1) in
+    rw (f, take_same k all)
+    (turned n _ _ _ (take k all) target
+    (divided_list n (has care) want target (rising (has care) 64) (take k all) (distinct_rising (has care) 64)
+    (λ z i. let on = (in_rising (has care) 64 z i).1 in (long.within z on, on)) (long.aimed, long.free) frees (distinct_take k all (distinct_rising (is_free care target) n))
+    (omega (arith, length-rising (has care) 64)) cs e))
+
+over_taken : (cs : List Control) (free : List ℕ) (t : ℕ) → borrowed_ladder_over cs (take (length cs - 2) free) t ≡ borrowed_ladder_over cs free t
+over_taken cs free t = grind (arith, down_up_twice, take_same)
+
+run_over : (n : ℕ) (cs : List Control) (free : List ℕ) (target : ℕ) (word : List Bool) → BorrowedDivided n cs free target → 2 ≤ length cs → length cs ≤ length free + 2
+    → length word ≡ n → run (borrowed_ladder_over cs free target) word ≡ put word target (met_all cs word)
+run_over n [] free target word divided some enough len = absurd (omega arith)
+run_over n (a ∷ []) free target word divided some enough len = absurd (omega arith)
+run_over n (a ∷ (b ∷ more)) free target word divided some enough len =
+    let k : suc (suc (length more)) - 2 ≡ length more = omega arith in
+    let hs : List ℕ = take (length more) free in
+    let lh : length hs ≡ length more = length-take-le (length more) free (omega arith) in
+    let d : AreDivided n a b (reverse more) (reverse hs) target = rw (part_two a b more, k) at divided in
+    run_down_up_twice n d.0 a b (reverse more) (reverse hs) target word d.1 len (length-reverse more ∙ sym lh ∙ sym (length-reverse hs))
+    ∙ ap (put word target) (met_down_reverse a b more word)
+
+pub run_borrowed_ladder : (n care want target : ℕ) (word : List Bool) → IsLong n care target → 2 ≤ count_lines care → count_lines care ≤ count (is_free care target) n + 2 → length word ≡ n
+    → run (borrowed_ladder n care want target) word ≡ act (Flip care want target) word
+unfolding borrowed_ladder
+run_borrowed_ladder n care want target word long some enough len =
+    let cs : List Control = controls_of care want in
+    let all : List ℕ = rising (is_free care target) n in
+    let l1 : length cs ≡ count_lines care = length-controls_of care want in
+    let l2 = length-rising (is_free care target) n in
+    let l3 = length-take-le (length cs - 2) all (omega arith) in
+    ap (λ gates. run gates word) (sym (over_taken cs all target))
+    ∙ run_over n cs (take (length cs - 2) all) target word (borrowed_divided n care want target cs _ long some refl refl) (omega arith) (omega arith) len
+    ∙ sym (act_put care want target n word len long.few long.within)
+
+-- ---- through added lines that hold 0
+
+pub in_range : (first k x : ℕ) → In x (range_with_len first k) → (first ≤ x) × (x < first + k)
+in_range first zero x i = absurd i
+in_range first (suc k) x i = let hyp = in_range (first + 1) k x in grind (arith, hyp)
+
+pub distinct_range : (first k : ℕ) → Distinct (range_with_len first k)
+distinct_range first zero = tt
+distinct_range first (suc k) = (λ y i e. let r = in_range (first + 1) k y i in let lo : first + 1 ≤ y = r.0 in omega arith, distinct_range (first + 1) k)
+
+pub not_within : (care n z : ℕ) → Within care n → n ≤ z → has care z ≡ false
+not_within care n z within lo = elim (cases_Bool (has care z)) [ inl on ↦ (let l : z < n = within z on in absurd (omega arith)) | inr off ↦ off ]
+
+pub clean_divided : (n extra care want target : ℕ) (cs : List Control) → Within care n → target < n → has care target ≡ false → 2 ≤ count_lines care → count_lines care ≤ extra + 2
+    → cs ≡ controls_of care want → CleanDivided (n + extra) cs n target
+clean_divided n extra care want target cs within lt free some enough e =
+    let l1 : length cs ≡ count_lines care = ap length e ∙ length-controls_of care want in
+    let m : ℕ = length (take (length cs - 2) (drop 2 cs)) in
+    let l2 : m ≡ length cs - 2 = length-take-le (length cs - 2) (drop 2 cs) (omega (arith, length-drop 2 cs)) in
+    let frees : (z : ℕ) → In z (range_with_len n m) → IsOff (n + extra) (has care) z × (z ≢ target) = λ z i.
+    let r = in_range n m z i in let lo : n ≤ z = r.0 in ((omega (arith, r.1), not_within care n z within lo), λ e. omega arith) in
+    divided_list (n + extra) (has care) want target (rising (has care) 64) (range_with_len n m) (distinct_rising (has care) 64)
+    (λ z i. let on = (in_rising (has care) 64 z i).1 in let l : z < n = within z on in (omega arith, on)) (omega arith, free) frees (distinct_range n m)
+    (omega (arith, length-rising (has care) 64)) cs e
+
+run_clean : (n : ℕ) (cs : List Control) (first target : ℕ) (word : List Bool) → CleanDivided n cs first target → 2 ≤ length cs → ((z : ℕ) → first ≤ z → bit_of word z ≡ false)
+    → length word ≡ n → run (clean_ladder cs first target) word ≡ put word target (met_all cs word)
+run_clean n [] first target word divided some zeros len = absurd (omega arith)
+run_clean n (a ∷ []) first target word divided some zeros len = absurd (omega arith)
+run_clean n (a ∷ (b ∷ more)) first target word divided some zeros len =
+    let hs : List ℕ = range_with_len first (length more) in
+    let d : AreDivided n a b more hs target = rw (part_two a b more) at divided in
+    run_ladder n d.0 a b more hs target word d.1 len (sym (length-range_with_len first (length more)))
+    (every_from (λ h. bit_of word h ≡ false) hs (λ z i. zeros z (in_range first (length more) z i).0))
+
+pub run_clean_ladder : (n extra care want target : ℕ) (word : List Bool) → n + extra ≤ 64 → Within care n → target < n → has care target ≡ false → 2 ≤ count_lines care
+    → count_lines care ≤ extra + 2 → length word ≡ n + extra → ((z : ℕ) → n ≤ z → bit_of word z ≡ false)
+    → run (clean_ladder (controls_of care want) n target) word ≡ act (Flip care want target) word
+run_clean_ladder n extra care want target word few within lt free some enough len zeros =
+    run_clean (n + extra) (controls_of care want) n target word (clean_divided n extra care want target _ within lt free some enough refl)
+    (omega (arith, length-controls_of care want)) zeros len
+    ∙ sym (act_put care want target (n + extra) word len few (λ z on. let l : z < n = within z on in omega arith))
+
+-- ---- the parts of the lists, as they are taken
 
 pub over_parts : (cs : List Control) (free : List ℕ) (t : ℕ) (d : Control) → 2 ≤ length cs
     → down_up_twice (get_or cs 0 d) (get_or cs 1 d) (reverse (take (length cs - 2) (drop 2 cs))) (reverse (take (length cs - 2) free)) t ≡ borrowed_ladder_over cs free t
@@ -298,62 +303,6 @@ over_parts cs free t d h = grind (arith, common_steps, down_up_twice, part_two)
 pub clean_ladder_parts : (cs : List Control) (first t : ℕ) (d : Control) → 2 ≤ length cs
     → ladder (get_or cs 0 d) (get_or cs 1 d) (take (length cs - 2) (drop 2 cs)) (range_with_len first (length (take (length cs - 2) (drop 2 cs)))) t ≡ clean_ladder cs first t
 clean_ladder_parts cs first t d h = grind (arith, common_steps, range_with_len, part_two)
-
-over_divided_list : (n care want target : ℕ) (xs free : List ℕ) → IsLong n care target → Distinct xs → ((z : ℕ) → In z xs → has care z ≡ true)
-    → ((z : ℕ) → In z free → (z < n) × (is_free care target z ≡ true)) → Distinct free → 2 ≤ length xs → BorrowedDivided n (map (control want) xs) free target
-over_divided_list n care want target [] free long dx ons frees df some = absurd (omega arith)
-over_divided_list n care want target (x ∷ []) free long dx ons frees df some = absurd (omega arith)
-over_divided_list n care want target (x ∷ (y ∷ rest)) free long dx ons frees df some =
-    let more : List Control = map (control want) rest in
-    let k : ℕ = suc (suc (length more)) - 2 in
-    let hs : List ℕ = take k free in
-    let off : (z : ℕ) → In z hs → IsOff n (has care) z × (z ≢ target) = λ z i.
-    let r = frees z (in_take k z free i) in let q = free_parts care target z r.1 in ((r.0, q.0), q.1) in
-    let divides : Divides n (has care) (control want x) (control want y) more (target ∷ hs) =
-    borrowed_divides n (has care) want target x y rest hs dx (λ z i. (long.within z (ons z i), ons z i)) (long.aimed, long.free) off (distinct_take k free df) in
-    rw (part_two (control want x) (control want y) more) (has care, turned n (has care) (control want x) (control want y) more target hs divides)
-
--- as many of the free lines as there are controls but two
-pub borrowed_divided : (n care want target : ℕ) (cs : List Control) (free : List ℕ) → IsLong n care target → 2 ≤ count_lines care → cs ≡ controls_of care want
-    → free ≡ take (length cs - 2) (rising (is_free care target) n) → BorrowedDivided n cs free target
-borrowed_divided n care want target cs free long some e f =
-    let all : List ℕ = rising (is_free care target) n in
-    let k : ℕ = length (controls_of care want) - 2 in
-    let g : free ≡ take k all = f ∙ ap (λ (l : List Control). take (length l - 2) all) e in
-    rw (e, g)
-    (over_divided_list n care want target (rising (has care) 64) (take k all) long (distinct_rising (has care) 64)
-    (λ z i. (in_rising (has care) 64 z i).1) (λ z i. in_rising (is_free care target) n z (in_take k z all i)) (distinct_take k all (distinct_rising (is_free care target) n))
-    (omega (arith, length-rising (has care) 64)))
-
-clean_divided_list : (n extra care want target : ℕ) (xs : List ℕ) → Within care n → target < n → has care target ≡ false → Distinct xs
-    → ((z : ℕ) → In z xs → has care z ≡ true) → 2 ≤ length xs → length xs ≤ extra + 2 → CleanDivided (n + extra) (map (control want) xs) n target
-clean_divided_list n extra care want target [] within lt free dx ons some enough = absurd (omega arith)
-clean_divided_list n extra care want target (x ∷ []) within lt free dx ons some enough = absurd (omega arith)
-clean_divided_list n extra care want target (x ∷ (y ∷ rest)) within lt free dx ons some enough =
-    let more : List Control = map (control want) rest in
-    let m : length more ≡ length rest = length-map rest (control want) in
-    let hs : List ℕ = range_with_len n (length more) in
-    let off : (z : ℕ) → In z hs → IsOff (n + extra) (has care) z × (z ≢ target) = λ z i.
-    let r = in_range n (length more) z i in
-    let lo : n ≤ z = r.0 in
-    let hi : z < n + length more = r.1 in
-    ((omega arith, not_within z lo), λ e. omega arith) in
-    let divides : Divides (n + extra) (has care) (control want x) (control want y) more (target ∷ hs) =
-    borrowed_divides (n + extra) (has care) want target x y rest hs dx (λ z i. let l : z < n = within z (ons z i) in (omega arith, ons z i)) (omega arith, free) off (distinct_range n (length more)) in
-    rw (part_two (control want x) (control want y) more) (has care, divides)
-  where
-    not_within : (z : ℕ) → n ≤ z → has care z ≡ false
-    not_within z lo = elim (cases_Bool (has care z)) [ inl on ↦ (let l : z < n = within z on in absurd (omega arith)) | inr off ↦ off ]
-
-pub clean_divided : (n extra care want target : ℕ) (cs : List Control) → Within care n → target < n → has care target ≡ false → 2 ≤ count_lines care → count_lines care ≤ extra + 2
-    → cs ≡ controls_of care want → CleanDivided (n + extra) cs n target
-clean_divided n extra care want target cs within lt free some enough e =
-    let l = length-rising (has care) 64 in
-    rw e
-    (clean_divided_list n extra care want target (rising (has care) 64) within lt free (distinct_rising (has care) 64) (λ z i. (in_rising (has care) 64 z i).1) (omega arith) (omega arith))
-
-over_taken : (cs : List Control) (free : List ℕ) (t : ℕ) → borrowed_ladder_over cs (take (length cs - 2) free) t ≡ borrowed_ladder_over cs free t
-over_taken cs free t = grind (arith, down_up_twice, take_same)
 
 pub borrowed_ladder_from : (n care want target : ℕ) (cs : List Control) (free : List ℕ) → cs ≡ controls_of care want
     → free ≡ take (length cs - 2) (rising (is_free care target) n) → borrowed_ladder_over cs free target ≡ borrowed_ladder n care want target

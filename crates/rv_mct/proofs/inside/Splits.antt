@@ -1,11 +1,11 @@
 -- How many lines there are of a kind, and a long flip by halves.
 use Rattle.std.proofs.lemmas.Grind.{common_steps}
-use Rattle.std.proofs.Common.{◌≡◌, ◌≢◌, ℕ, zero, suc, ◌+◌, ◌-◌, ◌*◌, ◌/◌, ◌%◌, ◌^◌, ◌<◌, ◌≤◌, Bool, true, false, not, cond, ◌&&◌, ◌||◌, eqb, List, [], ◌∷◌, ◌++◌, length, get_or, set, refl, sym, ◌∙◌, ap, inl, inr, arith, eq-eqb, ne_eqb, get_or-set_same, get_or-set_other, length-set}
+use Rattle.std.proofs.Common.{◌≡◌, ◌≢◌, ℕ, zero, suc, ◌+◌, ◌-◌, ◌*◌, ◌/◌, ◌%◌, ◌^◌, ◌<◌, ◌≤◌, Bool, true, false, not, cond, ◌&&◌, ◌||◌, eqb, List, [], ◌∷◌, ◌++◌, length, get_or, refl, sym, ◌∙◌, ap, ap₂, inl, inr, arith, eq-eqb, ne_eqb, get_or-set_same, get_or-set_other, length-set}
 use Rattle.std.specs.Prelude.{bit_or}
 use Rattle.std.specs.Int.{bit_at}
 use Rattle.std.proofs.lemmas.Bool.{cases_eq, cases_lt, cases_Bool, eqb-true, false≢true, or_cases, and_parts, and_from}
 use Rattle.std.proofs.lemmas.Bool.Decides.{same_from_decides}
-use Rattle.std.proofs.lemmas.List.{set-set, set_comm, set-get_or, get_or-append-add}
+use Rattle.std.proofs.lemmas.List.{get_or-append-add}
 use Rattle.std.proofs.Math.ListN.{get_or-append}
 use Rattle.std.proofs.Math.Nat.{mod-add-div'}
 use Rattle.std.proofs.lemmas.Nat.{pow_pos}
@@ -18,11 +18,11 @@ use Rattle.rv_gate.proofs.inside.GateLemmas.{Hold, holds_Decides, holds-set, fli
 use Rattle.rv_gate.proofs.LineSets.{has-with_line, with_other, with_same}
 use Rattle.rv_mct.specs.declared.control.Control.{Control}
 use Rattle.rv_mct.specs.Blocks.{controls_of, rising, count, is_free, count_lines, below, from, middle, borrowed_ladder, halves, split}
+use Rattle.rv_mct.specs.inside.LadderLines.{In}
 use Rattle.rv_mct.specs.inside.Long.{IsLong, IsCut}
-use Rattle.rv_mct.proofs.Rising.{rising-suc, count_zero, count-suc}
-use Rattle.rv_mct.proofs.inside.Ladders.{put}
-use Rattle.rv_mct.proofs.inside.LongFlips.{length-controls_of, line_at, free_parts, length-rising, run_borrowed_ladder}
-use Rattle.rv_gate.proofs.Bits.{xor_back}
+use Rattle.rv_mct.proofs.Rising.{rising-suc, rising_upto, count_zero, count-suc}
+use Rattle.rv_mct.proofs.inside.Ladders.{put, put_comm, put_put, put_twice}
+use Rattle.rv_mct.proofs.inside.LongFlips.{length-controls_of, line_at, free_parts, length-rising, not_within, rising_in, run_borrowed_ladder}
 
 -- ---- counts
 
@@ -30,46 +30,26 @@ pub count_sum : (p q r : ℕ → Bool) (n : ℕ) → ((x : ℕ) → x < n → co
 count_sum p q r zero h = omega (arith, count_zero)
 count_sum p q r (suc n) h = omega (arith, count-suc p n, count-suc q n, count-suc r n, count_sum p q r n (λ x lt. h x (omega arith)), h n (omega arith))
 
-pub count_same : (p q : ℕ → Bool) (n : ℕ) → ((x : ℕ) → x < n → p x ≡ q x) → count p n ≡ count q n
-count_same p q zero h = count_zero p ∙ sym (count_zero q)
-count_same p q (suc n) h = rw (count-suc p n, count-suc q n, count_same p q n (λ x lt. h x (omega arith)), h n (omega arith)) refl
-
 -- none from a line on
-pub count_upto : (p q : ℕ → Bool) (n line : ℕ) → line ≤ n → ((x : ℕ) → x < line → q x ≡ p x) → ((x : ℕ) → line ≤ x → q x ≡ false) → count q n ≡ count p line
-count_upto p q zero line few low high = let e : zero ≡ line = omega arith in count_zero q ∙ sym (count_zero p) ∙ ap (count p) e
-count_upto p q (suc n) line few low high =
-    elim (cases_lt n line) [
-      | inl lt ↦ let e : suc n ≡ line = omega arith in count_same q p (suc n) (λ x l. low x (omega arith)) ∙ ap (count p) e
-      | inr ge ↦
-          let z : cond {A = ℕ} (q n) 1 0 ≡ 0 = ap (λ t. cond t 1 0) (high n ge) in
-          let r : count q n ≡ count p line = count_upto p q n line ge low high in
-          omega (arith, count-suc q n)
-    ]
+pub count_upto : (p q : ℕ → Bool) (n line : ℕ) → line ≤ n → ((x : ℕ) → x < line → q x ≡ p x) → ((x : ℕ) → line ≤ x → x < n → q x ≡ false) → count q n ≡ count p line
+count_upto p q n line few low high = sym (length-rising q n) ∙ ap length (rising_upto p q n line few low high) ∙ length-rising p line
+
+pub count_same : (p q : ℕ → Bool) (n : ℕ) → ((x : ℕ) → x < n → p x ≡ q x) → count p n ≡ count q n
+count_same p q n h = count_upto q p n n (omega arith) h (λ x g l. absurd (omega arith))
 
 pub count_none : (p : ℕ → Bool) (n : ℕ) → ((x : ℕ) → x < n → p x ≡ false) → count p n ≡ 0
-count_none p zero h = count_zero p
-count_none p (suc n) h =
-    let z : cond {A = ℕ} (p n) 1 0 ≡ 0 = ap (λ t. cond t 1 0) (h n (omega arith)) in
-    omega (arith, count-suc p n, count_none p n (λ x lt. h x (omega arith)))
+count_none p n h = count_upto p p n 0 (omega arith) (λ x l. refl) (λ x g l. h x l) ∙ count_zero p
 
 pub count_all : (n : ℕ) → count (λ x. true) n ≡ n
 count_all zero = count_zero (λ x. true)
 count_all (suc n) = omega (arith, count-suc (λ x. true) n, count_all n)
 
 pub count_one : (b n : ℕ) → b < n → count (λ x. eqb x b) n ≡ 1
-count_one b zero h = absurd (omega arith)
-count_one b (suc n) h =
-    let more = count-suc (λ x. eqb x b) n in
-    elim (cases_eq n b) [
-      | inl at ↦
-          let one : cond {A = ℕ} (eqb n b) 1 0 ≡ 1 = ap (λ t. cond t 1 0) (eq-eqb n b at) in
-          let none : count (λ x. eqb x b) n ≡ 0 = count_none (λ x. eqb x b) n (λ x lt. ne_eqb x b (λ e. omega arith)) in
-          omega arith
-      | inr other ↦
-          let z : cond {A = ℕ} (eqb n b) 1 0 ≡ 0 = ap (λ t. cond t 1 0) (ne_eqb n b other) in
-          let r : count (λ x. eqb x b) n ≡ 1 = count_one b n (omega arith) in
-          omega arith
-    ]
+count_one b n h =
+    let p : ℕ → Bool = λ x. eqb x b in
+    let one : cond {A = ℕ} (eqb b b) 1 0 ≡ 1 = ap (λ t. cond t 1 0) (eq-eqb b b refl) in
+    let below : count p b ≡ 0 = count_none p b (λ x lt. ne_eqb x b (λ e. omega arith)) in
+    omega (arith, count_upto p p n (suc b) (omega arith) (λ x lt. refl) (λ x ge lt. ne_eqb x b (λ e. omega arith)), count-suc p b)
 
 -- the line at a place of the list has as many before it
 pub count_rising : (p : ℕ → Bool) (n k : ℕ) → k < count p n → (count p (get_or (rising p n) k 0) ≡ k) × (get_or (rising p n) k 0 < n)
@@ -122,12 +102,10 @@ not_from x k i h =
     ap (λ y. has y i) (whole x k) ∙ ap (λ b. eqb b 1) (ap (λ y. bit_at y i) (sym z) ∙ bit_at_cat_low (x / 2 ^ k) k 0 i h ∙ bit_at-zero i)
 
 pub below_part : (x k i : ℕ) → has (below x k) i ≡ true → has x i ≡ true
-below_part x k i on =
-    elim (cases_lt i k) [ inl lt ↦ sym (has_below x k i lt) ∙ on | inr ge ↦ absurd (false≢true (sym (not_below x k i ge) ∙ on)) ]
+below_part x k i on = grind (arith, cases_lt, has_below, not_below)
 
 pub from_part : (x k i : ℕ) → has (from x k) i ≡ true → has x i ≡ true
-from_part x k i on =
-    elim (cases_lt i k) [ inl lt ↦ absurd (false≢true (sym (not_from x k i lt) ∙ on)) | inr ge ↦ sym (has_from x k i ge) ∙ on ]
+from_part x k i on = grind (arith, cases_lt, has_from, not_from)
 
 pub off_from : (x y i : ℕ) → has y i ≡ false → (has x i ≡ true → has y i ≡ true) → has x i ≡ false
 off_from x y i off part = elim (cases_Bool (has x i)) [ inl on ↦ absurd (false≢true (sym off ∙ part on)) | inr gone ↦ gone ]
@@ -139,15 +117,13 @@ or_last false b = eq-eqb b b refl
 -- ---- sizes
 
 pub count_lines-within : (care n : ℕ) → n ≤ 64 → Within care n → count (has care) n ≡ count_lines care
-count_lines-within care n few within =
-    sym (count_upto (has care) (has care) 64 n few (λ x lt. refl) (λ x ge. elim (cases_Bool (has care x)) [ inl on ↦ (let l : x < n = within x on in absurd (omega arith)) | inr off ↦ off ]))
+count_lines-within care n few within = sym (count_upto (has care) (has care) 64 n few (λ x lt. refl) (λ x ge lt. not_within care n x within ge))
 
 sum_or : (p q : Bool) → (p ≡ true → q ≡ false) → cond {A = ℕ} p 1 0 + cond q 1 0 ≡ cond (p || q) 1 0
 sum_or p q h = grind arith
 
 sum_not : (p : Bool) → cond {A = ℕ} (not p) 1 0 + cond p 1 0 ≡ 1
-sum_not true = refl
-sum_not false = refl
+sum_not p = grind arith
 
 pub free_count : (n care target : ℕ) → IsLong n care target → count (is_free care target) n + count_lines care + 1 ≡ n
 free_count n care target long =
@@ -158,7 +134,7 @@ free_count n care target long =
     omega (arith, count_one target n long.aimed, count_all n, count_lines-within care n long.few long.within)
 
 pub count_lines-below : (care line : ℕ) → line ≤ 64 → count_lines (below care line) ≡ count (has care) line
-count_lines-below care line few = count_upto (has care) (has (below care line)) 64 line few (λ x lt. has_below care line x lt) (λ x ge. not_below care line x ge)
+count_lines-below care line few = count_upto (has care) (has (below care line)) 64 line few (λ x lt. has_below care line x lt) (λ x ge lt. not_below care line x ge)
 
 sum_cut : (care line x : ℕ) → cond {A = ℕ} (has (below care line) x) 1 0 + cond (has (from care line) x) 1 0 ≡ cond (has care x) 1 0
 sum_cut care line x = grind (arith, cases_lt, has_below, not_from, not_below, has_from)
@@ -203,8 +179,11 @@ pub holds_with : (care want b : ℕ) (word : List Bool) → b < length word → 
     → holds (bit_or care (2 ^ b)) (bit_or want (2 ^ b)) word ≡ (holds care want word && bit_of word b)
 holds_with care want b word lt free = grind (arith, holds_Decides, bit_or, same_from_decides, and_parts, cases_eq, bit_of, with_same, with_other, and_from)
 
-twice_round : (x y p q : Bool) → xor (y && p) (xor (y && xor x p) q) ≡ xor (x && y) q
-twice_round x y p q = grind arith
+flip_by : (care want t : ℕ) (word : List Bool) (h : Bool) → holds care want word ≡ h → act (Flip care want t) word ≡ put word t h
+flip_by care want t word h is = flip_if _ word t ∙ ap (put word t) is
+
+twice_round : (x y p : Bool) → xor (y && p) (y && xor x p) ≡ (x && y)
+twice_round x y p = grind arith
 
 -- four flips with one helper are the flip under both parts
 pub four : (c1 w1 c2 w2 b t : ℕ) (word : List Bool) → b < length word → t < length word → b ≢ t
@@ -217,43 +196,30 @@ four c1 w1 c2 w2 b t word lb lt bt o1b o1t o2b o2t =
     let x : Bool = holds c1 w1 word in
     let y : Bool = holds c2 w2 word in
     let p : Bool = bit_of word b in
-    let q : Bool = bit_of word t in
-    let v1 : List Bool = set word b (xor x p) in
-    let tb : t ≢ b = λ e. bt (sym e) in
-    let l1 : length v1 ≡ length word = length-set word b _ in
-    let a1 : act A word ≡ v1 = flip_if x word b in
-    let y0 : Bool = xor (y && xor x p) q in
-    let v2 : List Bool = set v1 t y0 in
-    let at1 : bit_of v1 b ≡ xor x p = get_or-set_same word b (xor x p) false lb in
-    let b1 : act B v1 ≡ v2 =
-    flip_if _ v1 t
-    ∙ ap (λ z. set v1 t (xor z (bit_of v1 t))) (holds_with c2 w2 b v1 (omega arith) o2b ∙ ap (λ z. z && bit_of v1 b) (holds-set c2 w2 b word (xor x p) o2b) ∙ ap (λ z. y && z) at1)
-    ∙ ap (λ z. set v1 t (xor (y && xor x p) z)) (get_or-set_other word b t (xor x p) false tb) in
-    let v3 : List Bool = set word t y0 in
-    let l3 : length v3 ≡ length word = length-set word t _ in
-    let a2 : act A v2 ≡ v3 =
-    flip_if _ v2 b
-    ∙ ap (λ z. set v2 b (xor z (bit_of v2 b))) (holds-set c1 w1 t v1 y0 o1t ∙ holds-set c1 w1 b word (xor x p) o1b)
-    ∙ ap (λ z. set v2 b (xor x z)) (get_or-set_other v1 t b y0 false bt ∙ at1)
-    ∙ ap (set v2 b) (xor_back x p)
-    ∙ set_comm v1 t b y0 p tb
-    ∙ ap (λ w. set w t y0) (set-set word b (xor x p) p ∙ set-get_or word b false) in
-    let b2 : act B v3 ≡ put word t (x && y) =
-    flip_if _ v3 t
-    ∙ ap (λ z. set v3 t (xor z (bit_of v3 t))) (holds_with c2 w2 b v3 (omega arith) o2b ∙ ap (λ z. z && bit_of v3 b) (holds-set c2 w2 t word y0 o2t) ∙ ap (λ z. y && z) (get_or-set_other word t b y0 false bt))
-    ∙ ap (λ z. set v3 t (xor (y && p) z)) (get_or-set_same word t y0 false lt)
-    ∙ set-set word t y0 _
-    ∙ ap (set word t) (twice_round x y p q) in
-    ap (λ w. act B (act A (act B w))) a1 ∙ ap (λ w. act B (act A w)) b1 ∙ ap (act B) a2 ∙ b2
+    let k : Bool = y && xor x p in
+    let v : List Bool = put word b x in
+    let lv : length v ≡ length word = length-set word b _ in
+    let lk : length (put word t k) ≡ length word = length-set word t _ in
+    let b1 : act B v ≡ put v t k =
+    flip_by _ _ t v k (holds_with c2 w2 b v (omega arith) o2b ∙ ap₂ (λ (m n : Bool). m && n) (holds-set c2 w2 b word _ o2b) (get_or-set_same word b _ false lb)) in
+    let a2 : act A (put v t k) ≡ put word t k =
+    flip_by c1 w1 b (put v t k) x (holds-set c1 w1 t v _ o1t ∙ holds-set c1 w1 b word _ o1b) ∙ put_comm v t b k x (λ e. bt (sym e)) ∙ ap (λ w. put w t k) (put_twice word b x lb) in
+    let b2 : act B (put word t k) ≡ put (put word t k) t (y && p) =
+    flip_by _ _ t (put word t k) (y && p)
+    (holds_with c2 w2 b (put word t k) (omega arith) o2b ∙ ap₂ (λ (m n : Bool). m && n) (holds-set c2 w2 t word _ o2t) (get_or-set_other word t b _ false bt)) in
+    ap (λ w. act B (act A (act B w))) (flip_by c1 w1 b word x refl)
+    ∙ ap (λ w. act B (act A w)) b1
+    ∙ ap (act B) a2
+    ∙ b2
+    ∙ put_put word t k (y && p) lt
+    ∙ ap (put word t) (twice_round x y p)
+
+in_some : (x : ℕ) (xs : List ℕ) → In x xs → 1 ≤ length xs
+in_some x [] i = absurd i
+in_some x (y ∷ xs) i = omega arith
 
 pub count_some : (p : ℕ → Bool) (n x : ℕ) → x < n → p x ≡ true → 1 ≤ count p n
-count_some p zero x h on = absurd (omega arith)
-count_some p (suc n) x h on =
-    let more = count-suc p n in
-    elim (cases_eq x n) [
-      | inl at ↦ let one : cond {A = ℕ} (p n) 1 0 ≡ 1 = ap (λ t. cond t 1 0) (sym (ap p at) ∙ on) in omega arith
-      | inr ne ↦ let r : 1 ≤ count p n = count_some p n x (omega arith) on in omega arith
-    ]
+count_some p n x h on = omega (arith, length-rising p n, in_some x (rising p n) (rising_in p n x h on))
 
 pub cut_of : (n care target helper : ℕ) → IsLong n care target → 3 ≤ count_lines care → helper < n → is_free care target helper ≡ true
     → IsCut n care target (middle care) helper

@@ -1,6 +1,6 @@
 -- A term joined into a table, block by block.
 use Rattle.std.proofs.lemmas.Grind.{common_steps}
-use Rattle.std.proofs.Common.{◌≡◌, ℕ, zero, suc, ◌+◌, ◌-◌, ◌*◌, ◌/◌, ◌%◌, ◌^◌, ◌<◌, ◌≤◌, Bool, true, false, ◌&&◌, cond, nat_eq, List, length, get_or, take, drop, refl, sym, ap, ◌∙◌, inl, inr, arith, ne_eqb}
+use Rattle.std.proofs.Common.{◌≡◌, ℕ, zero, suc, ◌+◌, ◌-◌, ◌*◌, ◌/◌, ◌%◌, ◌^◌, ◌<◌, ◌≤◌, Bool, true, false, ◌&&◌, cond, nat_eq, List, length, get_or, take, drop, sym, ap, ap₂, ◌∙◌, inl, inr, arith, ne_eqb}
 use Rattle.std.specs.Prelude.{bit_and, bit_xor}
 use borrow.Rule.Slice.PartMut.{put_mid, post_of}
 use Rattle.std.specs.Int.Bits.{xor_zero_r, or_zero_r}
@@ -22,23 +22,21 @@ none_of_both : (a b p : ℕ) → 0 < p → nat_eq (a * p + b) 0 ≡ (nat_eq a 0 
 none_of_both zero b p h = ap (λ n. nat_eq n 0) (let e : zero * p + b ≡ b = omega arith in e)
 none_of_both (suc a) b p h = ne_eqb (suc a * p + b) 0 (λ e. omega arith) ∙ sym (ap (λ t. t && nat_eq b 0) (ne_eqb (suc a) 0 (λ e. omega arith)))
 
+-- two numbers in two parts each
+parts_of : (k x y : ℕ) (f : ℕ → ℕ → ℕ) → f (x / 2 ^ k * 2 ^ k + x % 2 ^ k) (y / 2 ^ k * 2 ^ k + y % 2 ^ k) ≡ f x y
+parts_of k x y f = ap₂ f (div-add-mod' x (2 ^ k)) (div-add-mod' y (2 ^ k))
+
 -- the bits that differ
 wrong-parts : (k x care want : ℕ)
     → bit_and (bit_xor x want) care
     ≡ bit_and (bit_xor (x / 2 ^ k) (want / 2 ^ k)) (care / 2 ^ k) * 2 ^ k + bit_and (bit_xor (x % 2 ^ k) (want % 2 ^ k)) (care % 2 ^ k)
 wrong-parts k x care want =
-    let p : ℕ = 2 ^ k in
-    let pp = pow_pos k in
-    let xr = mod-lt x pp in
-    let cr = mod-lt care pp in
-    let wr = mod-lt want pp in
-    let xs : x ≡ x / p * p + x % p = sym (div-add-mod' x p) in
-    let cs : care ≡ care / p * p + care % p = sym (div-add-mod' care p) in
-    let ws : want ≡ want / p * p + want % p = sym (div-add-mod' want p) in
-    let x' : bit_xor x want ≡ bit_xor (x / p) (want / p) * p + bit_xor (x % p) (want % p) =
-    ap (λ v. bit_xor v want) xs ∙ ap (bit_xor (x / p * p + x % p)) ws ∙ xor_block k (x / p) (want / p) (x % p) (want % p) xr wr in
-    ap (λ v. bit_and v care) x' ∙ ap (bit_and (bit_xor (x / p) (want / p) * p + bit_xor (x % p) (want % p))) cs
-    ∙ and_block k (bit_xor (x / p) (want / p)) (care / p) (bit_xor (x % p) (want % p)) (care % p) (xor_lt k (x % p) (want % p) xr wr) cr
+    let xr = mod-lt x (pow_pos k) in
+    let cr = mod-lt care (pow_pos k) in
+    let wr = mod-lt want (pow_pos k) in
+    sym (ap₂ bit_and (parts_of k x want bit_xor) (div-add-mod' care (2 ^ k)))
+    ∙ ap (λ v. bit_and v (care / 2 ^ k * 2 ^ k + care % 2 ^ k)) (xor_block k (x / 2 ^ k) (want / 2 ^ k) (x % 2 ^ k) (want % 2 ^ k) xr wr)
+    ∙ and_block k _ (care / 2 ^ k) _ (care % 2 ^ k) (xor_lt k (x % 2 ^ k) (want % 2 ^ k) xr wr) cr
 
 pub agrees-parts : (k x care want : ℕ)
     → agrees_by x care want ≡ (agrees_by (x / 2 ^ k) (care / 2 ^ k) (want / 2 ^ k) && agrees_by (x % 2 ^ k) (care % 2 ^ k) (want % 2 ^ k))
@@ -138,8 +136,7 @@ pub joining_all : (odd : Bool) (old table block : List ℕ) (size care want firs
 joining_all odd old table block size care want first some whole all joining x lt = grind arith
 
 both_agree : (a b : Bool) (n : ℕ) → cond a (cond b n 0) 0 ≡ cond (a && b) n 0
-both_agree true b n = refl
-both_agree false b n = refl
+both_agree a b n = grind arith
 
 -- the blocks of 2 ^ k words
 pub joined_word : (odd : Bool) (k x care want outs : ℕ) (old new : ℕ) (block : List ℕ)

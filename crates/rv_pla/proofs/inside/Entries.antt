@@ -21,8 +21,7 @@ use Rattle.rv_gate.proofs.LineSets.{has-none}
 
 -- no term says anything of no output
 and_false : (a b : Bool) → b ≡ false → (a && b) ≡ false
-and_false true b h = h
-and_false false b h = refl
+and_false a b h = grind arith
 
 pub first_line-no_outputs : (word : List Bool) (j : ℕ) (terms : List Term) → first_line (λ term. no_outputs) word j terms ≡ None
 unfolding first_line
@@ -42,35 +41,21 @@ same_Fd : (a b c : Bool) → b ≡ false → cond a One (cond c Free Zero) ≡ c
 same_Fd a b c h = rw h refl
 
 same_free : (a b c : Bool) → cond a One (cond b Zero Free) ≡ cond a One (cond b Zero (cond c Free Free))
-same_free a b true = refl
-same_free a b false = refl
+same_free a b c = grind arith
 
 same_Esop : (a b : Bool) → cond a One (cond b Zero Zero) ≡ cond a One Zero
-same_Esop a true = refl
-same_Esop a false = refl
+same_Esop a b = grind arith
 
 pub told_entry : (kind : Kind) (inputs outputs : ℕ) (terms : List Term) (ones others : List ℕ) (x j : ℕ)
     → IsTabled (record { inputs = inputs; outputs = outputs; kind = kind; terms = terms }) ones others → x < 2 ^ inputs
     → entry_told kind (has (get_or ones x 0) j) (has (get_or others x 0) j) ≡ entry (record { inputs = inputs; outputs = outputs; kind = kind; terms = terms }) (word_of inputs x) j
 unfolding entry
 told_entry F inputs outputs terms ones others x j tabled h =
-    ap (λ a. entry_told F a (has (get_or others x 0) j)) (tabled.first.is x j h)
-    ∙ same_F _ _ _ _ (none_covers (word_of inputs x) j terms) (none_covers (word_of inputs x) j terms)
-told_entry Fd inputs outputs terms ones others x j tabled h =
-    ap (λ a. entry_told Fd a (has (get_or others x 0) j)) (tabled.first.is x j h)
-    ∙ ap (entry_told Fd _) (tabled.second.is x j h)
-    ∙ same_Fd _ _ _ (none_covers (word_of inputs x) j terms)
-told_entry Fr inputs outputs terms ones others x j tabled h =
-    ap (λ a. entry_told Fr a (has (get_or others x 0) j)) (tabled.first.is x j h)
-    ∙ ap (entry_told Fr _) (tabled.second.is x j h)
-    ∙ same_free _ _ _
-told_entry Fdr inputs outputs terms ones others x j tabled h =
-    ap (λ a. entry_told Fdr a (has (get_or others x 0) j)) (tabled.first.is x j h)
-    ∙ ap (entry_told Fdr _) (tabled.second.is x j h)
-    ∙ same_free _ _ _
-told_entry Esop inputs outputs terms ones others x j tabled h =
-    ap (λ a. entry_told Esop a (has (get_or others x 0) j)) (tabled.first.is x j h)
-    ∙ same_Esop _ _
+    rw (tabled.first.is x j h) (same_F _ _ _ _ (none_covers (word_of inputs x) j terms) (none_covers (word_of inputs x) j terms))
+told_entry Fd inputs outputs terms ones others x j tabled h = rw (tabled.first.is x j h, tabled.second.is x j h) (same_Fd _ _ _ (none_covers (word_of inputs x) j terms))
+told_entry Fr inputs outputs terms ones others x j tabled h = rw (tabled.first.is x j h, tabled.second.is x j h) (same_free _ _ _)
+told_entry Fdr inputs outputs terms ones others x j tabled h = rw (tabled.first.is x j h, tabled.second.is x j h) (same_free _ _ _)
+told_entry Esop inputs outputs terms ones others x j tabled h = rw (tabled.first.is x j h) (same_Esop _ _)
 
 -- ---- conflicts
 

@@ -1,7 +1,5 @@
 -- What the terms give together, one term after another.
-use Rattle.std.proofs.Common.{◌≡◌, ℕ, ◌+◌, ◌%◌, ◌^◌, ◌<◌, ◌≤◌, Bool, true, false, ◌&&◌, ◌||◌, cond, nat_eq, List, [], ◌∷◌, ◌++◌, length, get_or, take, Option, Some, None, refl, sym, ap, ◌∙◌, arith}
-use Rattle.std.specs.List.{find}
-use Rattle.std.specs.Option.{option_map}
+use Rattle.std.proofs.Common.{◌≡◌, ℕ, ◌+◌, ◌%◌, ◌^◌, ◌<◌, ◌≤◌, Bool, true, false, ◌&&◌, ◌||◌, cond, nat_eq, List, [], ◌∷◌, ◌++◌, length, get_or, take, refl, sym, ap, ◌∙◌, arith}
 use Rattle.std.specs.Prelude.{count_by, is_some, replicate}
 use Rattle.std.proofs.lemmas.List.{get_or-replicate, take_all, take_more}
 use Rattle.std.proofs.lemmas.List.Sums.{sum_by-append}
@@ -23,14 +21,8 @@ count_by-more p terms term = sum_by-append (λ t. cond (p t) 1 0) terms (term �
 first_line-more : (set : Term → ℕ) (word : List Bool) (j : ℕ) (terms : List Term) (term : Term)
     → is_some (first_line set word j (terms ++ term ∷ [])) ≡ (is_some (first_line set word j terms) || covers set word j term)
 unfolding first_line
-first_line-more set word j [] term = elim (covers set word j term) as (λ b. is_some (option_map (λ (t : Term). t.line) (cond b (Some term) None)) ≡ b) [ true ↦ refl | false ↦ refl ]
-first_line-more set word j (t ∷ ts) term =
-    let line : Term → ℕ = λ t. t.line in
-    let found : List Term → Option Term = find (covers set word j) in
-    elim (covers set word j t) as (λ b. is_some (option_map line (cond b (Some t) (found (ts ++ term ∷ [])))) ≡ (is_some (option_map line (cond b (Some t) (found ts))) || covers set word j term)) [
-      | true ↦ refl
-      | false ↦ first_line-more set word j ts term
-    ]
+first_line-more set word j [] term = grind arith
+first_line-more set word j (t ∷ ts) term = let rest = first_line-more set word j ts term in grind (arith, rest)
 
 gathers-more : (odd : Bool) (set : Term → ℕ) (word : List Bool) (j : ℕ) (terms : List Term) (term : Term) (a b : ℕ)
     → has a j ≡ gathers odd set word j terms → has b j ≡ covers set word j term

@@ -1,7 +1,7 @@
 -- The parts of a cube's line, read back.
 use Rattle.std.proofs.Common.{◌≡◌, ℕ, zero, suc, ◌+◌, ◌≤◌, Bool, true, false, List, [], ◌∷◌, ◌++◌, length, map, take, drop, nat_eq, refl, sym, ap, ◌∙◌, inl, inr, arith, length-append}
 use Rattle.std.specs.List.{list_all, range_with_len}
-use Rattle.std.proofs.lemmas.Bool.{cases_lt, true≢false}
+use Rattle.std.proofs.lemmas.Bool.{cases_lt}
 use Rattle.std.proofs.lemmas.List.{drop_at, take_at}
 use Rattle.std.proofs.lemmas.List.FromFn.{length-map-range_with_len, get_or-map-range_with_len}
 use Rattle.std.proofs.lemmas.Nat.Bits.{same_from_bits}
@@ -27,15 +27,13 @@ input_byte : (s : Symbol) → is_word_byte bar (input_character s) ≡ true
 input_byte s = grind arith
 
 output_byte : (b : Bool) → is_word_byte bar (bit_byte b) ≡ true
-output_byte true = refl
-output_byte false = refl
+output_byte b = grind arith
 
 input_is : (s : Symbol) → is_input (input_character s) ≡ true
 input_is s = grind arith
 
 output_is : (b : Bool) → is_output (bit_byte b) ≡ true
-output_is true = refl
-output_is false = refl
+output_is b = grind arith
 
 input_no_dot : (s : Symbol) → nat_eq (input_character s) 46 ≡ false
 input_no_dot s = grind arith
@@ -47,12 +45,10 @@ wanted : (cares wants : Bool) → (wants ≡ true → cares ≡ true) → either
 wanted cares wants h = grind arith
 
 none_wanted : (cares wants : Bool) → (wants ≡ true → cares ≡ true) → cares ≡ false → wants ≡ false
-none_wanted cares false h k = refl
-none_wanted cares true h k = absurd (true≢false (sym (h refl) ∙ k))
+none_wanted cares wants h k = grind arith
 
 carried : (b : Bool) → either 49 52 (bit_byte b) ≡ b
-carried true = refl
-carried false = refl
+carried b = grind arith
 
 -- ---- parts
 

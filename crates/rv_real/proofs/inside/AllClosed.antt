@@ -3,8 +3,8 @@ use Rattle.std.proofs.Common.{arith}
 use Rattle.std.proofs.Common.{◌≡◌, ℕ, Bool, true, false, not, cond, ◌||◌, List, [], ◌∷◌, ◌++◌, Result, Ok, Err, codes, if◌then◌else◌, nat_eq, nat_lt, refl, ◌∙◌, length, inl, inr}
 use Rattle.std.specs.List.{list_all, list_any}
 use Rattle.std.proofs.lemmas.Bool.{and_parts, cases_Bool}
-use Rattle.rv_text.specs.Bytes.{quote, hash, begins_with_dot}
-use Rattle.rv_text.specs.Tokens.{Lexeme, Open, tokens_from, tokens_of, between, inside, quoting, is_blank, plain, in_quotes}
+use Rattle.rv_text.specs.Bytes.{begins_with_dot}
+use Rattle.rv_text.specs.Tokens.{Lexeme, Open, tokens_from, tokens_of, between, inside, quoting}
 use Rattle.rv_gate.specs.Circuit.{Cascade}
 use Rattle.rv_gate.specs.declared.gate.Shape.{Shape}
 use Rattle.rv_reader.specs.declared.stop.Stop.{Stop}
@@ -30,29 +30,12 @@ sound_from blanks [] between = refl
 sound_from blanks [] (inside begun) = refl
 sound_from blanks [] (quoting begun) = refl
 sound_from blanks (c ∷ cs) between =
-    elim (is_blank blanks c) as (λ t. list_all is_sound (cond t (tokens_from true blanks between cs) (cond (nat_eq c hash) [] (cond (nat_eq c quote) (tokens_from true blanks (quoting []) cs) (tokens_from true blanks (inside (c ∷ [])) cs)))) ≡ true) [
-      | true ↦ sound_from blanks cs between
-      | false ↦ elim (nat_eq c hash) as (λ t. list_all is_sound (cond t [] (cond (nat_eq c quote) (tokens_from true blanks (quoting []) cs) (tokens_from true blanks (inside (c ∷ [])) cs))) ≡ true) [
-        | true ↦ refl
-        | false ↦ elim (nat_eq c quote) as (λ t. list_all is_sound (cond t (tokens_from true blanks (quoting []) cs) (tokens_from true blanks (inside (c ∷ [])) cs)) ≡ true) [
-          | true ↦ sound_from blanks cs (quoting [])
-          | false ↦ sound_from blanks cs (inside (c ∷ []))
-        ]
-      ]
-    ]
+    let parted = sound_from blanks cs between in let quoted = sound_from blanks cs (quoting []) in let begun = sound_from blanks cs (inside (c ∷ [])) in
+    grind (arith, parted, quoted, begun)
 sound_from blanks (c ∷ cs) (inside begun) =
-    elim (is_blank blanks c) as (λ t. list_all is_sound (cond t (plain begun ∷ tokens_from true blanks between cs) (cond (nat_eq c hash) (plain begun ∷ []) (tokens_from true blanks (inside (begun ++ c ∷ [])) cs))) ≡ true) [
-      | true ↦ sound_from blanks cs between
-      | false ↦ elim (nat_eq c hash) as (λ t. list_all is_sound (cond t (plain begun ∷ []) (tokens_from true blanks (inside (begun ++ c ∷ [])) cs)) ≡ true) [
-        | true ↦ refl
-        | false ↦ sound_from blanks cs (inside (begun ++ c ∷ []))
-      ]
-    ]
+    let parted = sound_from blanks cs between in let longer = sound_from blanks cs (inside (begun ++ c ∷ [])) in grind (arith, parted, longer)
 sound_from blanks (c ∷ cs) (quoting begun) =
-    elim (nat_eq c quote) as (λ t. list_all is_sound (cond t (in_quotes begun true ∷ tokens_from true blanks between cs) (tokens_from true blanks (quoting (begun ++ c ∷ [])) cs)) ≡ true) [
-      | true ↦ sound_from blanks cs between
-      | false ↦ sound_from blanks cs (quoting (begun ++ c ∷ []))
-    ]
+    let parted = sound_from blanks cs between in let longer = sound_from blanks cs (quoting (begun ++ c ∷ [])) in grind (arith, parted, longer)
 
 -- a token without quotes is closed
 bare_closed : (w : Lexeme) → is_sound w ≡ true → w.quoted ≡ false → is_unclosed w ≡ false

@@ -1,5 +1,5 @@
 -- The lines of gates that were written are read back.
-use Rattle.std.proofs.Common.{◌≡◌, ℕ, suc, ◌+◌, ◌-◌, ◌<◌, ◌≤◌, ◌^◌, true, false, cond, ◌&&◌, List, [], ◌∷◌, ◌++◌, length, map, take, nat_eq, nat_lt, codes, Result, Ok, refl, sym, ap, ◌∙◌, arith, append_assoc, decimal, eq-eqb, ne_eqb}
+use Rattle.std.proofs.Common.{◌≡◌, ℕ, suc, ◌+◌, ◌-◌, ◌<◌, ◌≤◌, ◌^◌, true, false, ◌&&◌, List, [], ◌∷◌, ◌++◌, length, map, take, nat_eq, nat_lt, codes, Result, Ok, refl, sym, ap, ◌∙◌, arith, append_assoc, decimal, eq-eqb, ne_eqb}
 use Rattle.std.specs.Prelude.{All}
 use Rattle.std.specs.List.{list_any}
 use Rattle.std.specs.Str.{bytes_eq}
@@ -9,7 +9,6 @@ use Rattle.std.proofs.lemmas.List.{append-nil, length-append, map-append, get_or
 use Rattle.std.proofs.lemmas.List.Elements.{All-head, All-tail}
 use Rattle.rv_text.specs.Tokens.{Lexeme, plain}
 use Rattle.rv_text.proofs.inside.Decimal.{is_decimal-decimal, decimal_value-decimal}
-use Rattle.rv_gate.specs.Word.{has}
 use Rattle.rv_gate.specs.Gate.{IsGate, FitsIn}
 use Rattle.rv_gate.specs.Names.{AreNames}
 use Rattle.rv_gate.specs.Circuit.{Cascade}
@@ -20,8 +19,8 @@ use Rattle.rv_real.specs.Rules.{in_order, is_bare}
 use Rattle.rv_real.specs.Reading.{is_unclosed}
 use Rattle.rv_real.specs.inside.LineByLine.{body_of}
 use Rattle.rv_real.specs.Body.{Operand, letter_of, operand_count, takes_operands, is_known, with_operand, names_line, has_repeated, shape_of, line_at, named_gate}
-use Rattle.rv_real.specs.inside.BodySteps.{placed, with_gate, with_body_line}
-use Rattle.rv_real.specs.Text.{name_at, control_word, controls_from, gate_line, gate_words}
+use Rattle.rv_real.specs.inside.BodySteps.{with_gate, with_body_line}
+use Rattle.rv_real.specs.Text.{name_at, controls_from, gate_line, gate_words}
 use Rattle.rv_real.proofs.LineSets.{has_repeated-push, names_line-push}
 use Rattle.rv_real.proofs.inside.Placed.{AreOperands, placed_gate}
 use Rattle.rv_real.proofs.ControlsBack.{AreBelow, bare_operand, control_operands, control_operands-count, controls_read, named_exactly, lines_back, positive_back, controls_once}
@@ -84,12 +83,7 @@ all_controls names care want controls targets are count =
 
 pub few_controls : (line : ℕ) (names : List (List ℕ)) (care want : ℕ) → length (controls_from line names care want) ≤ length names
 few_controls line [] care want = omega arith
-few_controls line (name ∷ names) care want =
-    let rest = few_controls (line + 1) names care want in
-    elim (has care line) as (λ t. length (cond t (control_word name (has want line) ∷ []) [] ++ controls_from (line + 1) names care want) ≤ length (name ∷ names)) [
-      | true ↦ omega arith
-      | false ↦ omega arith
-    ]
+few_controls line (name ∷ names) care want = let rest = few_controls (line + 1) names care want in grind (arith, rest, length-append)
 
 with_room : (c : Cascade) (gate : Shape) → length c.gates < 1048576 → with_gate c gate ≡ Ok (record c { gates = c.gates ++ gate ∷ [] })
 with_room c gate room = rw (lt-ltb (length c.gates) 1048576 room) refl
@@ -113,12 +107,7 @@ gate_read : (c : Cascade) (gate : Shape) (letter n : ℕ) (words : List (List �
     → has_repeated operands ≡ false → shape_of letter operands ≡ gate → length c.gates < 1048576
     → IsRead c (gate_line letter words) gate
 unfolding named_gate
-gate_read c gate letter n words operands no_root no_dot count few takes are once shape room =
-    let all : nat_eq (length (map plain words)) n ≡ true = eq-eqb _ _ (length-plain words ∙ count) in
-    let placed_is : placed c letter n (map plain words) ≡ Added c gate =
-    placed_gate c letter n (map plain words) operands all are once ∙ ap (with_gate c) shape ∙ with_room c gate room in
-    let name : SaysOf (letter ∷ decimal (length words)) letter n = rw count (name_known letter n few takes) in
-    (rw no_dot refl, rw (no_dot, no_root, name.known, name.letter, name.operands) placed_is)
+gate_read c gate letter n words operands no_root no_dot count few takes are once shape room = grind (arith, nat_eq, eq-eqb, length-plain, placed_gate, with_room, decimal, name_known)
 
 -- ---- one gate
 

@@ -137,19 +137,7 @@ swap_is lines n operands some len few below once =
 
 pub peres_is : (lines : ℕ) (operands : List Operand) → length operands ≡ 3 → lines ≤ 64 → All (λ o. o.line < lines) operands → has_repeated operands ≡ false
     → IsGate (Peres (line_at operands 0) (line_at operands 1) (line_at operands 2)) × FitsIn (Peres (line_at operands 0) (line_at operands 1) (line_at operands 2)) lines
-peres_is lines operands len few below once =
-    let a = target_below lines operands 0 (omega arith) below in
-    let b = target_below lines operands 1 (omega arith) below in
-    let d = target_below lines operands 2 (omega arith) below in (
-      (omega arith, omega arith, omega arith, differ operands 0 1 (omega arith) (omega arith) once, differ operands 0 2 (omega arith) (omega arith) once, differ operands 1 2 (omega arith) (omega arith) once),
-      λ line on. (elim (cases_Bool (nat_eq line (line_at operands 0))) [
-        | inl at_a ↦ (let at : line ≡ line_at operands 0 = eqb-true _ _ at_a in omega arith)
-        | inr not_a ↦ (elim (cases_Bool (nat_eq line (line_at operands 1))) [
-          | inl at_b ↦ (let at : line ≡ line_at operands 1 = eqb-true _ _ at_b in omega arith)
-          | inr not_b ↦ (let at : line ≡ line_at operands 2 = eqb-true _ _ (rw (not_a, not_b) at on) in omega arith)
-        ])
-      ]),
-    )
+peres_is lines operands len few below once = grind (arith, target_below, differ, nat_eq, eqb-true)
 
 pub operand_fails : (names : List (List ℕ)) (controls : ℕ) (operands : List Operand) (w : Lexeme) (e : Stop) (is_control : Bool) → is_control ≡ nat_lt (length operands) controls
     → Fails e (operand_of names is_control w) → Fails e (with_operand names controls operands w)

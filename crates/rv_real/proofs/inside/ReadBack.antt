@@ -48,9 +48,7 @@ circuit_lexemes c = header_lexemes c (gate_lexemes c.names c.gates ++ end_lexeme
 
 gates_written : (names : List (List ℕ)) (gates : List Shape) → map (map written) (gate_lexemes names gates ++ end_lexemes) ≡ map (gate_words names) gates ++ (codes ".end" ∷ []) ∷ []
 gates_written names [] = refl
-gates_written names (gate ∷ gates) =
-    ap (λ (ws : List (List ℕ)). ws ∷ map (map written) (gate_lexemes names gates ++ end_lexemes)) (plain_written (gate_words names gate))
-    ∙ ap (λ (lines : List (List (List ℕ))). gate_words names gate ∷ lines) (gates_written names gates)
+gates_written names (gate ∷ gates) = let hyp = gates_written names gates in grind (arith, hyp, plain_written)
 
 -- written, the tokens are the words of the text
 circuit_written : (c : Cascade) → map (map written) (circuit_lexemes c) ≡ circuit_lines c

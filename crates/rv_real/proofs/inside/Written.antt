@@ -1,5 +1,5 @@
 -- Words that a writer sends are words that can be read.
-use Rattle.std.proofs.Common.{◌≡◌, ℕ, ◌<◌, ◌^◌, Bool, true, false, not, cond, ◌||◌, ◌&&◌, List, [], ◌∷◌, length, map, get_or, nat_eq, nat_lt, refl, sym, ◌∙◌, ap, inl, inr, arith, decimal, true≢false}
+use Rattle.std.proofs.Common.{◌≡◌, ℕ, ◌<◌, ◌^◌, Bool, true, false, not, cond, ◌||◌, List, [], ◌∷◌, length, map, get_or, nat_eq, nat_lt, refl, sym, ◌∙◌, ap, inl, inr, arith, decimal, true≢false}
 use Rattle.std.specs.Prelude.{All}
 use Rattle.std.specs.List.{list_all, list_any}
 use Rattle.std.proofs.lemmas.Bool.{and_parts, cases_Bool, not-true, or_parts}
@@ -29,16 +29,10 @@ pub record NameParts (name : List ℕ) : Type 0 where
 
 pub name_parts : (name : List ℕ) → IsName name → NameParts name
 name_parts [] h = absurd cc
-name_parts (c ∷ cs) h =
-    let all = and_parts (nat_lt 0 (length (c ∷ cs)) && not (nat_eq c 45) && not (nat_eq c 46)) (list_all is_name_byte (c ∷ cs)) h in
-    let dot = and_parts (nat_lt 0 (length (c ∷ cs)) && not (nat_eq c 45)) (not (nat_eq c 46)) all.0 in
-    let sign = and_parts (nat_lt 0 (length (c ∷ cs))) (not (nat_eq c 45)) dot.0 in
-    record { some = omega arith; no_sign = not-true _ sign.1; no_dot = not-true _ dot.1; bytes = all.1 }
+name_parts (c ∷ cs) h = grind (arith, nat_lt, nat_eq, not-true)
 
 pub name_word : (name : List ℕ) → IsName name → IsPlainWord [] name
-name_word name is =
-    let parts = name_parts name is in
-    (parts.some, list_all-weaken is_name_byte (is_word_byte []) (λ c h. sym (name_byte c) ∙ h) name parts.bytes)
+name_word name is = grind (arith, name_parts, list_all-weaken, name_byte)
 
 -- ---- decimal numbers
 
@@ -52,9 +46,7 @@ label_parts c h = let t = and_parts (not (nat_eq c 34)) (not (nat_eq c 10)) h in
 
 pub label_no_quote : (label : List ℕ) → IsLabel label → holds_quote label ≡ false
 label_no_quote [] h = refl
-label_no_quote (c ∷ cs) h =
-    let t = and_parts (is_label_byte c) (list_all is_label_byte cs) h in
-    rw (label_parts c t.0).0 (label_no_quote cs t.1)
+label_no_quote (c ∷ cs) h = let hyp = label_no_quote cs in grind (arith, hyp, label_parts)
 
 -- the bytes of a label are those that may stand in quotes
 label_byte : (c : ℕ) → is_label_byte c ≡ is_quotable c
@@ -68,12 +60,7 @@ is_gap c = is_blank [] c || nat_eq c 35
 
 label_bytes : (label : List ℕ) → IsLabel label → list_any is_gap label ≡ false → list_all (is_word_byte []) label ≡ true
 label_bytes [] h k = refl
-label_bytes (c ∷ cs) h k =
-    let t = and_parts (is_label_byte c) (list_all is_label_byte cs) h in
-    let p = label_parts c t.0 in
-    let g = or_parts (is_gap c) (list_any is_gap cs) k in
-    let b = or_parts (is_blank [] c) (nat_eq c 35) g.0 in
-    rw (b.0, b.1, p.0, p.1) (label_bytes cs t.1 g.1)
+label_bytes (c ∷ cs) h k = let rest = label_bytes cs in grind (arith, rest)
 
 some_length : (label : List ℕ) → nat_eq (length label) 0 ≡ false → 0 < length label
 some_length [] h = absurd (true≢false h)

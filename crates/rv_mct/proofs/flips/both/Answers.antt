@@ -3,6 +3,5 @@ use Rattle.rv_mct.proofs.flips.both.Goals as goal
 
 pub unreachable-requires : goal.unreachable-requires
 unreachable-requires c =
-    let g = gate_both c.args.a c.args.b c.args.target c.requires.target c.requires.not_first c.requires.not_second in
     let h = c.in-None.ensures in
-    h (rw (c.place.ensures, c.place-2.ensures, c.wanted_place.ensures, c.wanted_place-2.ensures) g)
+    h (rw (c.place.ensures, c.place-2.ensures, c.wanted_place.ensures, c.wanted_place-2.ensures) (gate_both c.args.a c.args.b c.args.target c.requires))

@@ -1,8 +1,7 @@
-use Rattle.std.proofs.Common.{◌≡◌, ◌*◌, ◌-◌, ◌%◌, ◌^◌, ◌<◌, ◌≤◌, ℕ, Bool, true, false, get_or, cond, refl, sym, ap, ◌∙◌, inl, inr, arith}
+use Rattle.std.proofs.Common.{◌≡◌, ◌*◌, ◌-◌, ◌%◌, ◌^◌, ◌<◌, ◌≤◌, ℕ, Bool, get_or, cond, sym, ap, ◌∙◌, arith}
 use Rattle.std.specs.Int.{bit_at}
-use Rattle.std.proofs.Math.Nat.{mod-lt}
-use Rattle.std.proofs.lemmas.Bool.{cases_eq}
-use Rattle.std.proofs.lemmas.Nat.{one_shl, pow_pos, pow_below}
+use Rattle.std.proofs.Math.Nat.{mod-lt, pow-le-pow_right}
+use Rattle.std.proofs.lemmas.Nat.{one_shl, pow_pos}
 use Rattle.rv_gate.specs.Word.{word_of}
 use Rattle.rv_pla.specs.Cube.{matches}
 use Rattle.rv_pla.specs.inside.Table.{joined_sets}
@@ -11,8 +10,7 @@ use Rattle.rv_pla.proofs.inside.Blocks.{joined_sets-nothing, joined_word, whole_
 use Rattle.rv_pla.proofs.join.join.Goals as goal
 
 either_way : (b : Bool) (n : ℕ) → cond b n n ≡ n
-either_way true n = refl
-either_way false n = refl
+either_way b n = grind arith
 
 pub returns-then-outs-eq0 : goal.returns-then-outs-eq0
 returns-then-outs-eq0 c = λ x h.
@@ -21,10 +19,7 @@ returns-then-outs-eq0 c = λ x h.
     sym (joined_sets-nothing c.args.odd old) ∙ ap (joined_sets c.args.odd old) (sym (either_way b 0) ∙ ap (λ n. cond b n 0) (sym c.if-outs-eq0.true))
 
 small_block : (k : ℕ) → k ≤ 5 → 2 ^ k ≤ 32
-small_block k h = elim (cases_eq k 5) [
-  | inl e ↦ rw e (omega arith)
-  | inr less ↦ (let p = pow_below k 5 (omega arith) in omega arith)
-]
+small_block k h = let p : 2 ^ k ≤ 2 ^ 5 = pow-le-pow_right {n = 2} (omega arith) {i = k} {j = 5} h in omega arith
 
 pub fill-requires : goal.fill-requires
 fill-requires c =
