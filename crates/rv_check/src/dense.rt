@@ -4,7 +4,7 @@ ghost use Rattle.std.specs.List.{filter, list_all};
 ghost use Rattle.rv_gate.specs.Gate.{xor};
 ghost use Rattle.rv_gate.specs.Word.{bit_of, number_of};
 ghost use Rattle.rv_net.specs.Cyclotomic.{Cyclotomic, nought, plus, times_w_power};
-ghost use Rattle.rv_net.specs.Op.{OpFitsIn};
+ghost use Rattle.rv_net.specs.Op.{OpFitsIn, goes_to};
 ghost use Rattle.rv_net.specs.declared.op.Op.{Op};
 ghost use Rattle.rv_net.specs.declared.op.Op.TheVariants.{X, Y, H, Cx, Ccx, Swap, Cswap};
 ghost use Rattle.rv_check.specs.Reduced.{is_multiple, quotient, reduced, words};
@@ -37,6 +37,7 @@ fn place_bit(lines: u8, line: u8) -> usize
 fn mix(values: &mut [Short], lines: u8, line: u8)
     requires few_lines { lines ≤ 10 }
     requires line { line < lines }
+    requires len { length values.old ≡ 2 ^ lines }
     requires small { All (AreSmall (2 ^ 60)) values.old }
     ensures { (f : List Bool → Cyclotomic) → values.old ≡ map f (words lines)
         → values.new ≡ map (mixed_at line f) (words lines) }
@@ -157,26 +158,45 @@ fn flip_and_turn(values: &mut [Short], lines: u8, line: u8)
     turn_line(values, lines, line, 2);
 }
 
-fn exchange(values: &mut [Short], lines: u8, a: u8, b: u8)
+// The bits of two lines exchanged where the place has the bits of a mask: each place with the bit of the one line, and
+// without that of the other, takes the value of the place where it is the other way round.
+fn exchange(values: &mut [Short], lines: u8, mask: usize, a: u8, b: u8)
     requires few_lines { lines ≤ 10 }
     requires fits { OpFitsIn (Swap a b) lines }
+    requires len { length values.old ≡ 2 ^ lines }
+    ensures { (on : List Bool → Bool) → Marks mask lines a on → Marks mask lines b on → (f : List Bool → Cyclotomic)
+        → values.old ≡ map f (words lines) → values.new ≡ map
+        (λ x. f (if on x then goes_to (Swap a b) x else x)) (words lines) }
+{
+    let (bit, other) = (place_bit(lines, a), place_bit(lines, b));
+    let all = mask | bit;
+    let mut place = all;
+    while place < values.len() {
+        if place | other != place {
+            values.swap(place - bit + other, place);
+        }
+        place = (place + 1) | all;
+    }
+}
+
+fn exchange_lines(values: &mut [Short], lines: u8, a: u8, b: u8)
+    requires few_lines { lines ≤ 10 }
+    requires fits { OpFitsIn (Swap a b) lines }
+    requires len { length values.old ≡ 2 ^ lines }
     ensures { (f : List Bool → Cyclotomic) → values.old ≡ map f (words lines)
         → values.new ≡ map (moved_at (Swap a b) f) (words lines) }
 {
-    flip_under(values, lines, b, a);
-    flip_under(values, lines, a, b);
-    flip_under(values, lines, b, a);
+    exchange(values, lines, 0, a, b);
 }
 
 fn exchange_under(values: &mut [Short], lines: u8, control: u8, a: u8, b: u8)
     requires few_lines { lines ≤ 10 }
     requires fits { OpFitsIn (Cswap control a b) lines }
+    requires len { length values.old ≡ 2 ^ lines }
     ensures { (f : List Bool → Cyclotomic) → values.old ≡ map f (words lines)
         → values.new ≡ map (moved_at (Cswap control a b) f) (words lines) }
 {
-    flip_under(values, lines, b, a);
-    flip_under_both(values, lines, control, a, b);
-    flip_under(values, lines, b, a);
+    exchange(values, lines, place_bit(lines, control), a, b);
 }
 
 // An operation that is no H.
@@ -200,7 +220,7 @@ fn go(values: &mut [Short], lines: u8, op: Op)
         Op::Y(q) => flip_and_turn(values, lines, q),
         Op::Cx(a, b) => flip_under(values, lines, a, b),
         Op::Ccx(a, b, c) => flip_under_both(values, lines, a, b, c),
-        Op::Swap(a, b) => exchange(values, lines, a, b),
+        Op::Swap(a, b) => exchange_lines(values, lines, a, b),
         Op::Cswap(c, a, b) => exchange_under(values, lines, c, a, b),
         Op::H(_) => unreachable!(),
     }
