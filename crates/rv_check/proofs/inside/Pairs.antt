@@ -1,10 +1,11 @@
 -- Passes that take two values at a time: that of a word, and that of its partner.
-use Rattle.rv_gate.proofs.Bits.{xor_back}
-use Rattle.std.proofs.Common.{◌≡◌, ◌≢◌, ◌⊎◌, ℕ, zero, suc, ◌+◌, ◌-◌, ◌^◌, ◌<◌, ◌≤◌, ◌&&◌, Bool, true, false, not, cond, List, [], ◌∷◌, map, length, get_or, set, All, nat_lt, subst, refl, sym, ap, ap₂, ◌∙◌, arith, inl, inr, length-set, get_or-set_same, get_or-set_other}
-use Rattle.std.proofs.lemmas.Bool.{and_parts, cases_eq, eq-eqb, cases_lt, false≢true, false_from_ne_true, le-ltb, lt-ltb, ne_eqb, not-true}
-use Rattle.std.proofs.lemmas.List.{get_or_default, get_or_read, set-get_or}
+use Rattle.rv_gate.proofs.Bits.{not_not}
+use Rattle.std.proofs.Common.{◌≡◌, ◌≢◌, ◌⊎◌, ℕ, zero, suc, ◌+◌, ◌-◌, ◌^◌, ◌<◌, ◌≤◌, ◌&&◌, Bool, true, false, not, cond, List, [], ◌∷◌, map, length, get_or, set, All, subst, refl, sym, ap, ap₂, ◌∙◌, arith, inl, inr, length-set, get_or-set_same, get_or-set_other, set-set}
+use Rattle.std.proofs.Math.Pow.{pow_mono}
+use Rattle.std.proofs.lemmas.Bool.{and_parts, cases_eq, eq-eqb, false≢true, ne_eqb, not-true}
+use Rattle.std.proofs.lemmas.List.{get_or_default, get_or_read, set_comm, set-get_or}
 use Rattle.std.proofs.lemmas.List.Elements.{All-get_or}
-use Rattle.std.proofs.lemmas.Nat.{le_or_l, le_or_r}
+use Rattle.std.proofs.lemmas.Nat.{le_or_r}
 use Rattle.std.specs.List.{swap}
 use Rattle.std.specs.Int.Bits.{bit_or}
 use Rattle.rv_gate.specs.Gate.{xor}
@@ -16,196 +17,88 @@ use Rattle.rv_net.specs.declared.op.Op.TheVariants.{Swap}
 use Rattle.rv_check.specs.Reduced.{words}
 use Rattle.rv_check.specs.inside.Dense.{Marks, covers, minus, mixed_at}
 use Rattle.rv_check.specs.inside.Small.{AreSmall}
-use Rattle.rv_check.proofs.Back.{goes_back, length-goes_to, here, there, one_back}
-use Rattle.rv_check.proofs.inside.Masks.{Covers, covers_both, covers_line, none_before, none_between}
-use Rattle.rv_check.proofs.inside.Numbers.{as_map, at_number, from_numbers, length-map_words, number_same, same_map, word_at}
+use Rattle.rv_check.proofs.Back.{goes_back, here, length-goes_to, one_back, there}
+use Rattle.rv_check.proofs.inside.Masks.{Covers, Swept, Sweeps, covers_both, covers_line, sweep_end, sweep_more, sweep_own, sweep_start}
+use Rattle.rv_check.proofs.inside.Numbers.{as_map, length-map_words, number_same, same_map}
 use Rattle.rv_check.proofs.inside.Small.{small_wider}
 use Rattle.rv_check.proofs.inside.Sparse.{Word}
 
--- The words of n bits that pass a test have partners that don't. They have the bits of a mask, and their number and that
--- of the partner differ by those of two lines.
-pub record ArePairs (n m high low : ℕ) (top : Word → Bool) (partner : Word → Word) : Type 0 where
+-- The words that are moved stand in pairs: partners have one key, which is the number of one of them.
+pub record ArePairs (n m : ℕ) (moves : Word → Bool) (key : Word → ℕ) (partner : Word → Word) : Type 0 where
+  pub sweeps : Sweeps n m moves key
   pub len : (x : Word) → length x ≡ n → length (partner x) ≡ n
   pub back : (x : Word) → length x ≡ n → partner (partner x) ≡ x
-  pub apart : (x : Word) → length x ≡ n → top x ≡ true → top (partner x) ≡ false
-  pub apart_by : (x : Word) → length x ≡ n → top x ≡ true → number_of (partner x) + high ≡ number_of x + low
-  pub marked : (x : Word) → length x ≡ n → top x ≡ true → covers m (number_of x) ≡ true
+  pub moved : (x : Word) → length x ≡ n → moves (partner x) ≡ moves x
+  pub one_key : (x : Word) → length x ≡ n → key (partner x) ≡ key x
+  pub either : (x : Word) → length x ≡ n → moves x ≡ true → (key x ≡ number_of x) ⊎ (key x ≡ number_of (partner x))
 
--- what a pass that has come to a place has made of the value of a word
-abbrev pub Pass : (Word → Bool) → (Word → Word) → (Cyclotomic → Cyclotomic → Cyclotomic) → (Cyclotomic → Cyclotomic → Cyclotomic) → (Word → Cyclotomic) → ℕ → Word → Cyclotomic
-Pass top partner first second f place x =
-    cond (top x && nat_lt (number_of x) place) (second (f (partner x)) (f x))
-    (cond (top (partner x) && nat_lt (number_of (partner x)) place) (first (f x) (f (partner x))) (f x))
+-- the word at a place, which is moved next, and its partner's place
+pub record IsNext (n : ℕ) (moves : Word → Bool) (key : Word → ℕ) (partner : Word → Word) (place i : ℕ) : Type 0 where
+  pub moved : moves (word_of n place) ≡ true
+  pub now : key (word_of n place) ≡ place
+  pub other : number_of (partner (word_of n place)) ≡ i
+  pub differ : i ≢ place
 
--- and at its end
-abbrev pub Passed : (Word → Bool) → (Word → Word) → (Cyclotomic → Cyclotomic → Cyclotomic) → (Cyclotomic → Cyclotomic → Cyclotomic) → (Word → Cyclotomic) → Word → Cyclotomic
-Passed top partner first second f x = cond (top x) (second (f (partner x)) (f x)) (cond (top (partner x)) (first (f x) (f (partner x))) (f x))
+module _ (n m : ℕ) (moves : Word → Bool) (key : Word → ℕ) (partner : Word → Word) (pairs : ArePairs n m moves key partner) (f new : Word → Cyclotomic)
+    (place i : ℕ) (vs : List Cyclotomic) (lt : place < length vs) (next : IsNext n moves key partner place i) (is : vs ≡ map (Swept moves key f new place) (words n)) where
+  abbrev w : Word
+  w = word_of n place
 
-module _ (n m high low : ℕ) (top : Word → Bool) (partner : Word → Word) (pairs : ArePairs n m high low top partner)
-    (first second : Cyclotomic → Cyclotomic → Cyclotomic) (f : Word → Cyclotomic) where
-  -- no word that passes lies between two places of the mask
-  unmoved : (place : ℕ) (x : Word) → Covers m place → length x ≡ n → (top x ≡ true → number_of x ≢ place)
-      → (top x && nat_lt (number_of x) place) ≡ (top x && nat_lt (number_of x) (bit_or (place + 1) m))
-  unmoved place x at l ne = go (top x) refl where
-    go : (b : Bool) → top x ≡ b → (b && nat_lt (number_of x) place) ≡ (b && nat_lt (number_of x) (bit_or (place + 1) m))
-    go false e = refl
-    go true e = elim (cases_lt (number_of x) place) [
-      | inl below ↦ lt-ltb (number_of x) place below ∙ sym (lt-ltb (number_of x) (bit_or (place + 1) m) (omega (arith, below, le_or_l (place + 1) m)))
-      | inr above ↦
-          elim (cases_lt (number_of x) (bit_or (place + 1) m)) [
-            | inl less ↦ absurd (let o = ne e in false≢true (sym (none_between m place (number_of x) at (omega arith) less) ∙ pairs.marked x l e))
-            | inr more ↦ le-ltb (number_of x) place above ∙ sym (le-ltb (number_of x) (bit_or (place + 1) m) more)
-          ]
-    ]
+  lw : length w ≡ n
+  lw = length-word_of n place
 
-  still : (place : ℕ) (x : Word) → Covers m place → length x ≡ n → (top x ≡ true → number_of x ≢ place) → (top (partner x) ≡ true → number_of (partner x) ≢ place)
-      → Pass top partner first second f place x ≡ Pass top partner first second f (bit_or (place + 1) m) x
-  still place x at l ne nor =
-      ap₂ (λ a b. cond a (second (f (partner x)) (f x)) (cond b (first (f x) (f (partner x))) (f x)))
-      (unmoved place x at l ne) (unmoved place (partner x) at (pairs.len x l) nor)
+  ew : number_of w ≡ place
+  ew = number_of-word_of_small n place (omega (arith, lt, ap length is, length-map_words (Swept moves key f new place) n))
 
-  pub pass_start : map f (words n) ≡ map (Pass top partner first second f m) (words n)
-  pass_start = same_map _ _ n (λ x l.
-      ap₂ (λ a b. cond a (second (f (partner x)) (f x)) (cond b (first (f x) (f (partner x))) (f x))) (sym (none x l)) (sym (none (partner x) (pairs.len x l)))) where
-        none : (x : Word) → length x ≡ n → (top x && nat_lt (number_of x) m) ≡ false
-        none x l = go (top x) refl where
-          go : (b : Bool) → top x ≡ b → (b && nat_lt (number_of x) m) ≡ false
-          go false e = refl
-          go true e = elim (cases_lt (number_of x) m) [
-            | inl less ↦ absurd (false≢true (sym (none_before m (number_of x) less) ∙ pairs.marked x l e))
-            | inr more ↦ le-ltb (number_of x) m more
-          ]
+  -- both have their values yet
+  pub pair_own : (get_or vs i nought ≡ f (partner w)) × (get_or vs place nought ≡ f w)
+  pair_own = (
+    ap (λ k. get_or vs k nought) (sym next.other) ∙ sweep_own n m moves key pairs.sweeps f new place vs is (partner w) (pairs.len w lw) (pairs.one_key w lw ∙ next.now),
+    ap (λ k. get_or vs k nought) (sym ew) ∙ sweep_own n m moves key pairs.sweeps f new place vs is w lw next.now,
+  )
 
-  -- the word at a place
-  at_place : (place : ℕ) (vs : List Cyclotomic) → place < length vs → vs ≡ map (Pass top partner first second f place) (words n)
-      → (length (word_of n place) ≡ n) × (number_of (word_of n place) ≡ place)
-  at_place place vs lt is =
-      (length-word_of n place, number_of-word_of_small n place (omega (arith, lt, ap length is ∙ length-map_words (Pass top partner first second f place) n)))
+  pub pair_in : i < length vs
+  pair_in = omega (arith, number_of-lt (partner w), ap (λ k. 2 ^ k) (pairs.len w lw), next.other, ap length is, length-map_words (Swept moves key f new place) n)
 
-  -- a place whose word doesn't pass
-  pub pass_skip : (place : ℕ) (vs : List Cyclotomic) → Covers m place → place < length vs → top (word_of n place) ≡ false
-      → vs ≡ map (Pass top partner first second f place) (words n) → vs ≡ map (Pass top partner first second f (bit_or (place + 1) m)) (words n)
-  pass_skip place vs at lt off is = is ∙ same_map _ _ n (λ x l. still place x at l (other x l) (other (partner x) (pairs.len x l))) where
-    w : (length (word_of n place) ≡ n) × (number_of (word_of n place) ≡ place)
-    w = at_place place vs lt is
-
-    other : (x : Word) → length x ≡ n → top x ≡ true → number_of x ≢ place
-    other x l on e = false≢true (sym off ∙ ap top (sym (number_same x (word_of n place) (l ∙ sym w.0) (e ∙ sym w.1))) ∙ on)
-
-  -- the two values that come next
-  pub pass_own : (place i : ℕ) (vs : List Cyclotomic) → place < length vs → top (word_of n place) ≡ true → i + high ≡ place + low → vs ≡ map (Pass top partner first second f place) (words n)
-      → (number_of (partner (word_of n place)) ≡ i) × (get_or vs i nought ≡ f (partner (word_of n place))) × (get_or vs place nought ≡ f (word_of n place))
-  pass_own place i vs lt on ei is = (
-    i_is,
-    ap (λ k. get_or vs k nought) (sym i_is) ∙ value (partner w) (pairs.len w lw)
-        ∙ ap₂ (λ a b. cond a (second (f (partner (partner w))) (f (partner w))) (cond b (first (f (partner w)) (f (partner (partner w)))) (f (partner w))))
-        (ap (λ b. b && nat_lt (number_of (partner w)) place) (pairs.apart w lw on))
-        (ap (λ x. top x && nat_lt (number_of x) place) (pairs.back w lw) ∙ ap₂ (λ a b. a && b) on (le-ltb (number_of w) place (omega (arith, ew)))),
-    ap (λ k. get_or vs k nought) (sym ew) ∙ value w lw
-        ∙ ap₂ (λ a b. cond a (second (f (partner w)) (f w)) (cond b (first (f w) (f (partner w))) (f w)))
-        (ap₂ (λ a b. a && b) on (le-ltb (number_of w) place (omega (arith, ew))))
-        (ap (λ b. b && nat_lt (number_of (partner w)) place) (pairs.apart w lw on)),
-  ) where
-    w : Word
-    w = word_of n place
-
-    lw : length w ≡ n
-    lw = (at_place place vs lt is).0
-
-    ew : number_of w ≡ place
-    ew = (at_place place vs lt is).1
-
-    i_is : number_of (partner w) ≡ i
-    i_is = omega (arith, pairs.apart_by w lw on, ew, ei)
-
-    value : (x : Word) → length x ≡ n → get_or vs (number_of x) nought ≡ Pass top partner first second f place x
-    value x l = ap (λ l. get_or l (number_of x) nought) is ∙ at_number (Pass top partner first second f place) n x nought l
-
-  -- a place whose word passes
-  pub pass_more : (place i : ℕ) (vs : List Cyclotomic) (u v : Cyclotomic) → Covers m place → place < length vs → top (word_of n place) ≡ true → i + high ≡ place + low
-      → u ≡ first (get_or vs i nought) (get_or vs place nought) → v ≡ second (get_or vs i nought) (get_or vs place nought)
-      → vs ≡ map (Pass top partner first second f place) (words n) → set (set vs i u) place v ≡ map (Pass top partner first second f (bit_or (place + 1) m)) (words n)
-  pass_more place i vs u v at lt on ei eu ev is =
-      from_numbers (Pass top partner first second f next) n (set (set vs i u) place v) nought (length-set (set vs i u) place v ∙ length-set vs i u ∙ len)
-      (λ x l. go x l (cases_eq (number_of x) place) (cases_eq (number_of x) i)) where
-        next : ℕ
-        next = bit_or (place + 1) m
-
-        w : Word
-        w = word_of n place
-
-        lw : length w ≡ n
-        lw = (at_place place vs lt is).0
-
-        ew : number_of w ≡ place
-        ew = (at_place place vs lt is).1
-
-        old : (number_of (partner w) ≡ i) × (get_or vs i nought ≡ f (partner w)) × (get_or vs place nought ≡ f w)
-        old = pass_own place i vs lt on ei is
-
-        len : length vs ≡ 2 ^ n
-        len = ap length is ∙ length-map_words (Pass top partner first second f place) n
-
-        less : nat_lt (number_of w) next ≡ true
-        less = lt-ltb (number_of w) next (omega (arith, ew, le_or_l (place + 1) m))
-
+  pub pair_more : (u v : Cyclotomic) → Covers m place → u ≡ new (partner w) → v ≡ new w → set (set vs i u) place v ≡ map (Swept moves key f new (bit_or (place + 1) m)) (words n)
+  pair_more u v at eu ev =
+      sweep_more n m moves key pairs.sweeps f new place vs (set (set vs i u) place v) at (length-set (set vs i u) place v ∙ length-set vs i u) is done others where
         is_w : (x : Word) → length x ≡ n → number_of x ≡ place → x ≡ w
         is_w x l e = number_same x w (l ∙ sym lw) (e ∙ sym ew)
 
         is_partner : (x : Word) → length x ≡ n → number_of x ≡ i → x ≡ partner w
-        is_partner x l e = number_same x (partner w) (l ∙ sym (pairs.len w lw)) (e ∙ sym old.0)
+        is_partner x l e = number_same x (partner w) (l ∙ sym (pairs.len w lw)) (e ∙ sym next.other)
 
-        differ : i ≢ place
-        differ e = false≢true (sym (pairs.apart w lw on) ∙ ap top (is_w (partner w) (pairs.len w lw) (old.0 ∙ e)) ∙ on)
+        done : (x : Word) → length x ≡ n → moves x ≡ true → key x ≡ place → get_or (set (set vs i u) place v) (number_of x) nought ≡ new x
+        done x l t k = elim (pairs.either x l t) [
+          | inl own ↦
+              let e : number_of x ≡ place = sym own ∙ k in
+              ap (λ j. get_or (set (set vs i u) place v) j nought) e ∙ get_or-set_same (set vs i u) place v nought (omega (arith, lt, length-set vs i u)) ∙ ev ∙ ap new (sym (is_w x l e))
+          | inr up ↦
+              let e : x ≡ partner w = sym (pairs.back x l) ∙ ap partner (is_w (partner x) (pairs.len x l) (sym up ∙ k)) in
+              ap (λ y. get_or (set (set vs i u) place v) (number_of y) nought) e ∙ ap (λ j. get_or (set (set vs i u) place v) j nought) next.other
+              ∙ get_or-set_other (set vs i u) place i v nought next.differ ∙ get_or-set_same vs i u nought pair_in ∙ eu ∙ ap new (sym e)
+        ]
 
-        within : i < length vs
-        within = omega (arith, number_of-lt (partner w), ap (λ k. 2 ^ k) (pairs.len w lw), len, old.0)
+        others : (x : Word) → length x ≡ n → (moves x ≡ true → key x ≢ place) → get_or (set (set vs i u) place v) (number_of x) nought ≡ get_or vs (number_of x) nought
+        others x l ne =
+            get_or-set_other (set vs i u) place (number_of x) v nought (λ e. let s = is_w x l e in ne (ap moves s ∙ next.moved) (ap key s ∙ next.now))
+            ∙ get_or-set_other vs i (number_of x) u nought
+            (λ e. let s = is_partner x l e in ne (ap moves s ∙ pairs.moved w lw ∙ next.moved) (ap key s ∙ pairs.one_key w lw ∙ next.now))
 
-        go : (x : Word) → length x ≡ n → (number_of x ≡ place) ⊎ (number_of x ≢ place) → (number_of x ≡ i) ⊎ (number_of x ≢ i)
-            → get_or (set (set vs i u) place v) (number_of x) nought ≡ Pass top partner first second f next x
-        go x l (inl e) o =
-            ap (λ k. get_or (set (set vs i u) place v) k nought) e
-            ∙ get_or-set_same (set vs i u) place v nought (omega (arith, lt, length-set vs i u)) ∙ ev ∙ ap₂ second old.1 old.2
-            ∙ ap (λ b. cond b (second (f (partner w)) (f w)) (cond (top (partner w) && nat_lt (number_of (partner w)) next) (first (f w) (f (partner w))) (f w))) (sym (ap₂ (λ a b. a && b) on less))
-            ∙ ap (Pass top partner first second f next) (sym (is_w x l e))
-        go x l (inr ne) (inl e) =
-            ap (λ k. get_or (set (set vs i u) place v) k nought) e
-            ∙ get_or-set_other (set vs i u) place i v nought differ
-            ∙ get_or-set_same vs i u nought within ∙ eu ∙ ap₂ first old.1 old.2
-            ∙ ap (λ y. first (f (partner w)) (f y)) (sym (pairs.back w lw))
-            ∙ ap₂ (λ a b. cond a (second (f (partner (partner w))) (f (partner w))) (cond b (first (f (partner w)) (f (partner (partner w)))) (f (partner w))))
-            (sym (ap (λ b. b && nat_lt (number_of (partner w)) next) (pairs.apart w lw on)))
-            (sym (ap (λ x. top x && nat_lt (number_of x) next) (pairs.back w lw) ∙ ap₂ (λ a b. a && b) on less))
-            ∙ ap (Pass top partner first second f next) (sym (is_partner x l e))
-        go x l (inr ne) (inr nor) =
-            get_or-set_other (set vs i u) place (number_of x) v nought ne ∙ get_or-set_other vs i (number_of x) u nought nor
-            ∙ ap (λ l. get_or l (number_of x) nought) is ∙ at_number (Pass top partner first second f place) n x nought l
-            ∙ still place x at l (λ t. ne)
-            (λ t e. nor (ap number_of (sym (pairs.back x l) ∙ ap partner (is_w (partner x) (pairs.len x l) e)) ∙ old.0))
+swapped : (vs : List Cyclotomic) (i j : ℕ) → i < length vs → j < length vs → swap vs i j ≡ set (set vs i (get_or vs j nought)) j (get_or vs i nought)
+swapped [] i j lt less = absurd (omega (arith, lt))
+swapped (v ∷ vs) i j lt less = ap₂ (λ x y. set (set (v ∷ vs) i x) j y) (get_or_default (v ∷ vs) j v nought less) (get_or_default (v ∷ vs) i v nought lt)
 
-  -- two values exchanged
-  pub pass_swapped : (place i : ℕ) (vs ws : List Cyclotomic) → ((x y : Cyclotomic) → (first x y ≡ y) × (second x y ≡ x)) → Covers m place → place < length vs → top (word_of n place) ≡ true
-      → i + high ≡ place + low → ws ≡ swap vs i place → vs ≡ map (Pass top partner first second f place) (words n) → ws ≡ map (Pass top partner first second f (bit_or (place + 1) m)) (words n)
-  pass_swapped place i vs ws swaps at lt on ei es is =
-      es ∙ swapped vs i place within lt ∙ pass_more place i vs (get_or vs place nought) (get_or vs i nought) at lt on ei (sym (swaps _ _).0) (sym (swaps _ _).1) is where
-        within : i < length vs
-        within = omega (arith, number_of-lt (partner (word_of n place)), ap (λ k. 2 ^ k) (pairs.len (word_of n place) (length-word_of n place)), ap length is ∙ length-map_words (Pass top partner first second f place) n, (pass_own place i vs lt on ei is).0)
-
-        swapped : (vs : List Cyclotomic) (i j : ℕ) → i < length vs → j < length vs → swap vs i j ≡ set (set vs i (get_or vs j nought)) j (get_or vs i nought)
-        swapped [] i j lt less = absurd (omega (arith, lt))
-        swapped (v ∷ vs) i j lt less = ap₂ (λ x y. set (set (v ∷ vs) i x) j y) (get_or_default (v ∷ vs) j v nought less) (get_or_default (v ∷ vs) i v nought lt)
-
-  pub pass_end : (place : ℕ) (vs : List Cyclotomic) → length vs ≤ place → vs ≡ map (Pass top partner first second f place) (words n) → vs ≡ map (Passed top partner first second f) (words n)
-  pass_end place vs end is = is ∙ same_map _ _ n (λ x l.
-      ap₂ (λ a b. cond a (second (f (partner x)) (f x)) (cond b (first (f x) (f (partner x))) (f x))) (done x l) (done (partner x) (pairs.len x l))) where
-        done : (x : Word) → length x ≡ n → (top x && nat_lt (number_of x) place) ≡ top x
-        done x l = go (top x) where
-          below : number_of x < place
-          below = omega (arith, number_of-lt x, ap (λ k. 2 ^ k) l, ap length is ∙ length-map_words (Pass top partner first second f place) n, end)
-
-          go : (b : Bool) → (b && nat_lt (number_of x) place) ≡ b
-          go false = refl
-          go true = lt-ltb (number_of x) place below
+-- two values exchanged
+pair_swapped : (n m : ℕ) (moves : Word → Bool) (key : Word → ℕ) (partner : Word → Word) → ArePairs n m moves key partner → (f : Word → Cyclotomic) (place i : ℕ) (vs ws : List Cyclotomic) → Covers m place
+    → place < length vs → IsNext n moves key partner place i → ws ≡ swap vs i place → vs ≡ map (Swept moves key f (λ x. f (partner x)) place) (words n)
+    → ws ≡ map (Swept moves key f (λ x. f (partner x)) (bit_or (place + 1) m)) (words n)
+pair_swapped n m moves key partner pairs f place i vs ws at lt next es is =
+    let own = pair_own n m moves key partner pairs f (λ x. f (partner x)) place i vs lt next is in
+    es ∙ swapped vs i place (pair_in n m moves key partner pairs f (λ x. f (partner x)) place i vs lt next is) lt
+    ∙ pair_more n m moves key partner pairs f (λ x. f (partner x)) place i vs lt next is (get_or vs place nought) (get_or vs i nought) at
+    (own.1 ∙ ap f (sym (pairs.back (word_of n place) (length-word_of n place)))) own.0
 
 number_of-set : (x : Word) (q : ℕ) → q < length x → number_of (set x q true) ≡ number_of (set x q false) + 2 ^ (length x - 1 - q)
 unfolding number_of
@@ -220,135 +113,133 @@ same x q c g = ap (set x q) (sym g) ∙ set-get_or x q false
 
 -- ---- words that differ on one line
 
-abbrev pub FlipTop : (Word → Bool) → ℕ → Word → Bool
-FlipTop on q x = on x && bit_of x q
+abbrev pub turned : ℕ → Word → Word
+turned q x = set x q (not (bit_of x q))
 
-abbrev pub Flip : (Word → Bool) → ℕ → Word → Word
-Flip on q x = set x q (xor (on x) (bit_of x q))
-
-pub flip_pairs : (n m q b : ℕ) (on : Word → Bool) → q < n → b ≡ 2 ^ (n - 1 - q) → ((x : Word) → length x ≡ n → covers m (number_of x) ≡ FlipTop on q x) → ((x : Word) (c : Bool) → on (set x q c) ≡ on x)
-    → ArePairs n m b 0 (FlipTop on q) (Flip on q)
-flip_pairs n m q b on lt e held free = record {
-  len = λ x l. length-set x q _ ∙ l;
-  back = λ x l. one_back x q _ _ (ap₂ xor (free x _) (here x q _ (omega (arith, lt, l))) ∙ xor_back (on x) (bit_of x q));
-  apart = λ x l t. go x l (on x) (bit_of x q) refl refl t;
-  apart_by = λ x l t. down x l (on x) (bit_of x q) refl refl t;
-  marked = λ x l t. held x l ∙ t;
-} where
-  go : (x : Word) → length x ≡ n → (o c : Bool) → on x ≡ o → bit_of x q ≡ c → (o && c) ≡ true → FlipTop on q (set x q (xor o c)) ≡ false
-  go x l true true h g t = ap₂ (λ a b. a && b) (free x false ∙ h) (here x q false (omega (arith, lt, l)))
-  go x l true false h g t = absurd (false≢true t)
-  go x l false c h g t = absurd (false≢true t)
-
-  down : (x : Word) → length x ≡ n → (o c : Bool) → on x ≡ o → bit_of x q ≡ c → (o && c) ≡ true → number_of (set x q (xor o c)) + b ≡ number_of x + 0
-  down x l true true h g t =
-      omega (arith, number_of-set x q (omega (arith, lt, l)), ap (λ k. 2 ^ (k - 1 - q)) l, e, ap number_of (same x q true g))
-  down x l true false h g t = absurd (false≢true t)
-  down x l false c h g t = absurd (false≢true t)
-
--- a pass that exchanges their values
-pub flipped_words : (n q : ℕ) (on : Word → Bool) (f : Word → Cyclotomic) → ((x : Word) (c : Bool) → on (set x q c) ≡ on x) → q < n
-    → map (Passed (FlipTop on q) (Flip on q) (λ u v. v) (λ u v. u) f) (words n) ≡ map (λ x. f (Flip on q x)) (words n)
-flipped_words n q on f free lt = same_map _ _ n (λ x l. go x l (on x) (bit_of x q) refl refl) where
-  go : (x : Word) → length x ≡ n → (o c : Bool) → on x ≡ o → bit_of x q ≡ c
-      → cond (o && c) (f (set x q (xor o c))) (cond (FlipTop on q (set x q (xor o c))) (f (set x q (xor o c))) (f x)) ≡ f (set x q (xor o c))
-  go x l true true h g = refl
-  go x l true false h g =
-      ap (λ b. cond b (f (set x q true)) (f x)) (ap₂ (λ a b. a && b) (free x true ∙ h) (here x q true (omega (arith, lt, l))))
-  go x l false true h g = ap (λ y. cond (FlipTop on q y) (f y) (f x)) (same x q true g) ∙ ap (λ o. cond (o && bit_of x q) (f x) (f x)) h ∙ ap f (sym (same x q true g))
-  go x l false false h g = ap (λ y. cond (FlipTop on q y) (f y) (f x)) (same x q false g) ∙ ap (λ o. cond (o && bit_of x q) (f x) (f x)) h ∙ ap f (sym (same x q false g))
-
--- H
-pub mixed_words : (n q : ℕ) (f : Word → Cyclotomic) → q < n
-    → map (Passed (FlipTop (λ x. true) q) (Flip (λ x. true) q) plus minus f) (words n) ≡ map (mixed_at q f) (words n)
-unfolding mixed_at
-mixed_words n q f lt = same_map _ _ n (λ x l. go x l (bit_of x q) refl) where
-  go : (x : Word) → length x ≡ n → (c : Bool) → bit_of x q ≡ c
-      → cond c (minus (f (set x q (xor true c))) (f x)) (cond (bit_of (set x q (xor true c)) q) (plus (f x) (f (set x q (xor true c)))) (f x))
-      ≡ cond c (minus (f (set x q false)) (f (set x q true))) (plus (f (set x q false)) (f (set x q true)))
-  go x l true g = ap (λ y. minus (f (set x q false)) (f y)) (sym (same x q true g))
-  go x l false g =
-      ap (λ b. cond b (plus (f x) (f (set x q true))) (f x)) (here x q true (omega (arith, lt, l))) ∙ ap (λ y. plus (f y) (f (set x q true))) (sym (same x q false g))
-
--- the word at a place of the mask passes
-pub passes_at : (n m place : ℕ) (top : Word → Bool) → ((x : Word) → length x ≡ n → covers m (number_of x) ≡ top x) → Covers m place → place < 2 ^ n → top (word_of n place) ≡ true
-passes_at n m place top held at lt =
-    sym (held (word_of n place) (length-word_of n place)) ∙ ap (covers m) (number_of-word_of_small n place lt) ∙ eq-eqb _ place at
+abbrev pub top : ℕ → Word → ℕ
+top q x = number_of (set x q true)
 
 line_held : (n q b : ℕ) → q < n → b ≡ 2 ^ (n - 1 - q) → (x : Word) → length x ≡ n → covers b (number_of x) ≡ bit_of x q
 line_held n q b lt e x l = ap (λ m. covers m (number_of x)) e ∙ covers_line n q x l lt
 
-pub line_pairs : (n q b : ℕ) → q < n → b ≡ 2 ^ (n - 1 - q) → ArePairs n b b 0 (FlipTop (λ x. true) q) (Flip (λ x. true) q)
-line_pairs n q b lt e = flip_pairs n b q b (λ x. true) lt e (line_held n q b lt e) (λ x c. refl)
+mask_held : (n mask q b : ℕ) (on : Word → Bool) → Marks mask n q on → q < n → b ≡ 2 ^ (n - 1 - q) → (x : Word) → length x ≡ n → covers (bit_or mask b) (number_of x) ≡ (on x && bit_of x q)
+mask_held n mask q b on marks lt e x l = covers_both mask b (number_of x) ∙ ap₂ (λ c d. c && d) (marks.held x l) (line_held n q b lt e x l)
 
--- the values that the pass of an H has come to
-abbrev pub Mixing : ℕ → ℕ → List Cyclotomic → List Cyclotomic → ℕ → Type 0
-Mixing n q before after place =
-    (f : Word → Cyclotomic) → before ≡ map f (words n) → after ≡ map (Pass (FlipTop (λ x. true) q) (Flip (λ x. true) q) plus minus f place) (words n)
+pub flip_pairs : (n m q : ℕ) (on : Word → Bool) → q < n → ((x : Word) → length x ≡ n → covers m (number_of x) ≡ (on x && bit_of x q)) → ((x : Word) (c : Bool) → on (set x q c) ≡ on x)
+    → ArePairs n m on (top q) (turned q)
+flip_pairs n m q on lt held free = record {
+  sweeps = record {
+    within = λ x l t. omega (arith, number_of-lt (set x q true), ap (λ k. 2 ^ k) (length-set x q true ∙ l));
+    marked = λ x l t. held (set x q true) (length-set x q true ∙ l) ∙ ap₂ (λ c d. c && d) (free x true ∙ t) (here x q true (omega (arith, lt, l)));
+  };
+  len = λ x l. length-set x q _ ∙ l;
+  back = λ x l. one_back x q _ _ (ap not (here x q _ (omega (arith, lt, l))) ∙ not_not (bit_of x q));
+  moved = λ x l. free x _;
+  one_key = λ x l. ap number_of (set-set x q _ true);
+  either = λ x l t. go x (bit_of x q) refl;
+} where
+  go : (x : Word) (c : Bool) → bit_of x q ≡ c → (top q x ≡ number_of x) ⊎ (top q x ≡ number_of (set x q (not c)))
+  go x true g = inl (ap number_of (same x q true g))
+  go x false g = inr refl
 
-pub mixing_more : (n q b place : ℕ) (before after : List Cyclotomic) (u v : Cyclotomic) → q < n → b ≡ 2 ^ (n - 1 - q) → Covers b place → place < length after
-    → u ≡ plus (get_or after (place - b) nought) (get_or after place nought) → v ≡ minus (get_or after (place - b) nought) (get_or after place nought)
-    → Mixing n q before after place → Mixing n q before (set (set after (place - b) u) place v) (bit_or (place + 1) b)
-mixing_more n q b place before after u v less e at lt eu ev is f es =
-    let now = is f es in
-    pass_more n b b 0 _ _ (line_pairs n q b less e) plus minus f place (place - b) after u v at lt
-    (passes_at n b place (λ x. bit_of x q) (line_held n q b less e) at (omega (arith, lt, ap length now, length-map_words (Pass (FlipTop (λ x. true) q) (Flip (λ x. true) q) plus minus f place) n)))
-    (omega (arith, at, le_or_r place b)) eu ev now
-
--- the values of the next pair are as small as they were
-pub pair_small : (n q b place most wide : ℕ) (before after : List Cyclotomic) (x y : Cyclotomic) → q < n → b ≡ 2 ^ (n - 1 - q) → length before ≡ 2 ^ n → most ≤ wide → Covers b place
-    → place < length after → All (AreSmall most) before → x ≡ get_or after (place - b) x → y ≡ get_or after place y → Mixing n q before after place → AreSmall wide x × AreSmall wide y
-pair_small n q b place most wide before after x y less e len le at lt all ex ey mixing =
-    let f : Word → Cyclotomic = λ x. get_or before (number_of x) nought in
-    let now = mixing f (as_map n before nought len) in
-    let whole : length after ≡ 2 ^ n = ap length now ∙ length-map_words (Pass (FlipTop (λ x. true) q) (Flip (λ x. true) q) plus minus f place) n in
+-- the word at a place of the mask is the higher one
+flip_next : (n m q b place : ℕ) (on : Word → Bool) → q < n → b ≡ 2 ^ (n - 1 - q) → ((x : Word) → length x ≡ n → covers m (number_of x) ≡ (on x && bit_of x q)) → Covers m place → place < 2 ^ n
+    → IsNext n on (top q) (turned q) place (place - b)
+flip_next n m q b place on lt e held at within =
     let w : Word = word_of n place in
-    let ew : number_of w ≡ place = number_of-word_of_small n place (omega (arith, lt, whole)) in
-    let own = pass_own n b b 0 _ _ (line_pairs n q b less e) plus minus f place (place - b) after lt
-    (passes_at n b place (λ x. bit_of x q) (line_held n q b less e) at (omega (arith, lt, whole))) (omega (arith, at, le_or_r place b)) now in
-    let small : (k : ℕ) → k < length before → AreSmall wide (get_or before k nought) = λ k h. small_wider most wide _ le (All-get_or (AreSmall most) before k nought h all) in
-    let low = get_or_read after (place - b) x (omega (arith, lt)) ex nought ∙ own.1 ∙ ap (λ k. get_or before k nought) own.0 in
-    let high = get_or_read after place y lt ey nought ∙ own.2 ∙ ap (λ k. get_or before k nought) ew in
-    (subst (AreSmall wide) (sym low) (small (place - b) (omega (arith, lt, whole, len))), subst (AreSmall wide) (sym high) (small place (omega (arith, lt, whole, len))))
+    let lw : length w ≡ n = length-word_of n place in
+    let ew : number_of w ≡ place = number_of-word_of_small n place within in
+    let s = and_parts (on w) (bit_of w q) (sym (held w lw) ∙ ap (covers m) ew ∙ eq-eqb _ place at) in
+    let own = ap number_of (same w q true s.1) in
+    let sum = number_of-set w q (omega (arith, lt, lw)) in
+    let p = ap (λ k. 2 ^ (k - 1 - q)) lw in
+    let low : number_of (turned q w) ≡ number_of (set w q false) = ap (λ c. number_of (set w q (not c))) s.1 in
+    let some : 2 ^ 0 ≤ 2 ^ (n - 1 - q) = pow_mono (let h : 0 ≤ n - 1 - q = omega arith in h) in
+    record { moved = s.0; now = own ∙ ew; other = omega (arith, own, ew, sum, p, e, low); differ = λ z. omega (arith, z, own, ew, sum, p, e, some) }
 
--- the values that a pass of a flip has come to
+-- H: what its pass has come to
+abbrev pub Mixing : ℕ → ℕ → List Cyclotomic → List Cyclotomic → ℕ → Type 0
+Mixing n q before after place = (f : Word → Cyclotomic) → before ≡ map f (words n) → after ≡ map (Swept (λ x. true) (top q) f (mixed_at q f) place) (words n)
+
+line_pairs : (n q b : ℕ) → q < n → b ≡ 2 ^ (n - 1 - q) → ArePairs n b (λ x. true) (top q) (turned q)
+line_pairs n q b lt e = flip_pairs n b q (λ x. true) lt (line_held n q b lt e) (λ x c. refl)
+
+pub mixing_start : (n q b : ℕ) (before : List Cyclotomic) → q < n → b ≡ 2 ^ (n - 1 - q) → Mixing n q before before b
+mixing_start n q b before lt e f is = is ∙ sweep_start n b (λ x. true) (top q) (line_pairs n q b lt e).sweeps f (mixed_at q f)
+
+pub mixing_end : (n q b place : ℕ) (before after : List Cyclotomic) → q < n → b ≡ 2 ^ (n - 1 - q) → length after ≤ place → Mixing n q before after place
+    → (f : Word → Cyclotomic) → before ≡ map f (words n) → after ≡ map (mixed_at q f) (words n)
+mixing_end n q b place before after lt e end is f ef = sweep_end n b (λ x. true) (top q) (line_pairs n q b lt e).sweeps f (mixed_at q f) place after end (is f ef)
+
+module _ (n q b place : ℕ) (before after : List Cyclotomic) (less : q < n) (e : b ≡ 2 ^ (n - 1 - q)) (at : Covers b place) (len : length after ≡ 2 ^ n) (lt : place < length after) (mixing : Mixing n q before after place) where
+  next : IsNext n (λ x. true) (top q) (turned q) place (place - b)
+  next = flip_next n b q b place (λ x. true) less e (line_held n q b less e) at (omega (arith, len, lt))
+
+  pub mixing_more : (u v : Cyclotomic) → u ≡ plus (get_or after (place - b) nought) (get_or after place nought) → v ≡ minus (get_or after (place - b) nought) (get_or after place nought)
+      → Mixing n q before (set (set after (place - b) u) place v) (bit_or (place + 1) b)
+  unfolding mixed_at
+  mixing_more u v eu ev f ef =
+      let w : Word = word_of n place in
+      let own = pair_own n b (λ x. true) (top q) (turned q) (line_pairs n q b less e) f (mixed_at q f) place (place - b) after lt next (mixing f ef) in
+      let lw : length w ≡ n = length-word_of n place in
+      let bit : bit_of w q ≡ true = sym (line_held n q b less e w lw) ∙ ap (covers b) (number_of-word_of_small n place (omega (arith, len, lt))) ∙ eq-eqb _ place at in
+      let low : f (turned q w) ≡ f (set w q false) = ap (λ c. f (set w q (not c))) bit in
+      let high : f w ≡ f (set w q true) = ap f (sym (same w q true bit)) in
+      let off : bit_of (turned q w) q ≡ false = here w q _ (omega (arith, less, lw)) ∙ ap not bit in
+      pair_more n b (λ x. true) (top q) (turned q) (line_pairs n q b less e) f (mixed_at q f) place (place - b) after lt next (mixing f ef) u v at
+      (eu ∙ ap₂ plus (own.0 ∙ low) (own.1 ∙ high)
+      ∙ sym (ap (λ c. cond c (minus (f (set (turned q w) q false)) (f (set (turned q w) q true))) (plus (f (set (turned q w) q false)) (f (set (turned q w) q true)))) off
+      ∙ ap₂ plus (ap f (set-set w q _ false)) (ap f (set-set w q _ true))))
+      (ev ∙ ap₂ minus (own.0 ∙ low) (own.1 ∙ high) ∙ sym (ap (λ c. cond c (minus (f (set w q false)) (f (set w q true))) (plus (f (set w q false)) (f (set w q true)))) bit))
+
+  -- the values of the next pair are as small as they were
+  pub pair_small : (most wide : ℕ) (x y : Cyclotomic) → length before ≡ 2 ^ n → most ≤ wide → All (AreSmall most) before → x ≡ get_or after (place - b) x → y ≡ get_or after place y → AreSmall wide x × AreSmall wide y
+  pair_small most wide x y size le all ex ey =
+      let f : Word → Cyclotomic = λ x. get_or before (number_of x) nought in
+      let own = pair_own n b (λ x. true) (top q) (turned q) (line_pairs n q b less e) f (mixed_at q f) place (place - b) after lt next (mixing f (as_map n before nought size)) in
+      let small : (k : ℕ) → k < length before → AreSmall wide (get_or before k nought) = λ k h. small_wider most wide _ le (All-get_or (AreSmall most) before k nought h all) in
+      let low = get_or_read after (place - b) x (omega (arith, lt)) ex nought ∙ own.0 ∙ ap (λ k. get_or before k nought) next.other in
+      let high = get_or_read after place y lt ey nought ∙ own.1 ∙ ap (λ k. get_or before k nought) (number_of-word_of_small n place (omega (arith, len, lt))) in
+      (subst (AreSmall wide) (sym low) (small (place - b) (omega (arith, lt, len, size))), subst (AreSmall wide) (sym high) (small place (omega (arith, lt, len, size))))
+
+-- a bit changed: what its pass has come to
 abbrev pub Flipping : ℕ → ℕ → ℕ → List Cyclotomic → List Cyclotomic → ℕ → Type 0
 Flipping n mask q before after place =
-    (on : Word → Bool) → Marks mask n q on → (f : Word → Cyclotomic) → before ≡ map f (words n)
-    → after ≡ map (Pass (FlipTop on q) (Flip on q) (λ u v. v) (λ u v. u) f place) (words n)
+    (on : Word → Bool) → Marks mask n q on → (f : Word → Cyclotomic) → before ≡ map f (words n) → after ≡ map (Swept on (top q) f (λ x. f (turned q x)) place) (words n)
 
-flip_held : (n mask q b : ℕ) (on : Word → Bool) → Marks mask n q on → q < n → b ≡ 2 ^ (n - 1 - q) → (x : Word) → length x ≡ n → covers (bit_or mask b) (number_of x) ≡ FlipTop on q x
-flip_held n mask q b on marks lt e x l = covers_both mask b (number_of x) ∙ ap₂ (λ c d. c && d) (marks.held x l) (line_held n q b lt e x l)
+module _ (n mask q b : ℕ) (before : List Cyclotomic) (lt : q < n) (e : b ≡ 2 ^ (n - 1 - q)) where
+  marked_pairs : (on : Word → Bool) → Marks mask n q on → ArePairs n (bit_or mask b) on (top q) (turned q)
+  marked_pairs on marks = flip_pairs n (bit_or mask b) q on lt (mask_held n mask q b on marks lt e) marks.free
 
-pub flipping_start : (n mask q b : ℕ) (before : List Cyclotomic) → q < n → b ≡ 2 ^ (n - 1 - q) → Flipping n mask q before before (bit_or mask b)
-flipping_start n mask q b before lt e on marks f is =
-    is ∙ pass_start n (bit_or mask b) b 0 _ _ (flip_pairs n (bit_or mask b) q b on lt e (flip_held n mask q b on marks lt e) marks.free) (λ u v. v) (λ u v. u) f
+  pub flipping_start : Flipping n mask q before before (bit_or mask b)
+  flipping_start on marks f is = is ∙ sweep_start n (bit_or mask b) on (top q) (marked_pairs on marks).sweeps f (λ x. f (turned q x))
 
-pub flipping_more : (n mask q b place : ℕ) (before after now : List Cyclotomic) → q < n → b ≡ 2 ^ (n - 1 - q) → Covers (bit_or mask b) place → place < length after
-    → now ≡ swap after (place - b) place → Flipping n mask q before after place → Flipping n mask q before now (bit_or (place + 1) (bit_or mask b))
-flipping_more n mask q b place before after now less e at lt es is on marks f ef =
-    let m : ℕ = bit_or mask b in
-    let held = flip_held n mask q b on marks less e in
-    pass_swapped n m b 0 _ _ (flip_pairs n m q b on less e held marks.free) (λ u v. v) (λ u v. u) f place (place - b) after now (λ x y. (refl, refl)) at lt
-    (passes_at n m place (FlipTop on q) held at (omega (arith, lt, ap length (is on marks f ef), length-map_words (Pass (FlipTop on q) (Flip on q) (λ u v. v) (λ u v. u) f place) n)))
-    (omega (arith, at, le_or_r place m, le_or_r mask b)) es (is on marks f ef)
+  pub flipping_more : (place : ℕ) (after now : List Cyclotomic) → Covers (bit_or mask b) place → place < length after → now ≡ swap after (place - b) place
+      → Flipping n mask q before after place → Flipping n mask q before now (bit_or (place + 1) (bit_or mask b))
+  flipping_more place after now at less es is on marks f ef =
+      pair_swapped n (bit_or mask b) on (top q) (turned q) (marked_pairs on marks) f place (place - b) after now at less
+      (flip_next n (bit_or mask b) q b place on lt e (mask_held n mask q b on marks lt e) at (omega (arith, less, ap length (is on marks f ef), length-map_words (Swept on (top q) f (λ x. f (turned q x)) place) n))) es (is on marks f ef)
 
-pub flipping_end : (n mask q b place : ℕ) (before after : List Cyclotomic) → q < n → b ≡ 2 ^ (n - 1 - q) → length after ≤ place → Flipping n mask q before after place
-    → (on : Word → Bool) → Marks mask n q on → (f : Word → Cyclotomic) → before ≡ map f (words n) → after ≡ map (λ x. f (Flip on q x)) (words n)
-flipping_end n mask q b place before after lt e end is on marks f ef =
-    pass_end n (bit_or mask b) b 0 _ _ (flip_pairs n (bit_or mask b) q b on lt e (flip_held n mask q b on marks lt e) marks.free) (λ u v. v) (λ u v. u) f place after end (is on marks f ef)
-    ∙ flipped_words n q on f marks.free lt
+  pub flipping_end : (place : ℕ) (after : List Cyclotomic) → length after ≤ place → Flipping n mask q before after place
+      → (on : Word → Bool) → Marks mask n q on → (f : Word → Cyclotomic) → before ≡ map f (words n) → after ≡ map (λ x. f (set x q (xor (on x) (bit_of x q)))) (words n)
+  flipping_end place after end is on marks f ef =
+      sweep_end n (bit_or mask b) on (top q) (marked_pairs on marks).sweeps f (λ x. f (turned q x)) place after end (is on marks f ef) ∙ same_map _ _ n (λ x l. go x (on x) (bit_of x q) refl) where
+        go : (x : Word) (o c : Bool) → bit_of x q ≡ c → cond o (f (set x q (not c))) (f x) ≡ f (set x q (xor o c))
+        go x true true g = refl
+        go x true false g = refl
+        go x false true g = ap f (sym (same x q true g))
+        go x false false g = ap f (sym (same x q false g))
 
 -- ---- words that differ on two lines
 
-abbrev pub ExchangeTop : (Word → Bool) → ℕ → ℕ → Word → Bool
-ExchangeTop on a b x = (on x && bit_of x a) && not (bit_of x b)
+abbrev pub differs : (Word → Bool) → ℕ → ℕ → Word → Bool
+differs on a b x = on x && xor (bit_of x a) (bit_of x b)
 
-abbrev pub Exchange : (Word → Bool) → ℕ → ℕ → Word → Word
-Exchange on a b x = cond (on x) (goes_to (Swap a b) x) x
+abbrev pub upper : ℕ → ℕ → Word → ℕ
+upper a b x = number_of (set (set x a true) b false)
 
 -- the number of the partner
-pub exchanged_number : (n a b p q : ℕ) (x : Word) → OpFitsIn (Swap a b) n → p ≡ 2 ^ (n - 1 - a) → q ≡ 2 ^ (n - 1 - b) → length x ≡ n → bit_of x a ≡ true → bit_of x b ≡ false
+exchanged_number : (n a b p q : ℕ) (x : Word) → OpFitsIn (Swap a b) n → p ≡ 2 ^ (n - 1 - a) → q ≡ 2 ^ (n - 1 - b) → length x ≡ n → bit_of x a ≡ true → bit_of x b ≡ false
     → number_of (goes_to (Swap a b) x) + p ≡ number_of x + q
 exchanged_number n a b p q x fits e g l on off =
     let y : Word = set x a false in
@@ -360,104 +251,106 @@ exchanged_number n a b p q x fits e g l on off =
     let is = ap₂ (λ c d. number_of (set (set x a c) b d)) off on in
     omega (arith, upper, lower, own, still, is, ap (λ k. 2 ^ (k - 1 - a)) l, ap (λ k. 2 ^ (k - 1 - b)) ly, e, g)
 
-pub exchange_pairs : (n mask a b p q : ℕ) (on : Word → Bool) → OpFitsIn (Swap a b) n → p ≡ 2 ^ (n - 1 - a) → q ≡ 2 ^ (n - 1 - b) → Marks mask n a on → Marks mask n b on
-    → ArePairs n (bit_or mask p) p q (ExchangeTop on a b) (Exchange on a b)
-exchange_pairs n mask a b p q on fits e g one two = record {
-  len = λ x l. kept x (on x) ∙ l;
-  back = λ x l. turned x l (on x) refl;
-  apart = λ x l t.
-      let s = parts x t in
-      ap (λ o. ExchangeTop on a b (cond o (goes_to (Swap a b) x) x)) s.0
-      ∙ ap (λ d. (on (goes_to (Swap a b) x) && d) && not (bit_of (goes_to (Swap a b) x) b))
-      (there (set x a (bit_of x b)) b a (bit_of x a) fits.2 ∙ here x a (bit_of x b) (omega (arith, fits.0, l)) ∙ s.2)
-      ∙ none (on (goes_to (Swap a b) x)) (not (bit_of (goes_to (Swap a b) x) b));
-  apart_by = λ x l t. let s = parts x t in ap (λ o. number_of (cond o (goes_to (Swap a b) x) x) + p) s.0 ∙ exchanged_number n a b p q x fits e g l s.1 s.2;
-  marked = λ x l t. flip_held n mask a p on one fits.0 e x l ∙ (and_parts (on x && bit_of x a) (not (bit_of x b)) t).0;
-} where
-  parts : (x : Word) → ExchangeTop on a b x ≡ true → (on x ≡ true) × (bit_of x a ≡ true) × (bit_of x b ≡ false)
-  parts x t = let s = and_parts (on x && bit_of x a) (not (bit_of x b)) t in let r = and_parts (on x) (bit_of x a) s.0 in (r.0, r.1, not-true _ s.1)
-
-  none : (o c : Bool) → ((o && false) && c) ≡ false
-  none true c = refl
-  none false c = refl
-
-  kept : (x : Word) (c : Bool) → length (cond c (goes_to (Swap a b) x) x) ≡ length x
-  kept x true = length-set (set x a (bit_of x b)) b (bit_of x a) ∙ length-set x a (bit_of x b)
-  kept x false = refl
-
-  turned : (x : Word) → length x ≡ n → (c : Bool) → on x ≡ c → Exchange on a b (cond c (goes_to (Swap a b) x) x) ≡ x
-  turned x l true h =
-      ap (λ c. cond c (goes_to (Swap a b) (goes_to (Swap a b) x)) (goes_to (Swap a b) x)) (two.free (set x a (bit_of x b)) (bit_of x a) ∙ one.free x (bit_of x b) ∙ h)
-      ∙ goes_back (Swap a b) x (subst (OpFitsIn (Swap a b)) (sym l) fits)
-  turned x l false h = ap (λ c. cond c (goes_to (Swap a b) x) x) h
-
--- the values that a pass of an exchange has come to
+-- an exchange: what its pass has come to
 abbrev pub Exchanging : ℕ → ℕ → ℕ → ℕ → List Cyclotomic → List Cyclotomic → ℕ → Type 0
 Exchanging n mask a b before after place =
     (on : Word → Bool) → Marks mask n a on → Marks mask n b on → (f : Word → Cyclotomic) → before ≡ map f (words n)
-    → after ≡ map (Pass (ExchangeTop on a b) (Exchange on a b) (λ u v. v) (λ u v. u) f place) (words n)
+    → after ≡ map (Swept (differs on a b) (upper a b) f (λ x. f (goes_to (Swap a b) x)) place) (words n)
 
-exchange_in : (n mask a b p q place : ℕ) → OpFitsIn (Swap a b) n → p ≡ 2 ^ (n - 1 - a) → q ≡ 2 ^ (n - 1 - b) → Covers (bit_or mask p) place → place < 2 ^ n → bit_or place q ≢ place
-    → place - p + q < 2 ^ n
-exchange_in n mask a b p q place fits e g at lt ne =
-    let w : Word = word_of n place in
-    let lw : length w ≡ n = length-word_of n place in
-    let ew : number_of w ≡ place = number_of-word_of_small n place lt in
-    let on : bit_of w a ≡ true = sym (line_held n a p fits.0 e w lw) ∙ ap (covers p) ew ∙ (and_parts _ _ (sym (covers_both mask p place) ∙ eq-eqb _ place at)).1 in
-    let off : bit_of w b ≡ false = sym (line_held n b q fits.1 g w lw) ∙ ap (covers q) ew ∙ ne_eqb _ place ne in
-    omega (arith, exchanged_number n a b p q w fits e g lw on off, number_of-lt (goes_to (Swap a b) w), ap (λ k. 2 ^ k) (length-goes_to (Swap a b) w ∙ lw), ew, at, le_or_r place (bit_or mask p), le_or_r mask p)
+module _ (n mask a b p q : ℕ) (before : List Cyclotomic) (fits : OpFitsIn (Swap a b) n) (e : p ≡ 2 ^ (n - 1 - a)) (g : q ≡ 2 ^ (n - 1 - b)) where
+  in_a : (x : Word) (c : Bool) → length x ≡ n → bit_of (set x a c) a ≡ c
+  in_a x c l = here x a c (omega (arith, fits.0, l))
 
-pub swap_in : (n mask a b p q place : ℕ) (after : List Cyclotomic) → OpFitsIn (Swap a b) n → p ≡ 2 ^ (n - 1 - a) → q ≡ 2 ^ (n - 1 - b) → Covers (bit_or mask p) place → length after ≡ 2 ^ n
-    → place < length after → bit_or place q ≢ place → place - p + q < length after
-swap_in n mask a b p q place after fits e g at len lt ne = let h = exchange_in n mask a b p q place fits e g at (omega (arith, len, lt)) ne in omega (arith, len)
+  in_b : (x : Word) (c d : Bool) → length x ≡ n → bit_of (set (set x a c) b d) b ≡ d
+  in_b x c d l = here (set x a c) b d (omega (arith, fits.1, l, length-set x a c))
 
-exchange_top : (n mask a b p q place : ℕ) (on : Word → Bool) → Marks mask n a on → OpFitsIn (Swap a b) n → p ≡ 2 ^ (n - 1 - a) → q ≡ 2 ^ (n - 1 - b) → Covers (bit_or mask p) place → place < 2 ^ n
-    → ExchangeTop on a b (word_of n place) ≡ not (covers q place)
-exchange_top n mask a b p q place on one fits e g at lt =
-    let w : Word = word_of n place in
-    let lw : length w ≡ n = length-word_of n place in
-    let ew : number_of w ≡ place = number_of-word_of_small n place lt in
-    ap₂ (λ s t. s && not t) (sym (flip_held n mask a p on one fits.0 e w lw) ∙ ap (covers (bit_or mask p)) ew ∙ eq-eqb _ place at) (sym (line_held n b q fits.1 g w lw) ∙ ap (covers q) ew)
+  past_b : (x : Word) (c d : Bool) → length x ≡ n → bit_of (set (set x a c) b d) a ≡ c
+  past_b x c d l = there (set x a c) b a d fits.2 ∙ in_a x c l
 
-pub exchanging_start : (n mask a b p q : ℕ) (before : List Cyclotomic) → OpFitsIn (Swap a b) n → p ≡ 2 ^ (n - 1 - a) → q ≡ 2 ^ (n - 1 - b) → Exchanging n mask a b before before (bit_or mask p)
-exchanging_start n mask a b p q before fits e g on one two f is =
-    is ∙ pass_start n (bit_or mask p) p q _ _ (exchange_pairs n mask a b p q on fits e g one two) (λ u v. v) (λ u v. u) f
+  exchange_pairs : (on : Word → Bool) → Marks mask n a on → Marks mask n b on → ArePairs n (bit_or mask p) (differs on a b) (upper a b) (goes_to (Swap a b))
+  exchange_pairs on one two = record {
+    sweeps = record {
+      within = λ x l t. omega (arith, number_of-lt (set (set x a true) b false), ap (λ k. 2 ^ k) (length-set (set x a true) b false ∙ length-set x a true ∙ l));
+      marked = λ x l t.
+          mask_held n mask a p on one fits.0 e (set (set x a true) b false) (length-set (set x a true) b false ∙ length-set x a true ∙ l)
+          ∙ ap₂ (λ c d. c && d) (two.free (set x a true) false ∙ one.free x true ∙ (and_parts (on x) _ t).0) (past_b x true false l);
+    };
+    len = λ x l. length-goes_to (Swap a b) x ∙ l;
+    back = λ x l. goes_back (Swap a b) x (subst (OpFitsIn (Swap a b)) (sym l) fits);
+    moved = λ x l.
+        ap₂ (λ c d. c && d) (two.free (set x a (bit_of x b)) (bit_of x a) ∙ one.free x (bit_of x b))
+        (ap₂ xor (past_b x (bit_of x b) (bit_of x a) l) (in_b x (bit_of x b) (bit_of x a) l) ∙ turn (bit_of x b) (bit_of x a));
+    one_key = λ x l. ap number_of (over x (bit_of x b) (bit_of x a));
+    either = λ x l t. go x (bit_of x a) (bit_of x b) refl refl (and_parts (on x) _ t).1;
+  } where
+    turn : (c d : Bool) → xor c d ≡ xor d c
+    turn c d = grind arith
 
-pub exchanging_more : (n mask a b p q place : ℕ) (before after now : List Cyclotomic) → OpFitsIn (Swap a b) n → p ≡ 2 ^ (n - 1 - a) → q ≡ 2 ^ (n - 1 - b) → Covers (bit_or mask p) place → length after ≡ 2 ^ n
-    → place < length after → bit_or place q ≢ place → now ≡ swap after (place - p + q) place → Exchanging n mask a b before after place → Exchanging n mask a b before now (bit_or (place + 1) (bit_or mask p))
-exchanging_more n mask a b p q place before after now fits e g at len lt ne es is on one two f ef =
-    pass_swapped n (bit_or mask p) p q _ _ (exchange_pairs n mask a b p q on fits e g one two) (λ u v. v) (λ u v. u) f place (place - p + q) after now (λ x y. (refl, refl)) at lt
-    (exchange_top n mask a b p q place on one fits e g at (omega (arith, len, lt)) ∙ ap not (ne_eqb _ place ne)) (omega (arith, at, le_or_r place (bit_or mask p), le_or_r mask p)) es (is on one two f ef)
+    over : (x : Word) (c d : Bool) → set (set (set (set x a c) b d) a true) b false ≡ set (set x a true) b false
+    over x c d = let ne = fits.2 in grind (arith, set_comm, set-set)
 
-pub exchanging_skip : (n mask a b p q place : ℕ) (before after : List Cyclotomic) → OpFitsIn (Swap a b) n → p ≡ 2 ^ (n - 1 - a) → q ≡ 2 ^ (n - 1 - b) → Covers (bit_or mask p) place → length after ≡ 2 ^ n
-    → place < length after → bit_or place q ≡ place → Exchanging n mask a b before after place → Exchanging n mask a b before after (bit_or (place + 1) (bit_or mask p))
-exchanging_skip n mask a b p q place before after fits e g at len lt same is on one two f ef =
-    pass_skip n (bit_or mask p) p q _ _ (exchange_pairs n mask a b p q on fits e g one two) (λ u v. v) (λ u v. u) f place after at lt
-    (exchange_top n mask a b p q place on one fits e g at (omega (arith, len, lt)) ∙ ap not (eq-eqb _ place same)) (is on one two f ef)
+    go : (x : Word) (c d : Bool) → bit_of x a ≡ c → bit_of x b ≡ d → xor c d ≡ true → (upper a b x ≡ number_of x) ⊎ (upper a b x ≡ number_of (set (set x a d) b c))
+    go x true false h k t = inl (ap number_of (ap (λ y. set y b false) (same x a true h) ∙ same x b false k))
+    go x false true h k t = inr refl
+    go x true true h k t = absurd (false≢true t)
+    go x false false h k t = absurd (false≢true t)
 
-pub exchanging_end : (n mask a b p q place : ℕ) (before after : List Cyclotomic) → OpFitsIn (Swap a b) n → p ≡ 2 ^ (n - 1 - a) → q ≡ 2 ^ (n - 1 - b) → length after ≤ place
-    → Exchanging n mask a b before after place → (on : Word → Bool) → Marks mask n a on → Marks mask n b on → (f : Word → Cyclotomic) → before ≡ map f (words n) → after ≡ map (λ x. f (Exchange on a b x)) (words n)
-exchanging_end n mask a b p q place before after fits e g end is on one two f ef =
-    pass_end n (bit_or mask p) p q _ _ (exchange_pairs n mask a b p q on fits e g one two) (λ u v. v) (λ u v. u) f place after end (is on one two f ef)
-    ∙ same_map _ _ n (λ x l. go x l (on x) (bit_of x a) (bit_of x b) refl refl refl) where
-      E : Word → Bool → Bool → Bool → Word
-      E x o c d = cond o (set (set x a d) b c) x
+  module _ (place : ℕ) (after : List Cyclotomic) (at : Covers (bit_or mask p) place) (len : length after ≡ 2 ^ n) (lt : place < length after) where
+    abbrev v : Word
+    v = word_of n place
 
-      either : (t : Bool) (y x : Word) → y ≡ x → cond t (f y) (f x) ≡ f y
-      either true y x e = refl
-      either false y x e = ap f (sym e)
+    lv : length v ≡ n
+    lv = length-word_of n place
 
-      still : (x : Word) (c : Bool) → bit_of x a ≡ c → bit_of x b ≡ c → set (set x a c) b c ≡ x
-      still x c g h = ap (λ y. set y b c) (same x a c g) ∙ same x b c h
+    ev : number_of v ≡ place
+    ev = number_of-word_of_small n place (omega (arith, len, lt))
 
-      go : (x : Word) → length x ≡ n → (o c d : Bool) → on x ≡ o → bit_of x a ≡ c → bit_of x b ≡ d
-          → cond ((o && c) && not d) (f (E x o c d)) (cond (ExchangeTop on a b (E x o c d)) (f (E x o c d)) (f x)) ≡ f (E x o c d)
-      go x l true true false h g k = refl
-      go x l true false true h g k =
-          ap (λ t. cond t (f (set (set x a true) b false)) (f x))
-          (ap₂ (λ s t. s && not t)
-          (ap₂ (λ s t. s && t) (two.free (set x a true) false ∙ one.free x true ∙ h) (there (set x a true) b a false fits.2 ∙ here x a true (omega (arith, fits.0, l))))
-          (here (set x a true) b false (omega (arith, fits.1, l, length-set x a true))))
-      go x l true true true h g k = either (ExchangeTop on a b (set (set x a true) b true)) _ x (still x true g k)
-      go x l true false false h g k = either (ExchangeTop on a b (set (set x a false) b false)) _ x (still x false g k)
-      go x l false c d h g k = either (ExchangeTop on a b x) x x refl
+    on_a : bit_of v a ≡ true
+    on_a = sym (line_held n a p fits.0 e v lv) ∙ ap (covers p) ev ∙ (and_parts _ _ (sym (covers_both mask p place) ∙ eq-eqb _ place at)).1
+
+    on_b : bit_of v b ≡ covers q place
+    on_b = sym (line_held n b q fits.1 g v lv) ∙ ap (covers q) ev
+
+    other : bit_or place q ≢ place → number_of (goes_to (Swap a b) v) ≡ place - p + q
+    other ne = omega (arith, exchanged_number n a b p q v fits e g lv on_a (on_b ∙ ne_eqb _ place ne), ev, at, le_or_r place (bit_or mask p), le_or_r mask p)
+
+    pub swap_in : bit_or place q ≢ place → place - p + q < length after
+    swap_in ne = omega (arith, other ne, number_of-lt (goes_to (Swap a b) v), ap (λ k. 2 ^ k) (length-goes_to (Swap a b) v ∙ lv), len)
+
+    on_w : (on : Word → Bool) → Marks mask n a on → on v ≡ true
+    on_w on one = (and_parts _ _ (sym (mask_held n mask a p on one fits.0 e v lv) ∙ ap (covers (bit_or mask p)) ev ∙ eq-eqb _ place at)).0
+
+    pub exchanging_more : (now : List Cyclotomic) → bit_or place q ≢ place → now ≡ swap after (place - p + q) place → Exchanging n mask a b before after place
+        → Exchanging n mask a b before now (bit_or (place + 1) (bit_or mask p))
+    exchanging_more now ne es is on one two f ef =
+        let off : bit_of v b ≡ false = on_b ∙ ne_eqb _ place ne in
+        pair_swapped n (bit_or mask p) (differs on a b) (upper a b) (goes_to (Swap a b)) (exchange_pairs on one two) f place (place - p + q) after now at lt
+        (record {
+          moved = ap₂ (λ c d. c && d) (on_w on one) (ap₂ xor on_a off);
+          now = ap number_of (ap (λ y. set y b false) (same v a true on_a) ∙ same v b false off) ∙ ev;
+          other = other ne;
+          differ = λ z. false≢true (sym off ∙ ap (λ y. bit_of y b) (sym (number_same (goes_to (Swap a b) v) v (length-goes_to (Swap a b) v) (other ne ∙ z ∙ sym ev))) ∙ in_b v (bit_of v b) (bit_of v a) lv ∙ on_a);
+        }) es (is on one two f ef)
+
+    pub exchanging_skip : bit_or place q ≡ place → Exchanging n mask a b before after place → Exchanging n mask a b before after (bit_or (place + 1) (bit_or mask p))
+    exchanging_skip same_place is on one two f ef =
+        let both : bit_of v b ≡ true = on_b ∙ eq-eqb _ place same_place in
+        sweep_more n (bit_or mask p) (differs on a b) (upper a b) (exchange_pairs on one two).sweeps f (λ x. f (goes_to (Swap a b) x)) place after after at refl (is on one two f ef)
+        (λ x l t k. absurd (
+        let s : set (set x a true) b false ≡ v = number_same _ v (length-set (set x a true) b false ∙ length-set x a true ∙ l ∙ sym lv) (k ∙ sym ev) in
+        false≢true (sym (in_b x true false l) ∙ ap (λ y. bit_of y b) s ∙ both))) (λ x l ne. refl)
+
+  pub exchanging_start : Exchanging n mask a b before before (bit_or mask p)
+  exchanging_start on one two f is = is ∙ sweep_start n (bit_or mask p) (differs on a b) (upper a b) (exchange_pairs on one two).sweeps f (λ x. f (goes_to (Swap a b) x))
+
+  pub exchanging_end : (place : ℕ) (after : List Cyclotomic) → length after ≤ place → Exchanging n mask a b before after place
+      → (on : Word → Bool) → Marks mask n a on → Marks mask n b on → (f : Word → Cyclotomic) → before ≡ map f (words n) → after ≡ map (λ x. f (cond (on x) (goes_to (Swap a b) x) x)) (words n)
+  exchanging_end place after end is on one two f ef =
+      sweep_end n (bit_or mask p) (differs on a b) (upper a b) (exchange_pairs on one two).sweeps f (λ x. f (goes_to (Swap a b) x)) place after end (is on one two f ef)
+      ∙ same_map _ _ n (λ x l. go x (on x) (bit_of x a) (bit_of x b) refl refl) where
+        go : (x : Word) (o c d : Bool) → bit_of x a ≡ c → bit_of x b ≡ d → cond (o && xor c d) (f (set (set x a d) b c)) (f x) ≡ f (cond o (set (set x a d) b c) x)
+        go x true true false h k = refl
+        go x true false true h k = refl
+        go x true true true h k = ap f (sym (ap (λ y. set y b true) (same x a true h) ∙ same x b true k))
+        go x true false false h k = ap f (sym (ap (λ y. set y b false) (same x a false h) ∙ same x b false k))
+        go x false c d h k = refl

@@ -21,8 +21,8 @@ overflow_sub-place c =
 pub swap-requires-clause-a_in_bounds : goal.swap-requires-clause-a_in_bounds
 swap-requires-clause-a_in_bounds c =
     let l = c.loop-place in
-    swap_in c.args.lines c.args.mask c.args.a c.args.b c.place_bit-bit.result c.place_bit-other.result l.place l.values c.requires.fits c.place_bit-bit.ensures c.place_bit-other.ensures
-    l.invariant.here l.invariant.len c.loop-place-test.true c.if-place-other.true
+    swap_in c.args.lines c.args.mask c.args.a c.args.b c.place_bit-bit.result c.place_bit-other.result c.args.values.now c.requires.fits c.place_bit-bit.ensures c.place_bit-other.ensures
+    l.place l.values l.invariant.here l.invariant.len c.loop-place-test.true c.if-place-other.true
 
 pub loop-place-smaller : goal.loop-place-smaller
 loop-place-smaller c = omega (arith, c.loop-place-test.true, c.if-place-other.auto.values, le_or_l (c.loop-place.place + 1) (bit_or c.args.mask c.place_bit-bit.result))
@@ -30,22 +30,20 @@ loop-place-smaller c = omega (arith, c.loop-place-test.true, c.if-place-other.au
 pub loop-place-preserved : goal.loop-place-preserved
 loop-place-preserved c =
     let l = c.loop-place in
-    let p = c.place_bit-bit.result in
-    let q = c.place_bit-other.result in
     record {
-      here = next_covers (bit_or c.args.mask p) (l.place + 1);
+      here = next_covers (bit_or c.args.mask c.place_bit-bit.result) (l.place + 1);
       len = c.if-place-other.auto.values ∙ l.invariant.len;
       exchanging = elim c.if-place-other.branch [
         | then-place-other w ↦
-            exchanging_more c.args.lines c.args.mask c.args.a c.args.b p q l.place c.args.values.now l.values c.if-place-other.values c.requires.fits c.place_bit-bit.ensures c.place_bit-other.ensures
-            l.invariant.here l.invariant.len c.loop-place-test.true w.if-place-other.true (w.values-is ∙ w.swap.ensures.after) l.invariant.exchanging
+            exchanging_more c.args.lines c.args.mask c.args.a c.args.b c.place_bit-bit.result c.place_bit-other.result c.args.values.now c.requires.fits c.place_bit-bit.ensures c.place_bit-other.ensures
+            l.place l.values l.invariant.here l.invariant.len c.loop-place-test.true c.if-place-other.values w.if-place-other.true (w.values-is ∙ w.swap.ensures.after) l.invariant.exchanging
         | else-place-other w ↦
-            rw w.values-is (exchanging_skip c.args.lines c.args.mask c.args.a c.args.b p q l.place c.args.values.now l.values c.requires.fits c.place_bit-bit.ensures c.place_bit-other.ensures
-            l.invariant.here l.invariant.len c.loop-place-test.true w.if-place-other.false l.invariant.exchanging)
+            rw w.values-is (exchanging_skip c.args.lines c.args.mask c.args.a c.args.b c.place_bit-bit.result c.place_bit-other.result c.args.values.now c.requires.fits c.place_bit-bit.ensures c.place_bit-other.ensures
+            l.place l.values l.invariant.here l.invariant.len c.loop-place-test.true w.if-place-other.false l.invariant.exchanging)
       ];
     }
 
 pub returns : goal.returns
 returns c =
-    exchanging_end c.args.lines c.args.mask c.args.a c.args.b c.place_bit-bit.result c.place_bit-other.result c.loop-place.place c.args.values.now c.loop-place.values c.requires.fits c.place_bit-bit.ensures
-    c.place_bit-other.ensures c.loop-place-test.false c.loop-place.invariant.exchanging
+    exchanging_end c.args.lines c.args.mask c.args.a c.args.b c.place_bit-bit.result c.place_bit-other.result c.args.values.now c.requires.fits c.place_bit-bit.ensures c.place_bit-other.ensures
+    c.loop-place.place c.loop-place.values c.loop-place-test.false c.loop-place.invariant.exchanging

@@ -25,11 +25,11 @@ loop-place-preserved c =
     let b = c.place_bit-bit.result in
     record {
       here = next_covers (bit_or c.args.mask b) (l.place + 1);
-      flipping = flipping_more c.args.lines c.args.mask c.args.line b l.place c.args.values.now l.values c.swap.new.self c.requires.line c.place_bit-bit.ensures l.invariant.here
+      flipping = flipping_more c.args.lines c.args.mask c.args.line b c.args.values.now c.requires.line c.place_bit-bit.ensures l.place l.values c.swap.new.self l.invariant.here
           c.loop-place-test.true c.swap.ensures.after l.invariant.flipping;
     }
 
 pub returns : goal.returns
 returns c =
-    flipping_end c.args.lines c.args.mask c.args.line c.place_bit-bit.result c.loop-place.place c.args.values.now c.loop-place.values c.requires.line c.place_bit-bit.ensures
+    flipping_end c.args.lines c.args.mask c.args.line c.place_bit-bit.result c.args.values.now c.requires.line c.place_bit-bit.ensures c.loop-place.place c.loop-place.values
     c.loop-place-test.false c.loop-place.invariant.flipping
