@@ -1,13 +1,12 @@
 -- How often output words are used while the words are found.
 use Rattle.std.proofs.Common.{◌≡◌, ◌≢◌, ℕ, zero, suc, ◌+◌, ◌^◌, ◌<◌, ◌≤◌, Bool, true, false, not, ◌&&◌, cond, eqb, List, length, set, get_or, refl, sym, ◌∙◌, ap, subst, inl, inr, arith, eq-eqb, ne_eqb, add-one, length-set, get_or-set_same, get_or-set_other, ext_get_or}
-use Rattle.std.specs.Prelude.{◌⊎◌, bit_and}
+use Rattle.std.specs.Prelude.{◌⊎◌}
 use Rattle.std.specs.List.{count_by, range_with_len}
-use Rattle.std.proofs.lemmas.Bool.{cases_Bool, cases_eq, eqb-true, false≢true}
+use Rattle.std.proofs.lemmas.Bool.{cases_Bool, cases_eq, false≢true}
 use Rattle.std.proofs.lemmas.List.{map-id}
 use Rattle.std.proofs.lemmas.List.FromFn.{length-range_with_len, length-map-range_with_len, get_or-map-range_with_len, sum_by-map-range_with_len_more}
 use Rattle.std.proofs.lemmas.List.Sums.{count_by-le-length}
 use Rattle.rv_pla.specs.Pla.{TwoLevel}
-use Rattle.rv_pla.specs.declared.entry.Entry.{Entry}
 use Rattle.rv_embed.specs.Filled.{row, is_open, suits, own_word, known_uses, taken_word, raised, uses, greedy_word}
 use Rattle.rv_embed.specs.inside.Rows.{IsLeastUsed, entries_row, fits, known_before}
 use Rattle.rv_embed.specs.declared.row.Row.{Row}

@@ -1,7 +1,6 @@
 -- The words that fit a row, one after another.
 use Rattle.std.proofs.Common.{◌≡◌, ℕ, zero, suc, ◌+◌, ◌-◌, ◌*◌, ◌/◌, ◌%◌, ◌^◌, ◌<◌, ◌≤◌, Bool, true, false, cond, ◌&&◌, ◌||◌, eqb, List, get_or, add-one, refl, sym, ◌∙◌, ap, ap₂, subst, inl, inr, arith, eq-eqb}
-use Rattle.std.specs.Prelude.{◌⊎◌, ◌↔◌, bit_and, bit_or}
-use Rattle.std.specs.Int.{bit_at}
+use Rattle.std.specs.Prelude.{◌↔◌, bit_and, bit_or}
 use Rattle.std.specs.Int.Bits.{and_zero_r, or_zero_l}
 use Rattle.std.proofs.lemmas.Bool.{and_from, and_parts, cases_eq, cases_order, eqb-true, false≢true}
 use Rattle.std.proofs.lemmas.Nat.{and_block, and_le_l, and_le_r, or_block}
