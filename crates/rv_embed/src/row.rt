@@ -1,5 +1,5 @@
 // The entries of an input word as sets of outputs.
-ghost use Rattle.std.specs.Prelude.{◌≡◌, ◌<◌, ◌^◌, bit_or, bit_and, ◌+◌, ◌*◌, if◌then◌else◌, IfOk};
+ghost use Rattle.std.specs.Prelude.{◌≡◌, ◌<◌, ◌≤◌, ◌^◌, bit_or, bit_and, ◌+◌, ◌*◌, if◌then◌else◌, IfOk};
 ghost use Rattle.rv_pla.specs.declared.cube.TheConstants.{MOST_OUTPUTS};
 ghost use Rattle.rv_embed.specs.Filled.{row};
 ghost use Rattle.rv_embed.specs.inside.Rows.{entries_row, rows_of};
@@ -40,12 +40,20 @@ fn row_of(pla: &Pla, input: u32) -> Row
     Row { care, want, free }
 }
 
+// How many input words there are.
+pub(crate) fn input_words(pla: &Pla) -> u32
+    ensures count { result ≡ 2 ^ pla.now.inputs }
+    ensures few { result ≤ 2 ^ 16 }
+{
+    1u32 << pla.inputs()
+}
+
 // The rows of all input words.
 pub(crate) fn rows_of(alloc: Global, pla: &Pla) -> Result<Vec<Row>, AllocError>
     ensures { IfOk result (λ v. v.items ≡ rows_of pla.now) }
 {
     let mut rows = Vec::new(alloc);
-    for input in 0..1u32 << pla.inputs() {
+    for input in 0..input_words(pla) {
         rows.push(row_of(pla, input))?;
     }
     Ok(rows)
