@@ -13,6 +13,7 @@ ghost use Rattle.rv_check.specs.inside.Dense.{halved_by, left, members_from, min
 ghost use Rattle.rv_check.specs.inside.Kept.{Kept, is_present};
 ghost use Rattle.rv_check.specs.inside.Small.{AreSmall};
 ghost use Rattle.rv_check.specs.inside.Stands.{Apart, On, value_at};
+ghost use Rattle.rv_check.specs.declared.checking.TheConstants.{MOST_CHECKED_LINES};
 
 use crate::coefficient::Coefficient;
 use crate::member::{Member, is_present};
@@ -26,7 +27,7 @@ use std::alloc::AllocError;
 
 // The bit of a line in the numbers of words, which are the places of their values.
 fn place_bit(lines: u8, line: u8) -> usize
-    requires few_lines { lines ≤ 10 }
+    requires few_lines { lines ≤ MOST_CHECKED_LINES }
     requires line { line < lines }
     ensures { result ≡ 2 ^ (lines - 1 - line) }
 {
@@ -35,7 +36,7 @@ fn place_bit(lines: u8, line: u8) -> usize
 
 // H on a line, its root of two not divided out.
 fn mix(values: &mut [Short], lines: u8, line: u8)
-    requires few_lines { lines ≤ 10 }
+    requires few_lines { lines ≤ MOST_CHECKED_LINES }
     requires line { line < lines }
     requires len { length values.old ≡ 2 ^ lines }
     requires small { All (AreSmall (2 ^ 60)) values.old }
@@ -87,7 +88,7 @@ fn turn(values: &mut [Short], mask: usize, power: u8)
 
 // The bit of a line changed where the place has the bits of a mask.
 fn flip(values: &mut [Short], lines: u8, mask: usize, line: u8)
-    requires few_lines { lines ≤ 10 }
+    requires few_lines { lines ≤ MOST_CHECKED_LINES }
     requires line { line < lines }
     ensures { (on : List Bool → Bool) → Marks mask lines line on → (f : List Bool → Cyclotomic)
         → values.old ≡ map f (words lines) → values.new ≡ map
@@ -104,7 +105,7 @@ fn flip(values: &mut [Short], lines: u8, mask: usize, line: u8)
 
 // Times this power of w where the word has the bit 1 on the line.
 fn turn_line(values: &mut [Short], lines: u8, line: u8, power: u8)
-    requires few_lines { lines ≤ 10 }
+    requires few_lines { lines ≤ MOST_CHECKED_LINES }
     requires line { line < lines }
     requires len { length values.old ≡ 2 ^ lines }
     requires small { All (AreSmall (2 ^ 61)) values.old }
@@ -118,7 +119,7 @@ fn turn_line(values: &mut [Short], lines: u8, line: u8, power: u8)
 // What the operation X, CX, CCX, Y, swap or CSWAP does.
 
 fn flip_line(values: &mut [Short], lines: u8, line: u8)
-    requires few_lines { lines ≤ 10 }
+    requires few_lines { lines ≤ MOST_CHECKED_LINES }
     requires line { line < lines }
     ensures { (f : List Bool → Cyclotomic) → values.old ≡ map f (words lines)
         → values.new ≡ map (moved_at (X line) f) (words lines) }
@@ -127,7 +128,7 @@ fn flip_line(values: &mut [Short], lines: u8, line: u8)
 }
 
 fn flip_under(values: &mut [Short], lines: u8, control: u8, line: u8)
-    requires few_lines { lines ≤ 10 }
+    requires few_lines { lines ≤ MOST_CHECKED_LINES }
     requires fits { OpFitsIn (Cx control line) lines }
     ensures { (f : List Bool → Cyclotomic) → values.old ≡ map f (words lines)
         → values.new ≡ map (moved_at (Cx control line) f) (words lines) }
@@ -136,7 +137,7 @@ fn flip_under(values: &mut [Short], lines: u8, control: u8, line: u8)
 }
 
 fn flip_under_both(values: &mut [Short], lines: u8, first: u8, second: u8, line: u8)
-    requires few_lines { lines ≤ 10 }
+    requires few_lines { lines ≤ MOST_CHECKED_LINES }
     requires fits { OpFitsIn (Ccx first second line) lines }
     ensures { (f : List Bool → Cyclotomic) → values.old ≡ map f (words lines)
         → values.new ≡ map (moved_at (Ccx first second line) f) (words lines) }
@@ -146,7 +147,7 @@ fn flip_under_both(values: &mut [Short], lines: u8, first: u8, second: u8, line:
 }
 
 fn flip_and_turn(values: &mut [Short], lines: u8, line: u8)
-    requires few_lines { lines ≤ 10 }
+    requires few_lines { lines ≤ MOST_CHECKED_LINES }
     requires line { line < lines }
     requires len { length values.old ≡ 2 ^ lines }
     requires small { All (AreSmall (2 ^ 61)) values.old }
@@ -161,7 +162,7 @@ fn flip_and_turn(values: &mut [Short], lines: u8, line: u8)
 // The bits of two lines exchanged where the place has the bits of a mask: each place with the bit of the one line, and
 // without that of the other, takes the value of the place where it is the other way round.
 fn exchange(values: &mut [Short], lines: u8, mask: usize, a: u8, b: u8)
-    requires few_lines { lines ≤ 10 }
+    requires few_lines { lines ≤ MOST_CHECKED_LINES }
     requires fits { OpFitsIn (Swap a b) lines }
     requires len { length values.old ≡ 2 ^ lines }
     ensures { (on : List Bool → Bool) → Marks mask lines a on → Marks mask lines b on → (f : List Bool → Cyclotomic)
@@ -180,7 +181,7 @@ fn exchange(values: &mut [Short], lines: u8, mask: usize, a: u8, b: u8)
 }
 
 fn exchange_lines(values: &mut [Short], lines: u8, a: u8, b: u8)
-    requires few_lines { lines ≤ 10 }
+    requires few_lines { lines ≤ MOST_CHECKED_LINES }
     requires fits { OpFitsIn (Swap a b) lines }
     requires len { length values.old ≡ 2 ^ lines }
     ensures { (f : List Bool → Cyclotomic) → values.old ≡ map f (words lines)
@@ -190,7 +191,7 @@ fn exchange_lines(values: &mut [Short], lines: u8, a: u8, b: u8)
 }
 
 fn exchange_under(values: &mut [Short], lines: u8, control: u8, a: u8, b: u8)
-    requires few_lines { lines ≤ 10 }
+    requires few_lines { lines ≤ MOST_CHECKED_LINES }
     requires fits { OpFitsIn (Cswap control a b) lines }
     requires len { length values.old ≡ 2 ^ lines }
     ensures { (f : List Bool → Cyclotomic) → values.old ≡ map f (words lines)
@@ -201,7 +202,7 @@ fn exchange_under(values: &mut [Short], lines: u8, control: u8, a: u8, b: u8)
 
 // An operation that is no H.
 fn go(values: &mut [Short], lines: u8, op: Op)
-    requires few_lines { lines ≤ 10 }
+    requires few_lines { lines ≤ MOST_CHECKED_LINES }
     requires fits { OpFitsIn op lines }
     requires other { (line : ℕ) → op ≢ H line }
     requires len { length values.old ≡ 2 ^ lines }
@@ -360,7 +361,7 @@ fn make_room(values: &mut [Short], scale: &mut Scale) -> bool
 
 // H on a line, its root of two not divided out.
 fn turn_h(values: &mut [Short], lines: u8, line: u8, scale: &mut Scale)
-    requires few_lines { lines ≤ 10 }
+    requires few_lines { lines ≤ MOST_CHECKED_LINES }
     requires line { line < lines }
     requires len { length values.old ≡ 2 ^ lines }
     requires small { All (AreSmall (2 ^ scale.old.bits)) values.old }
@@ -379,7 +380,7 @@ fn turn_h(values: &mut [Short], lines: u8, line: u8, scale: &mut Scale)
 
 // One operation.
 fn step(values: &mut [Short], lines: u8, op: Op, scale: &mut Scale)
-    requires few_lines { lines ≤ 10 }
+    requires few_lines { lines ≤ MOST_CHECKED_LINES }
     requires fits { OpFitsIn op lines }
     requires len { length values.old ≡ 2 ^ lines }
     requires small { All (AreSmall (2 ^ scale.old.bits)) values.old }
@@ -399,7 +400,7 @@ fn step(values: &mut [Short], lines: u8, op: Op, scale: &mut Scale)
 
 // Follows operations from a place on, until the values are too great or few. Answers the place.
 fn follow_on(ops: &[Op], start: usize, lines: u8, values: &mut [Short], scale: &mut Scale) -> usize
-    requires few_lines { lines ≤ 10 }
+    requires few_lines { lines ≤ MOST_CHECKED_LINES }
     requires fits { All (λ op. OpFitsIn op lines) ops.now }
     requires few { length ops.now ≤ MOST_OPS }
     requires start { start ≤ length ops.now }
@@ -432,7 +433,7 @@ pub(crate) fn follow_values(
     values: &mut [Short],
     exponent: &mut u32,
 ) -> usize
-    requires few_lines { lines ≤ 10 }
+    requires few_lines { lines ≤ MOST_CHECKED_LINES }
     requires fits { All (λ op. OpFitsIn op lines) ops.now }
     requires few { length ops.now ≤ MOST_OPS }
     requires start { start ≤ length ops.now }
@@ -463,7 +464,7 @@ fn erase(values: &mut [Short])
 
 // The values of members, for all words. Answers whether they are small enough.
 pub(crate) fn fill(members: &[Member], lines: u8, values: &mut [Short]) -> bool
-    requires few_lines { lines ≤ 10 }
+    requires few_lines { lines ≤ MOST_CHECKED_LINES }
     requires on { On lines members.now }
     requires len { length values.old ≡ 2 ^ lines }
     ensures small { IsTrue result → All (AreSmall (2 ^ 55)) values.new }
@@ -485,7 +486,7 @@ pub(crate) fn collect(
     values: &[Short],
     members: &mut Vec<Member>,
 ) -> Result<(), AllocError>
-    requires few_lines { lines ≤ 10 }
+    requires few_lines { lines ≤ MOST_CHECKED_LINES }
     requires len { length values.now ≡ 2 ^ lines }
     ensures { IfOk result (λ _. members.new.items ≡ filter is_present (members_from lines 0 values.now)) }
 {
