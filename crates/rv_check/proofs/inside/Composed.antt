@@ -1,12 +1,9 @@
 -- An operation that is done by three others.
 use Rattle.std.proofs.lemmas.Grind.{common_steps}
-use Rattle.std.proofs.Common.{arith, ◌≡◌, ◌≢◌, ℕ, ◌<◌, Bool, cond, not, ◌&&◌, length, map, set, sym, ap, set-set, length-set, subst}
-use Rattle.std.proofs.lemmas.List.{set_comm}
-use Rattle.rv_gate.specs.Gate.{xor}
+use Rattle.std.proofs.Common.{arith, ◌≡◌, ℕ, ◌<◌, Bool, cond, not, map}
 use Rattle.rv_gate.specs.Word.{bit_of}
 use Rattle.rv_net.specs.Cyclotomic.{Cyclotomic, times_w_power}
-use Rattle.rv_net.specs.Op.{OpFitsIn, goes_to}
-use Rattle.rv_net.specs.declared.op.Op.TheVariants.{X, Y, S, Sdg, Cx, Ccx, Swap, Cswap}
+use Rattle.rv_net.specs.declared.op.Op.TheVariants.{X, Y, S, Sdg}
 use Rattle.rv_check.specs.Reduced.{words}
 use Rattle.rv_check.specs.inside.Dense.{moved_at}
 use Rattle.rv_check.proofs.inside.Numbers.{same_map}

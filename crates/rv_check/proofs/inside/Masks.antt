@@ -1,8 +1,7 @@
 -- Passes over the places that have the bit 1 wherever a mask has it.
 use Rattle.rv_gate.proofs.Bits.{and_false}
 use Rattle.rv_gate.proofs.LineSets.{bit_or-assoc}
-use Rattle.std.proofs.Common.{◌≡◌, ◌≢◌, ◌⊎◌, ℕ, zero, suc, ◌+◌, ◌-◌, ◌*◌, ◌/◌, ◌%◌, ◌^◌, ◌<◌, ◌≤◌, ◌==◌, ◌&&◌, nat_lt, Bool, true, false, cond, List, map, length, get_or, set, refl, sym, ap, ap₂, ◌∙◌, arith, inl, inr, length-set}
-use Rattle.std.proofs.Math.Nat.{add-div_right}
+use Rattle.std.proofs.Common.{◌≡◌, ◌≢◌, ◌⊎◌, ℕ, zero, suc, ◌+◌, ◌-◌, ◌*◌, ◌/◌, ◌%◌, ◌^◌, ◌<◌, ◌≤◌, ◌==◌, ◌&&◌, nat_lt, Bool, true, false, cond, List, map, length, get_or, set, refl, sym, ap, ◌∙◌, arith, inl, inr, length-set}
 use Rattle.std.proofs.Math.Pow.{pow_mono}
 use Rattle.std.proofs.lemmas.Bool.{cases_eq, cases_lt, false≢true, le-ltb, lt-ltb, eq-eqb, eqb-false, eqb-true, ne_eqb}
 use Rattle.std.proofs.lemmas.List.{get_or-set_other, get_or-set_same}

@@ -16,7 +16,7 @@ use Rattle.rv_net.specs.declared.op.Op.TheVariants.{H}
 use Rattle.rv_net.proofs.Cyclotomic.{same_cyclotomic, plus_assoc, plus_comm, plus_nought, nought_plus, plus_swap, nought_times, times-add_left, times-add_right, times_w_power-zero}
 use Rattle.rv_net.proofs.Matrix.{same_sum, sum_over_words-zero, amplitude_product}
 use Rattle.rv_check.specs.Check.{are_same}
-use Rattle.rv_check.specs.Reduced.{is_multiple, quotient}
+use Rattle.rv_check.specs.Reduced.{is_multiple}
 use Rattle.rv_check.specs.declared.member.Member.{Member}
 use Rattle.rv_check.specs.inside.Kept.{added, divided, is_present, spread}
 use Rattle.rv_check.specs.inside.Stands.{On, at_word, scaled, value_at}

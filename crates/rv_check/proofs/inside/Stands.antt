@@ -7,7 +7,7 @@ use Rattle.rv_net.specs.Amplitude.{amplitude, count_h, same_word}
 use Rattle.rv_net.specs.Cyclotomic.{nought, unity, plus, times, times_w_power}
 use Rattle.rv_net.specs.Op.{goes_to, phase_of, OpFitsIn}
 use Rattle.rv_net.specs.declared.op.Op.{Op}
-use Rattle.rv_net.specs.declared.op.Op.TheVariants.{X, Y, Z, H, S, Sdg, T, Tdg, Cx, Cz, Ccx, Swap, Cswap}
+use Rattle.rv_net.specs.declared.op.Op.TheVariants.{H}
 use Rattle.rv_net.proofs.Cyclotomic.{plus_nought, nought_plus}
 use Rattle.rv_check.specs.Reduced.{is_multiple}
 use Rattle.rv_check.specs.declared.member.Member.{Member}

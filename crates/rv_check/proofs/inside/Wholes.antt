@@ -1,10 +1,9 @@
 -- The values of all words, as the operations change them: those of the kept vector.
 use Rattle.rv_gate.proofs.Lists.{map_map}
 use Rattle.rv_gate.proofs.Words.{same_word-is, same_word-true, same_word-false}
-use Rattle.std.proofs.Common.{◌≡◌, ℕ, zero, suc, ◌+◌, ◌<◌, Bool, true, false, cond, ◌&&◌, List, [], ◌∷◌, map, length, take, set, fold, refl, sym, ap, ap₂, ◌∙◌, arith, subst}
+use Rattle.std.proofs.Common.{◌≡◌, ℕ, zero, suc, ◌+◌, ◌<◌, Bool, true, false, cond, List, [], ◌∷◌, map, length, take, set, fold, refl, sym, ap, ap₂, ◌∙◌, arith, subst}
 use Rattle.std.proofs.lemmas.Int.{ints}
 use Rattle.std.proofs.lemmas.List.Elements.{All-head, All-tail}
-use Rattle.rv_gate.specs.Gate.{same}
 use Rattle.rv_gate.specs.Word.{bit_of}
 use Rattle.rv_net.specs.Amplitude.{amplitude, same_word}
 use Rattle.rv_net.specs.Cyclotomic.{Cyclotomic, negated, nought, plus, times, times_w_power}

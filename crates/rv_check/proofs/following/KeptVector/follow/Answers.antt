@@ -2,7 +2,7 @@ use Rattle.std.proofs.Common.{◌≡◌, ◌+◌, ◌∙◌, length, take, sym, 
 use Rattle.rv_net.specs.declared.op.Op.TheVariants.{X}
 use Rattle.rv_check.specs.declared.following.Followed.TheVariants.{Agrees}
 use Rattle.rv_check.specs.inside.Followed.{is_only}
-use Rattle.rv_check.specs.inside.Stands.{On, Stands}
+use Rattle.rv_check.specs.inside.Stands.{On}
 use Rattle.rv_check.specs.inside.View.{HasRoom, kept_of}
 use Rattle.rv_check.proofs.inside.Places.{exponent_few, members_few_ten, not_zero_and, stands_kept, zero_and}
 use Rattle.rv_check.proofs.inside.Standing.{done_here, none_large_at, not_large_here, not_large_on, stands_next, too_large_here}
