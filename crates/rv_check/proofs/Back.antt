@@ -8,7 +8,7 @@ use Rattle.rv_net.specs.Op.{goes_to, OpFitsIn}
 use Rattle.rv_net.specs.declared.op.Op.{Op}
 use Rattle.rv_net.specs.declared.op.Op.TheVariants.{X, Y, Cx, Ccx, Swap, Cswap}
 
-one_back : (y : List Bool) (q : ℕ) (b c : Bool) → c ≡ bit_of y q → set (set y q b) q c ≡ y
+pub one_back : (y : List Bool) (q : ℕ) (b c : Bool) → c ≡ bit_of y q → set (set y q b) q c ≡ y
 one_back y q b c e = set-set y q b c ∙ ap (set y q) e ∙ set-get_or y q false
 
 pub here : (y : List Bool) (q : ℕ) (b : Bool) → q < length y → bit_of (set y q b) q ≡ b

@@ -8,6 +8,7 @@ ghost use Rattle.rv_check.specs.Laws.{AreInLowestTerms, IsExact};
 ghost use Rattle.rv_check.specs.inside.AgreesAt.{AgreesAt};
 ghost use Rattle.rv_check.specs.inside.View.{HasRoom};
 ghost use Rattle.rv_check.specs.declared.checking.CheckFault.TheVariants.{Mem};
+ghost use Rattle.rv_check.specs.declared.checking.TheConstants.{MOST_CHECKED_LINES};
 
 use crate::following::{Followed, KeptVector};
 use rv_gate::{Circuit, Word};
@@ -62,7 +63,7 @@ fn agrees_at(
     number: u16,
 ) -> Result<bool, CheckFault>
     requires lines { length circuit.now.names ≡ net.now.lines }
-    requires few { net.now.lines ≤ 10 }
+    requires few { net.now.lines ≤ MOST_CHECKED_LINES }
     requires room { HasRoom net.now.lines kept.old }
     requires number { number < 2 ^ net.now.lines }
     ensures answer { MatchResult result (λ agreed. AgreesAt circuit.now.gates net.now number agreed)
@@ -105,7 +106,7 @@ fn verdict_of(difference: Option<u16>) -> Verdict
 // Compares a circuit with a network on as many lines, word by word.
 fn compare(alloc: Global, circuit: &Circuit, net: &Net) -> Result<Verdict, CheckFault>
     requires lines { length circuit.now.names ≡ net.now.lines }
-    requires few { net.now.lines ≤ 10 }
+    requires few { net.now.lines ≤ MOST_CHECKED_LINES }
     ensures { MatchResult result
         (λ verdict. compared (first_large net.now) (first_difference circuit.now.gates net.now) ≡ Ok verdict)
         (λ fault. (fault ≡ Mem) ⊎ (compared (first_large net.now) (first_difference circuit.now.gates net.now)

@@ -1,5 +1,5 @@
 ghost use Rattle.std.specs.Prelude.{◌≡◌, ◌^◌, ◌*◌, ◌+◌, ◌≤◌, ◌<◌, ◌+ℤ◌, ◌-ℤ◌, neg_ℤ, unsigned_abs, IfSome, IsTrue};
-ghost use Rattle.rv_net.specs.Cyclotomic.{negated, nought, plus, times_w_power, unity};
+ghost use Rattle.rv_net.specs.Cyclotomic.{negated, nought, plus, times_w, times_w_power, unity};
 ghost use Rattle.rv_check.specs.Check.{are_same};
 ghost use Rattle.rv_check.specs.Reduced.{half, is_even, is_large, is_large_number, is_multiple, quotient};
 ghost use Rattle.rv_check.specs.inside.Small.{AreSmall, IsSmall};
@@ -126,57 +126,38 @@ impl Coefficient {
         }
     }
 
-    // Times this power of w.
+    // Times w.
+    #[inline(always)]
+    fn by_w(self) -> Coefficient
+        requires { AreSmall (2 ^ 120) self }
+        ensures value { result ≡ times_w self }
+        ensures small { AreSmall (2 ^ 120) result }
+    {
+        Coefficient {
+            a: -self.d,
+            b: self.a,
+            c: self.b,
+            d: self.c,
+        }
+    }
+
+    // Times this power of w. Where the power is known, what is negated twice is not negated at all.
+    #[tactic(auto, unfolding(rv_net::specs::Cyclotomic::times_w_power))]
+    #[inline(always)]
     pub(crate) fn turned(self, power: u8) -> Coefficient
         requires small { AreSmall (2 ^ 120) self }
         requires few { power < 8 }
         ensures { result ≡ times_w_power power self }
     {
-        let Coefficient { a, b, c, d } = self;
         match power {
             0 => self,
-            1 => Coefficient {
-                a: -d,
-                b: a,
-                c: b,
-                d: c,
-            },
-            2 => Coefficient {
-                a: -c,
-                b: -d,
-                c: a,
-                d: b,
-            },
-            3 => Coefficient {
-                a: -b,
-                b: -c,
-                c: -d,
-                d: a,
-            },
-            4 => Coefficient {
-                a: -a,
-                b: -b,
-                c: -c,
-                d: -d,
-            },
-            5 => Coefficient {
-                a: d,
-                b: -a,
-                c: -b,
-                d: -c,
-            },
-            6 => Coefficient {
-                a: c,
-                b: d,
-                c: -a,
-                d: -b,
-            },
-            _ => Coefficient {
-                a: b,
-                b: c,
-                c: d,
-                d: -a,
-            },
+            1 => self.by_w(),
+            2 => self.by_w().by_w(),
+            3 => self.by_w().by_w().by_w(),
+            4 => self.by_w().by_w().by_w().by_w(),
+            5 => self.by_w().by_w().by_w().by_w().by_w(),
+            6 => self.by_w().by_w().by_w().by_w().by_w().by_w(),
+            _ => self.by_w().by_w().by_w().by_w().by_w().by_w().by_w(),
         }
     }
 

@@ -4,7 +4,7 @@ ghost use Rattle.std.specs.List.{filter, list_all};
 ghost use Rattle.rv_gate.specs.Gate.{xor};
 ghost use Rattle.rv_gate.specs.Word.{bit_of, number_of};
 ghost use Rattle.rv_net.specs.Cyclotomic.{Cyclotomic, nought, plus, times_w_power};
-ghost use Rattle.rv_net.specs.Op.{OpFitsIn};
+ghost use Rattle.rv_net.specs.Op.{OpFitsIn, goes_to};
 ghost use Rattle.rv_net.specs.declared.op.Op.{Op};
 ghost use Rattle.rv_net.specs.declared.op.Op.TheVariants.{X, Y, H, Cx, Ccx, Swap, Cswap};
 ghost use Rattle.rv_check.specs.Reduced.{is_multiple, quotient, reduced, words};
@@ -13,6 +13,7 @@ ghost use Rattle.rv_check.specs.inside.Dense.{halved_by, left, members_from, min
 ghost use Rattle.rv_check.specs.inside.Kept.{Kept, is_present};
 ghost use Rattle.rv_check.specs.inside.Small.{AreSmall};
 ghost use Rattle.rv_check.specs.inside.Stands.{Apart, On, value_at};
+ghost use Rattle.rv_check.specs.declared.checking.TheConstants.{MOST_CHECKED_LINES};
 
 use crate::coefficient::Coefficient;
 use crate::member::{Member, is_present};
@@ -26,7 +27,7 @@ use std::alloc::AllocError;
 
 // The bit of a line in the numbers of words, which are the places of their values.
 fn place_bit(lines: u8, line: u8) -> usize
-    requires few_lines { lines ≤ 10 }
+    requires few_lines { lines ≤ MOST_CHECKED_LINES }
     requires line { line < lines }
     ensures { result ≡ 2 ^ (lines - 1 - line) }
 {
@@ -35,8 +36,9 @@ fn place_bit(lines: u8, line: u8) -> usize
 
 // H on a line, its root of two not divided out.
 fn mix(values: &mut [Short], lines: u8, line: u8)
-    requires few_lines { lines ≤ 10 }
+    requires few_lines { lines ≤ MOST_CHECKED_LINES }
     requires line { line < lines }
+    requires len { length values.old ≡ 2 ^ lines }
     requires small { All (AreSmall (2 ^ 60)) values.old }
     ensures { (f : List Bool → Cyclotomic) → values.old ≡ map f (words lines)
         → values.new ≡ map (mixed_at line f) (words lines) }
@@ -86,7 +88,7 @@ fn turn(values: &mut [Short], mask: usize, power: u8)
 
 // The bit of a line changed where the place has the bits of a mask.
 fn flip(values: &mut [Short], lines: u8, mask: usize, line: u8)
-    requires few_lines { lines ≤ 10 }
+    requires few_lines { lines ≤ MOST_CHECKED_LINES }
     requires line { line < lines }
     ensures { (on : List Bool → Bool) → Marks mask lines line on → (f : List Bool → Cyclotomic)
         → values.old ≡ map f (words lines) → values.new ≡ map
@@ -103,7 +105,7 @@ fn flip(values: &mut [Short], lines: u8, mask: usize, line: u8)
 
 // Times this power of w where the word has the bit 1 on the line.
 fn turn_line(values: &mut [Short], lines: u8, line: u8, power: u8)
-    requires few_lines { lines ≤ 10 }
+    requires few_lines { lines ≤ MOST_CHECKED_LINES }
     requires line { line < lines }
     requires len { length values.old ≡ 2 ^ lines }
     requires small { All (AreSmall (2 ^ 61)) values.old }
@@ -117,7 +119,7 @@ fn turn_line(values: &mut [Short], lines: u8, line: u8, power: u8)
 // What the operation X, CX, CCX, Y, swap or CSWAP does.
 
 fn flip_line(values: &mut [Short], lines: u8, line: u8)
-    requires few_lines { lines ≤ 10 }
+    requires few_lines { lines ≤ MOST_CHECKED_LINES }
     requires line { line < lines }
     ensures { (f : List Bool → Cyclotomic) → values.old ≡ map f (words lines)
         → values.new ≡ map (moved_at (X line) f) (words lines) }
@@ -126,7 +128,7 @@ fn flip_line(values: &mut [Short], lines: u8, line: u8)
 }
 
 fn flip_under(values: &mut [Short], lines: u8, control: u8, line: u8)
-    requires few_lines { lines ≤ 10 }
+    requires few_lines { lines ≤ MOST_CHECKED_LINES }
     requires fits { OpFitsIn (Cx control line) lines }
     ensures { (f : List Bool → Cyclotomic) → values.old ≡ map f (words lines)
         → values.new ≡ map (moved_at (Cx control line) f) (words lines) }
@@ -135,7 +137,7 @@ fn flip_under(values: &mut [Short], lines: u8, control: u8, line: u8)
 }
 
 fn flip_under_both(values: &mut [Short], lines: u8, first: u8, second: u8, line: u8)
-    requires few_lines { lines ≤ 10 }
+    requires few_lines { lines ≤ MOST_CHECKED_LINES }
     requires fits { OpFitsIn (Ccx first second line) lines }
     ensures { (f : List Bool → Cyclotomic) → values.old ≡ map f (words lines)
         → values.new ≡ map (moved_at (Ccx first second line) f) (words lines) }
@@ -145,7 +147,7 @@ fn flip_under_both(values: &mut [Short], lines: u8, first: u8, second: u8, line:
 }
 
 fn flip_and_turn(values: &mut [Short], lines: u8, line: u8)
-    requires few_lines { lines ≤ 10 }
+    requires few_lines { lines ≤ MOST_CHECKED_LINES }
     requires line { line < lines }
     requires len { length values.old ≡ 2 ^ lines }
     requires small { All (AreSmall (2 ^ 61)) values.old }
@@ -157,31 +159,50 @@ fn flip_and_turn(values: &mut [Short], lines: u8, line: u8)
     turn_line(values, lines, line, 2);
 }
 
-fn exchange(values: &mut [Short], lines: u8, a: u8, b: u8)
-    requires few_lines { lines ≤ 10 }
+// The bits of two lines exchanged where the place has the bits of a mask: each place with the bit of the one line, and
+// without that of the other, takes the value of the place where it is the other way round.
+fn exchange(values: &mut [Short], lines: u8, mask: usize, a: u8, b: u8)
+    requires few_lines { lines ≤ MOST_CHECKED_LINES }
     requires fits { OpFitsIn (Swap a b) lines }
+    requires len { length values.old ≡ 2 ^ lines }
+    ensures { (on : List Bool → Bool) → Marks mask lines a on → Marks mask lines b on → (f : List Bool → Cyclotomic)
+        → values.old ≡ map f (words lines) → values.new ≡ map
+        (λ x. f (if on x then goes_to (Swap a b) x else x)) (words lines) }
+{
+    let (bit, other) = (place_bit(lines, a), place_bit(lines, b));
+    let all = mask | bit;
+    let mut place = all;
+    while place < values.len() {
+        if place | other != place {
+            values.swap(place - bit + other, place);
+        }
+        place = (place + 1) | all;
+    }
+}
+
+fn exchange_lines(values: &mut [Short], lines: u8, a: u8, b: u8)
+    requires few_lines { lines ≤ MOST_CHECKED_LINES }
+    requires fits { OpFitsIn (Swap a b) lines }
+    requires len { length values.old ≡ 2 ^ lines }
     ensures { (f : List Bool → Cyclotomic) → values.old ≡ map f (words lines)
         → values.new ≡ map (moved_at (Swap a b) f) (words lines) }
 {
-    flip_under(values, lines, b, a);
-    flip_under(values, lines, a, b);
-    flip_under(values, lines, b, a);
+    exchange(values, lines, 0, a, b);
 }
 
 fn exchange_under(values: &mut [Short], lines: u8, control: u8, a: u8, b: u8)
-    requires few_lines { lines ≤ 10 }
+    requires few_lines { lines ≤ MOST_CHECKED_LINES }
     requires fits { OpFitsIn (Cswap control a b) lines }
+    requires len { length values.old ≡ 2 ^ lines }
     ensures { (f : List Bool → Cyclotomic) → values.old ≡ map f (words lines)
         → values.new ≡ map (moved_at (Cswap control a b) f) (words lines) }
 {
-    flip_under(values, lines, b, a);
-    flip_under_both(values, lines, control, a, b);
-    flip_under(values, lines, b, a);
+    exchange(values, lines, place_bit(lines, control), a, b);
 }
 
 // An operation that is no H.
 fn go(values: &mut [Short], lines: u8, op: Op)
-    requires few_lines { lines ≤ 10 }
+    requires few_lines { lines ≤ MOST_CHECKED_LINES }
     requires fits { OpFitsIn op lines }
     requires other { (line : ℕ) → op ≢ H line }
     requires len { length values.old ≡ 2 ^ lines }
@@ -200,7 +221,7 @@ fn go(values: &mut [Short], lines: u8, op: Op)
         Op::Y(q) => flip_and_turn(values, lines, q),
         Op::Cx(a, b) => flip_under(values, lines, a, b),
         Op::Ccx(a, b, c) => flip_under_both(values, lines, a, b, c),
-        Op::Swap(a, b) => exchange(values, lines, a, b),
+        Op::Swap(a, b) => exchange_lines(values, lines, a, b),
         Op::Cswap(c, a, b) => exchange_under(values, lines, c, a, b),
         Op::H(_) => unreachable!(),
     }
@@ -340,7 +361,7 @@ fn make_room(values: &mut [Short], scale: &mut Scale) -> bool
 
 // H on a line, its root of two not divided out.
 fn turn_h(values: &mut [Short], lines: u8, line: u8, scale: &mut Scale)
-    requires few_lines { lines ≤ 10 }
+    requires few_lines { lines ≤ MOST_CHECKED_LINES }
     requires line { line < lines }
     requires len { length values.old ≡ 2 ^ lines }
     requires small { All (AreSmall (2 ^ scale.old.bits)) values.old }
@@ -359,7 +380,7 @@ fn turn_h(values: &mut [Short], lines: u8, line: u8, scale: &mut Scale)
 
 // One operation.
 fn step(values: &mut [Short], lines: u8, op: Op, scale: &mut Scale)
-    requires few_lines { lines ≤ 10 }
+    requires few_lines { lines ≤ MOST_CHECKED_LINES }
     requires fits { OpFitsIn op lines }
     requires len { length values.old ≡ 2 ^ lines }
     requires small { All (AreSmall (2 ^ scale.old.bits)) values.old }
@@ -379,7 +400,7 @@ fn step(values: &mut [Short], lines: u8, op: Op, scale: &mut Scale)
 
 // Follows operations from a place on, until the values are too great or few. Answers the place.
 fn follow_on(ops: &[Op], start: usize, lines: u8, values: &mut [Short], scale: &mut Scale) -> usize
-    requires few_lines { lines ≤ 10 }
+    requires few_lines { lines ≤ MOST_CHECKED_LINES }
     requires fits { All (λ op. OpFitsIn op lines) ops.now }
     requires few { length ops.now ≤ MOST_OPS }
     requires start { start ≤ length ops.now }
@@ -412,7 +433,7 @@ pub(crate) fn follow_values(
     values: &mut [Short],
     exponent: &mut u32,
 ) -> usize
-    requires few_lines { lines ≤ 10 }
+    requires few_lines { lines ≤ MOST_CHECKED_LINES }
     requires fits { All (λ op. OpFitsIn op lines) ops.now }
     requires few { length ops.now ≤ MOST_OPS }
     requires start { start ≤ length ops.now }
@@ -443,7 +464,7 @@ fn erase(values: &mut [Short])
 
 // The values of members, for all words. Answers whether they are small enough.
 pub(crate) fn fill(members: &[Member], lines: u8, values: &mut [Short]) -> bool
-    requires few_lines { lines ≤ 10 }
+    requires few_lines { lines ≤ MOST_CHECKED_LINES }
     requires on { On lines members.now }
     requires len { length values.old ≡ 2 ^ lines }
     ensures small { IsTrue result → All (AreSmall (2 ^ 55)) values.new }
@@ -465,7 +486,7 @@ pub(crate) fn collect(
     values: &[Short],
     members: &mut Vec<Member>,
 ) -> Result<(), AllocError>
-    requires few_lines { lines ≤ 10 }
+    requires few_lines { lines ≤ MOST_CHECKED_LINES }
     requires len { length values.now ≡ 2 ^ lines }
     ensures { IfOk result (λ _. members.new.items ≡ filter is_present (members_from lines 0 values.now)) }
 {

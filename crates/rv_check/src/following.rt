@@ -10,6 +10,7 @@ ghost use Rattle.rv_check.specs.inside.Small.{AreSmall};
 ghost use Rattle.rv_check.specs.inside.Stands.{On, Stands};
 ghost use Rattle.rv_check.specs.inside.Units.{units_of};
 ghost use Rattle.rv_check.specs.inside.View.{HasRoom, kept_of, room_of, width_of};
+ghost use Rattle.rv_check.specs.declared.checking.TheConstants.{MOST_CHECKED_LINES};
 
 use crate::dense::{collect, fill, follow_values};
 use crate::member::{Member, has_large, is_only, move_all};
@@ -42,7 +43,7 @@ pub(crate) struct KeptVector {
 
 impl KeptVector {
     pub(crate) fn new(alloc: Global, lines: u8) -> Result<KeptVector, AllocError>
-        requires { lines ≤ 10 }
+        requires { lines ≤ MOST_CHECKED_LINES }
         ensures { IfOk result (λ v. HasRoom lines v) }
     {
         Ok(KeptVector {
@@ -117,7 +118,7 @@ impl KeptVector {
 
     // Follows operations by the values of all words, from a place on, as long as most have one. Answers the place.
     fn follow_all(&mut self, ops: &[Op], start: usize, lines: u8) -> Result<usize, AllocError>
-        requires few_lines { lines ≤ 10 }
+        requires few_lines { lines ≤ MOST_CHECKED_LINES }
         requires fits { All (λ op. OpFitsIn op lines) ops.now }
         requires few { length ops.now ≤ MOST_OPS }
         requires start { start ≤ length ops.now }
@@ -143,7 +144,7 @@ impl KeptVector {
 
     // After an H there may be so many words.
     fn go_on(&mut self, op: Op, ops: &[Op], start: usize, lines: u8) -> Result<usize, AllocError>
-        requires few_lines { lines ≤ 10 }
+        requires few_lines { lines ≤ MOST_CHECKED_LINES }
         requires fits { All (λ op. OpFitsIn op lines) ops.now }
         requires few { length ops.now ≤ MOST_OPS }
         requires start { start ≤ length ops.now }
@@ -172,7 +173,7 @@ impl KeptVector {
     ) -> Result<Followed, AllocError>
         requires fits { All (λ op. OpFitsIn op (length word)) ops.now }
         requires few { length ops.now ≤ MOST_OPS }
-        requires lines { length word ≤ 10 }
+        requires lines { length word ≤ MOST_CHECKED_LINES }
         requires room { HasRoom (length word) self.old }
         requires image { length image ≡ length word }
         ensures answer { IfOk result (λ answer. answer ≡ followed ops.now word image) }

@@ -1,6 +1,6 @@
 ghost use Rattle.std.specs.Prelude.{◌≡◌, ◌^◌, ◌<◌, ◌≤◌, ◌+ℤ◌, ◌-ℤ◌, IsTrue};
 ghost use Rattle.std.specs.Int.{int_shr};
-ghost use Rattle.rv_net.specs.Cyclotomic.{nought, plus, times_w_power};
+ghost use Rattle.rv_net.specs.Cyclotomic.{nought, plus, times_w, times_w_power};
 ghost use Rattle.rv_check.specs.Reduced.{half, is_even, is_multiple, quotient};
 ghost use Rattle.rv_check.specs.inside.Dense.{bits_in, halved_by, minus};
 ghost use Rattle.rv_check.specs.inside.Small.{AreSmall, IsSmall};
@@ -122,58 +122,38 @@ impl Short {
         }
     }
 
-    // Times this power of w.
+    // Times w.
+    #[inline(always)]
+    fn by_w(self) -> Short
+        requires { AreSmall (2 ^ 61) self }
+        ensures value { result ≡ times_w self }
+        ensures small { AreSmall (2 ^ 61) result }
+    {
+        Short {
+            a: -self.d,
+            b: self.a,
+            c: self.b,
+            d: self.c,
+        }
+    }
+
+    // Times this power of w. Where the power is known, what is negated twice is not negated at all.
+    #[tactic(auto, unfolding(rv_net::specs::Cyclotomic::times_w_power))]
     #[inline(always)]
     pub(crate) fn turned(self, power: u8) -> Short
         requires small { AreSmall (2 ^ 61) self }
         requires few { power < 8 }
         ensures { result ≡ times_w_power power self }
     {
-        let Short { a, b, c, d } = self;
         match power {
             0 => self,
-            1 => Short {
-                a: -d,
-                b: a,
-                c: b,
-                d: c,
-            },
-            2 => Short {
-                a: -c,
-                b: -d,
-                c: a,
-                d: b,
-            },
-            3 => Short {
-                a: -b,
-                b: -c,
-                c: -d,
-                d: a,
-            },
-            4 => Short {
-                a: -a,
-                b: -b,
-                c: -c,
-                d: -d,
-            },
-            5 => Short {
-                a: d,
-                b: -a,
-                c: -b,
-                d: -c,
-            },
-            6 => Short {
-                a: c,
-                b: d,
-                c: -a,
-                d: -b,
-            },
-            _ => Short {
-                a: b,
-                b: c,
-                c: d,
-                d: -a,
-            },
+            1 => self.by_w(),
+            2 => self.by_w().by_w(),
+            3 => self.by_w().by_w().by_w(),
+            4 => self.by_w().by_w().by_w().by_w(),
+            5 => self.by_w().by_w().by_w().by_w().by_w(),
+            6 => self.by_w().by_w().by_w().by_w().by_w().by_w(),
+            _ => self.by_w().by_w().by_w().by_w().by_w().by_w().by_w(),
         }
     }
 

@@ -1,5 +1,5 @@
 // The entries of an input word as sets of outputs.
-ghost use Rattle.std.specs.Prelude.{◌≡◌, ◌<◌, ◌^◌, bit_or, bit_and, ◌+◌, IfOk};
+ghost use Rattle.std.specs.Prelude.{◌≡◌, ◌<◌, ◌≤◌, ◌^◌, bit_or, bit_and, ◌+◌, ◌*◌, if◌then◌else◌, IfOk};
 ghost use Rattle.rv_pla.specs.declared.cube.TheConstants.{MOST_OUTPUTS};
 ghost use Rattle.rv_embed.specs.Filled.{row};
 ghost use Rattle.rv_embed.specs.inside.Rows.{entries_row, rows_of};
@@ -16,6 +16,14 @@ pub(crate) struct Row {
     pub(crate) free: u32,
 }
 
+// The bits of a number with one more.
+fn more_bits(bits: u32, bit: bool) -> u32
+    requires { bits < 2 ^ 16 }
+    ensures { result ≡ bits * 2 + (if bit then 1 else 0) }
+{
+    bits * 2 + u32::from(bit)
+}
+
 fn row_of(pla: &Pla, input: u32) -> Row
     requires { input < 2 ^ pla.now.inputs }
     ensures { result ≡ entries_row (row pla.now input) pla.now.outputs }
@@ -25,11 +33,19 @@ fn row_of(pla: &Pla, input: u32) -> Row
     let mut free = 0;
     for output in 0..pla.outputs() {
         let entry = pla.value(input, output);
-        care = care * 2 + u32::from(!entry.is_dont_care());
-        want = want * 2 + u32::from(entry.bit());
-        free = free * 2 + u32::from(entry.is_dont_care());
+        care = more_bits(care, !entry.is_dont_care());
+        want = more_bits(want, entry.bit());
+        free = more_bits(free, entry.is_dont_care());
     }
     Row { care, want, free }
+}
+
+// How many input words there are.
+pub(crate) fn input_words(pla: &Pla) -> u32
+    ensures count { result ≡ 2 ^ pla.now.inputs }
+    ensures few { result ≤ 2 ^ 16 }
+{
+    1u32 << pla.inputs()
 }
 
 // The rows of all input words.
@@ -37,7 +53,7 @@ pub(crate) fn rows_of(alloc: Global, pla: &Pla) -> Result<Vec<Row>, AllocError>
     ensures { IfOk result (λ v. v.items ≡ rows_of pla.now) }
 {
     let mut rows = Vec::new(alloc);
-    for input in 0..1u32 << pla.inputs() {
+    for input in 0..input_words(pla) {
         rows.push(row_of(pla, input))?;
     }
     Ok(rows)

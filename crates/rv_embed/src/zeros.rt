@@ -3,7 +3,7 @@ ghost use Rattle.std.specs.Prelude.{◌≡◌, ◌<◌, ◌^◌, All, IfOk};
 ghost use Rattle.rv_pla.specs.Zeros.{zeros};
 ghost use Rattle.rv_embed.specs.inside.Rows.{rows_of};
 
-use super::row::{Row, row_at};
+use super::row::{Row, input_words, row_at};
 use rv_pla::Pla;
 use std::alloc::{AllocError, Global};
 
@@ -14,7 +14,7 @@ pub(crate) fn zeros(alloc: Global, pla: &Pla, rows: &[Row]) -> Result<Vec<u32>, 
     ensures below { IfOk result (λ v. All (λ y. y < 2 ^ pla.now.outputs) v.items) }
 {
     let mut outputs = Vec::new(alloc);
-    for input in 0..1u32 << pla.inputs() {
+    for input in 0..input_words(pla) {
         let row = row_at(pla, rows, input);
         outputs.push(row.want)?;
     }

@@ -14,8 +14,6 @@ use Rattle.rv_tbs.proofs.Ones.{Within, number_of-mono, one_within, bit_of-flip_s
 
 -- a flip under c of the line of w, which leaves the words below k alone
 pub record Sound (n k c line : ℕ) (w : List Bool) : Type 0 where
-  pub free : has c line ≡ false
-  pub inside : (i : ℕ) → has c i ≡ true → i < n
   pub held : holds c c w ≡ true
   pub spared : (x : List Bool) → length x ≡ n → number_of x < k → holds c c x ≡ false
 
@@ -44,7 +42,6 @@ pub record Rule (n k : ℕ) (inv : List Bool → Type 0) (due : ℕ → Bool →
 
 -- what a row of flips does
 pub record Turned (n k line m : ℕ) (inv : List Bool → Type 0) (due : ℕ → Bool → Bool) (p : ℕ → Bool) (w : List Bool) (gates : List Shape) : Type 0 where
-  pub flips : Flips n gates
   pub few : length gates ≤ count p line m
   pub kept : inv (run gates w)
   pub before : (i : ℕ) → i < line → bit_of (run gates w) i ≡ bit_of w i
@@ -59,14 +56,13 @@ fits_of n c line lt inside i on =
     ]
 
 turned_on : (n k line m : ℕ) (inv : List Bool → Type 0) (due : ℕ → Bool → Bool) (p : ℕ → Bool) (w : List Bool) (c : ℕ) (gates : List Shape)
-    → n ≤ MOST_LINES → line + suc m ≡ n → length w ≡ n → Sound n k c line w → due line (bit_of w line) ≡ true → p line ≡ true
+    → line + suc m ≡ n → length w ≡ n → Sound n k c line w → due line (bit_of w line) ≡ true → p line ≡ true
     → Turned n k (line + 1) m inv due p (flip w line) gates → Turned n k line (suc m) inv due p w (Flip c c line ∷ gates)
-turned_on n k line m inv due p w c gates small e len s on counted t =
+turned_on n k line m inv due p w c gates e len s on counted t =
     let first : act (Flip c c line) w ≡ flip w line = cond-true (holds c c w) _ _ s.held in
     let after : run gates (act (Flip c c line) w) ≡ run gates (flip w line) = ap (run gates) first in
     let lt : line < length w = omega arith in
     record {
-      flips = ((refl, (omega arith, s.free, λ i h. h), fits_of n c line (omega arith) s.inside), t.flips);
       few = let one : cond {A = ℕ} (p line) 1 0 ≡ 1 = ap (λ b. cond b 1 0) counted in omega (arith, t.few);
       kept = subst inv (sym after) t.kept;
       before = λ i h.
@@ -89,7 +85,6 @@ turned_off : (n k line m : ℕ) (inv : List Bool → Type 0) (due : ℕ → Bool
     → Turned n k (line + 1) m inv due p w gates → Turned n k line (suc m) inv due p w gates
 turned_off n k line m inv due p w gates off t =
     record {
-      flips = t.flips;
       few = omega (arith, t.few);
       kept = t.kept;
       before = λ i h. t.before i (omega arith);
@@ -102,29 +97,28 @@ turned_off n k line m inv due p w gates off t =
     }
 
 pub steps_turn : (n k : ℕ) (inv : List Bool → Type 0) (due : ℕ → Bool → Bool) (care : List Bool → ℕ → ℕ) (p : ℕ → Bool)
-    → n ≤ MOST_LINES → Rule n k inv due care p → (m line : ℕ) (w : List Bool) → line + m ≡ n → length w ≡ n → inv w
+    → Rule n k inv due care p → (m line : ℕ) (w : List Bool) → line + m ≡ n → length w ≡ n → inv w
     → Turned n k line m inv due p w (due_flips due care line m w)
 unfolding due_flips
-steps_turn n k inv due care p small rule zero line w e len i =
+steps_turn n k inv due care p rule zero line w e len i =
     record {
-      flips = tt;
       few = omega arith;
       kept = i;
       before = λ j h. refl;
       changed = λ j lo hi. absurd (omega arith);
       spared = λ x xl xk. refl;
     }
-steps_turn n k inv due care p small rule (suc m) line w e len i =
+steps_turn n k inv due care p rule (suc m) line w e len i =
     let P : List Shape → Type 0 = λ gates. Turned n k line (suc m) inv due p w gates in
     let lt : line < n = omega arith in
     elim (cases_Bool (due line (bit_of w line))) [
       | inl on ↦
           subst P (sym (cond-true (due line (bit_of w line)) _ _ on))
-          (turned_on n k line m inv due p w (care w line) _ small e len (rule.sound w line len lt i on) on (rule.counted line _ on)
-          (steps_turn n k inv due care p small rule m (line + 1) (flip w line) (omega arith) (length-flip w line ∙ len) (rule.keeps w line len lt i on)))
+          (turned_on n k line m inv due p w (care w line) _ e len (rule.sound w line len lt i on) on (rule.counted line _ on)
+          (steps_turn n k inv due care p rule m (line + 1) (flip w line) (omega arith) (length-flip w line ∙ len) (rule.keeps w line len lt i on)))
       | inr off ↦
           subst P (sym (cond-false (due line (bit_of w line)) _ _ off))
-          (turned_off n k line m inv due p w _ off (steps_turn n k inv due care p small rule m (line + 1) w (omega arith) len i))
+          (turned_off n k line m inv due p w _ off (steps_turn n k inv due care p rule m (line + 1) w (omega arith) len i))
     ]
 
 -- ---- the two rows
@@ -182,15 +176,8 @@ clear_rule goal n glen =
           let ulen : length u ≡ n = length-flip w line ∙ len in
           let gone : bit_of u line ≡ false = bit_of-flip_same w line (omega arith) ∙ ap not one in
           care_cases goal w line (λ c. Sound n (number_of goal) c line w)
-          (λ z. record {
-            free = has-none line;
-            inside = λ j on. absurd (false≢true (sym (has-none j) ∙ on));
-            held = holds_none w;
-            spared = λ x xl xk. absurd (omega arith);
-          })
+          (λ z. record { held = holds_none w; spared = λ x xl xk. absurd (omega arith) })
           (record {
-            free = has-ones_of u line ∙ gone;
-            inside = λ j on. omega (arith, one_within u j (sym (has-ones_of u j) ∙ on));
             held = holds_within u w (λ j on.
                 let ne : j ≢ line = λ e. false≢true (sym gone ∙ ap (bit_of u) (sym e) ∙ on) in
                 sym (bit_of-flip_other w line j ne) ∙ on);
@@ -205,7 +192,6 @@ clear_rule goal n glen =
 
 -- gates that turn a word into the goal, and leave the words below the goal alone
 pub record Turns (goal w : List Bool) (gates : List Shape) : Type 0 where
-  pub flips : Flips (length goal) gates
   pub few : length gates ≤ length goal
   pub reached : run gates w ≡ goal
   pub spared : (x : List Bool) → length x ≡ length goal → number_of x < number_of goal → run gates x ≡ x
@@ -214,29 +200,66 @@ pub Flips-append : (n : ℕ) (a b : List Shape) → Flips n a → Flips n b → 
 Flips-append n [] b ha hb = hb
 Flips-append n (g ∷ a) b ha hb = (ha.0, Flips-append n a b ha.1 hb)
 
+-- flips whose controls are lines of the word, and never the one that is flipped, are gates on its lines
+flips_due : (n : ℕ) (due : ℕ → Bool → Bool) (care : List Bool → ℕ → ℕ) → n ≤ MOST_LINES
+    → ((w : List Bool) (line : ℕ) → length w ≡ n → line < n → due line (bit_of w line) ≡ true → (has (care w line) line ≡ false) × ((i : ℕ) → has (care w line) i ≡ true → i < n))
+    → (m line : ℕ) (w : List Bool) → line + m ≡ n → length w ≡ n → Flips n (due_flips due care line m w)
+unfolding due_flips
+flips_due n due care small right zero line w e len = tt
+flips_due n due care small right (suc m) line w e len =
+    elim (cases_Bool (due line (bit_of w line))) [
+      | inl on ↦
+          let r = right w line len (omega arith) on in
+          rw on (
+            (refl, (omega arith, r.0, λ i h. h), fits_of n (care w line) line (omega arith) r.1),
+            flips_due n due care small right m (line + 1) (flip w line) (omega arith) (length-flip w line ∙ len),
+          )
+      | inr off ↦ rw off (flips_due n due care small right m (line + 1) w (omega arith) len)
+    ]
+
+pub turning_flips : (goal w : List Bool) → length goal ≤ MOST_LINES → length w ≡ length goal → Flips (length goal) (turning goal w)
+unfolding turning set_flips clear_flips
+turning_flips goal w small len =
+    let n : ℕ = length goal in
+    let a : List Shape = due_flips (is_set_due goal) set_controls 0 n w in
+    Flips-append n a _
+    (flips_due n (is_set_due goal) set_controls small
+    (λ v line l lt due. (
+      has-ones_of v line ∙ not-true _ (and_parts (bit_of goal line) _ due).1,
+      λ i on. omega (arith, l, one_within v i (sym (has-ones_of v i) ∙ on)),
+    )) n 0 w (omega arith) len)
+    (flips_due n (is_clear_due goal) (clear_controls goal) small
+    (λ v line l lt due.
+    let u : List Bool = flip v line in
+    let ul : length u ≡ n = length-flip v line ∙ l in
+    care_cases goal v line (λ c. (has c line ≡ false) × ((i : ℕ) → has c i ≡ true → i < n))
+    (λ z. (has-none line, λ i on. absurd (false≢true (sym (has-none i) ∙ on)))) (
+      has-ones_of u line ∙ bit_of-flip_same v line (omega arith) ∙ ap not (and_parts (bit_of v line) _ due).0,
+      λ i on. omega (arith, ul, one_within u i (sym (has-ones_of u i) ∙ on)),
+    )) n 0 (run a w) (omega arith) (length-run a w ∙ len))
+
 set_bit : (g b : Bool) → g ≡ true → cond (g && not b) (not b) b ≡ true
 set_bit g b h = grind arith
 
 clear_bit : (g b : Bool) → (g ≡ true → b ≡ true) → cond (b && not g) (not b) b ≡ g
 clear_bit g b h = grind arith
 
-pub turn_turns : (goal w : List Bool) → length goal ≤ MOST_LINES → length w ≡ length goal → number_of goal ≤ number_of w → Turns goal w (turning goal w)
+pub turn_turns : (goal w : List Bool) → length w ≡ length goal → number_of goal ≤ number_of w → Turns goal w (turning goal w)
 unfolding turning set_flips clear_flips
-turn_turns goal w small len le =
+turn_turns goal w len le =
     let n : ℕ = length goal in
-    let s = steps_turn n (number_of goal) (λ v. number_of goal ≤ number_of v) (is_set_due goal) set_controls (bit_of goal) small
+    let s = steps_turn n (number_of goal) (λ v. number_of goal ≤ number_of v) (is_set_due goal) set_controls (bit_of goal)
     (set_rule goal n (number_of goal)) n 0 w (omega arith) len le in
     let a : List Shape = due_flips (is_set_due goal) set_controls 0 n w in
     let v : List Bool = run a w in
     let vlen : length v ≡ n = length-run a w ∙ len in
     let within : Within goal v = λ i on.
     s.changed i (omega arith) (omega (arith, one_within goal i on)) ∙ set_bit (bit_of goal i) (bit_of w i) on in
-    let t = steps_turn n (number_of goal) (Within goal) (is_clear_due goal) (clear_controls goal) (λ i. not (bit_of goal i)) small
+    let t = steps_turn n (number_of goal) (Within goal) (is_clear_due goal) (clear_controls goal) (λ i. not (bit_of goal i))
     (clear_rule goal n refl) n 0 v (omega arith) vlen within in
     let b : List Shape = due_flips (is_clear_due goal) (clear_controls goal) 0 n v in
     let both = count-not (bit_of goal) 0 n in
     record {
-      flips = Flips-append n a b s.flips t.flips;
       few = omega (arith, s.few, t.few, length-append a b);
       reached = run-append a b w
           ∙ same_words (run b v) goal (length-run b v ∙ vlen)

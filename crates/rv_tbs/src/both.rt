@@ -2,7 +2,6 @@
 ghost use Rattle.std.specs.Prelude.{◌≡◌, ◌^◌, ◌<◌, ◌++◌, IfOk, OnOk, All};
 ghost use Rattle.rv_gate.specs.Gate.{FitsIn, IsFlip};
 ghost use Rattle.rv_tbs.specs.Synthesis.{in_step_gates, applied_in, is_inward, sides, step, both_gates};
-ghost use Rattle.rv_tbs.specs.inside.Fixed.{FixedBelow};
 
 use super::outward::{outward_step, word_at};
 use super::turn::turning_gates;
@@ -33,7 +32,6 @@ fn both_step(
     outs: &mut Vec<Gate>,
 ) -> Result<(), AllocError>
     requires small { k < 2 ^ table.old.lines }
-    requires fixed { FixedBelow k table.old.images }
     ensures lines { table.new.lines ≡ table.old.lines }
     ensures found { OnOk result
         (sides table.new.images ins.new.items outs.new.items
@@ -58,7 +56,6 @@ fn is_inward(table: &Perm, k: u32) -> bool
 // Finds the gates of step `k` for the inputs, and lets them act there.
 fn inward_step(table: &mut Perm, k: u32, gates: &mut Vec<Gate>) -> Result<(), AllocError>
     requires small { k < 2 ^ table.old.lines }
-    requires fixed { FixedBelow k table.old.images }
     ensures lines { table.new.lines ≡ table.old.lines }
     ensures images { OnOk result
         (table.new.images

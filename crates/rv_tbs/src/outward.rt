@@ -3,7 +3,6 @@ ghost use Rattle.std.specs.Prelude.{◌≡◌, ◌^◌, ◌<◌, ◌≤◌, ◌+
 ghost use Rattle.rv_gate.specs.Word.{word_of};
 ghost use Rattle.rv_gate.specs.Gate.{run_on_number, FitsIn, IsFlip};
 ghost use Rattle.rv_tbs.specs.Synthesis.{step_gates, out_gates};
-ghost use Rattle.rv_tbs.specs.inside.Fixed.{FixedBelow};
 
 use super::turn::turning_gates;
 use rv_gate::{Gate, MOST_LINES, Word};
@@ -30,7 +29,6 @@ pub(crate) fn outward_step(
     gates: &mut Vec<Gate>,
 ) -> Result<(), AllocError>
     requires small { k < 2 ^ table.old.lines }
-    requires fixed { FixedBelow k table.old.images }
     ensures lines { table.new.lines ≡ table.old.lines }
     ensures images { OnOk result
         (table.new.images

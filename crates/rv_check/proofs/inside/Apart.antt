@@ -1,6 +1,6 @@
 -- Members whose words differ: the value at a member's word is that member's value.
 use Rattle.rv_gate.proofs.Words.{same_word-is, same_word-true, same_word-false}
-use Rattle.std.proofs.Common.{◌≡◌, ◌≢◌, ℕ, Bool, true, false, cond, ◌&&◌, List, [], ◌∷◌, map, length, set, fold, filter, refl, sym, ap, ap₂, ◌∙◌}
+use Rattle.std.proofs.Common.{arith, ◌≡◌, ◌≢◌, ℕ, Bool, true, false, cond, ◌&&◌, List, [], ◌∷◌, map, length, set, fold, filter, refl, sym, ap, ap₂, ◌∙◌}
 use Rattle.std.proofs.lemmas.Bool.{false≢true, and_parts}
 use Rattle.std.proofs.lemmas.List.Elements.{All-head, All-tail}
 use Rattle.std.specs.List.{list_all}
@@ -16,22 +16,17 @@ use Rattle.rv_check.specs.inside.Stands.{Apart, Fresh, On, value_at}
 use Rattle.rv_check.proofs.inside.Adding.{more}
 use Rattle.rv_check.proofs.Back.{goes_apart}
 use Rattle.rv_check.proofs.inside.Sparse.{Word}
+use Rattle.std.proofs.lemmas.Grind.{common_steps}
 
 fresh-added : (u : Word) (ms : List Member) (w : Word) (v : Cyclotomic) → Fresh u ms → w ≢ u → Fresh u (added ms w v)
 unfolding added
 fresh-added u [] w v h ne = (ne, tt)
-fresh-added u (m ∷ ms) w v h ne = go (same_word m.word w) (fresh-added u ms w v h.1 ne) where
-  go : (b : Bool) → Fresh u (added ms w v) → Fresh u (cond b (more m v ∷ ms) (m ∷ added ms w v))
-  go true r = h
-  go false r = (h.0, r)
+fresh-added u (m ∷ ms) w v h ne = let rest = fresh-added u ms w v h.1 ne in grind (arith, common_steps, rest, h.0, h.1, more)
 
 pub apart-added : (ms : List Member) (w : Word) (v : Cyclotomic) → Apart ms → Apart (added ms w v)
 unfolding added
 apart-added [] w v h = (tt, tt)
-apart-added (m ∷ ms) w v h = go (same_word m.word w) refl (apart-added ms w v h.1) where
-  go : (b : Bool) → same_word m.word w ≡ b → Apart (added ms w v) → Apart (cond b (more m v ∷ ms) (m ∷ added ms w v))
-  go true e r = h
-  go false e r = (fresh-added m.word ms w v h.0 (λ same. false≢true (sym e ∙ same_word-true m.word w (sym same))), r)
+apart-added (m ∷ ms) w v h = let rest = apart-added ms w v h.1 in grind (arith, common_steps, rest, h.0, h.1, more, fresh-added, same_word-true)
 
 apart-spread : (line : ℕ) (ms : List Member) (m : Member) → Apart ms → Apart (spread line ms m)
 unfolding spread
@@ -45,17 +40,11 @@ apart-fold_spread line acc (m ∷ ms) h = apart-fold_spread line (spread line ac
 
 fresh-filter : (p : Member → Bool) (u : Word) (ms : List Member) → Fresh u ms → Fresh u (filter p ms)
 fresh-filter p u [] h = tt
-fresh-filter p u (m ∷ ms) h = go (p m) (fresh-filter p u ms h.1) where
-  go : (b : Bool) → Fresh u (filter p ms) → Fresh u (cond b (m ∷ filter p ms) (filter p ms))
-  go true r = (h.0, r)
-  go false r = r
+fresh-filter p u (m ∷ ms) h = let rest = fresh-filter p u ms h.1 in grind (arith, common_steps, rest, h.0, h.1, filter)
 
 pub apart-filter : (p : Member → Bool) (ms : List Member) → Apart ms → Apart (filter p ms)
 apart-filter p [] h = tt
-apart-filter p (m ∷ ms) h = go (p m) (apart-filter p ms h.1) where
-  go : (b : Bool) → Apart (filter p ms) → Apart (cond b (m ∷ filter p ms) (filter p ms))
-  go true r = (fresh-filter p m.word ms h.0, r)
-  go false r = r
+apart-filter p (m ∷ ms) h = let rest = apart-filter p ms h.1 in grind (arith, common_steps, rest, h.0, h.1, filter, fresh-filter)
 
 pub apart-mixed : (line : ℕ) (ms : List Member) → Apart (filter is_present (fold (spread line) [] ms))
 apart-mixed line ms = apart-filter is_present (fold (spread line) [] ms) (apart-fold_spread line [] ms tt)
@@ -103,14 +92,7 @@ tail_value m ms z ne = ap (λ b. plus (cond b m.value nought) (value_at ms z)) (
 pub values_pass : (f : Word → Cyclotomic → Bool) → ((z : Word) → f z nought ≡ true) → (ms : List Member) → Apart ms → list_all (λ m. f m.word m.value) ms ≡ true → (z : Word) → f z (value_at ms z) ≡ true
 unfolding value_at
 values_pass f none [] h e z = none z
-values_pass f none (m ∷ ms) h e z =
-    let b = and_parts (f m.word m.value) (list_all (λ m. f m.word m.value) ms) e in
-    go (same_word m.word z) refl b.0 (values_pass f none ms h.1 b.1 z) where
-      go : (b : Bool) → same_word m.word z ≡ b → f m.word m.value ≡ true → f z (value_at ms z) ≡ true → f z (value_at (m ∷ ms) z) ≡ true
-      go true e p r =
-          let same = same_word-is m.word z e in
-          ap₂ f (sym same) (head_value m ms z same h.0) ∙ p
-      go false e p r = ap (f z) (tail_value m ms z (λ same. false≢true (sym e ∙ same_word-true m.word z same))) ∙ r
+values_pass f none (m ∷ ms) h e z = let rest = values_pass f none ms h.1 in grind (arith, common_steps, rest, h.0, h.1, and_parts, same_word-is, head_value, tail_value, same_word-true)
 
 pub members_pass : (f : Word → Cyclotomic → Bool) → ((z : Word) → f z nought ≡ true) → (n : ℕ) (ms : List Member) → Apart ms → On n ms
     → ((z : Word) → length z ≡ n → f z (value_at ms z) ≡ true) → list_all (λ m. f m.word m.value) ms ≡ true

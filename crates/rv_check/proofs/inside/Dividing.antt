@@ -1,11 +1,12 @@
 -- Values of all words, divided by the root of two.
-use Rattle.std.proofs.Common.{◌≡◌, ℕ, zero, suc, ◌≤◌, Bool, true, false, cond, ◌&&◌, List, [], ◌∷◌, map, refl, sym, ap, ap₂, ◌∙◌, arith}
+use Rattle.std.proofs.Common.{◌≡◌, ℕ, zero, suc, ◌≤◌, true, false, cond, ◌&&◌, List, [], ◌∷◌, map, refl, sym, ap, ap₂, ◌∙◌, arith}
 use Rattle.std.proofs.lemmas.Bool.{and_parts}
 use Rattle.std.specs.List.{list_all}
 use Rattle.rv_net.specs.Cyclotomic.{Cyclotomic, root2, times}
 use Rattle.rv_check.specs.Reduced.{is_multiple, quotient, reduced}
 use Rattle.rv_check.specs.inside.Dense.{halved, is_double, left}
 use Rattle.rv_check.proofs.inside.Multiples.{double_is, multiple-root2, quotient_root2}
+use Rattle.std.proofs.lemmas.Grind.{common_steps}
 
 pub reduced_more : (exponent k : ℕ) (vs : List Cyclotomic) → exponent ≡ suc k → list_all is_multiple vs ≡ true → reduced exponent vs ≡ reduced k (map quotient vs)
 unfolding reduced
@@ -68,7 +69,4 @@ left_twice exponent k vs e all =
 pub left-le : (exponent : ℕ) (vs : List Cyclotomic) → left exponent vs ≤ exponent
 unfolding left
 left-le zero vs = omega arith
-left-le (suc exponent) vs = go (list_all is_multiple vs) (left-le exponent (map quotient vs)) where
-  go : (b : Bool) → left exponent (map quotient vs) ≤ exponent → cond b (left exponent (map quotient vs)) (suc exponent) ≤ suc exponent
-  go true h = omega (arith, h)
-  go false h = omega arith
+left-le (suc exponent) vs = let rest = left-le exponent in grind (arith, common_steps, rest)

@@ -45,9 +45,6 @@ filled_shows ops x n start vs k len filled s = record {
   shows = subst (λ m. Shows m vs k.exponent k) (sym len) (record { values_are = filled s.apart; exponent_is = refl });
 }
 
-pub none_between : (ops : List Op) (x : Word) (start : ℕ) → NoneLargeIn ops x start start
-none_between ops x start p low high = absurd (omega (arith, low, high))
-
 pub followed_all : (ops : List Op) (x : Word) (n start place : ℕ) (vs ws : List Cyclotomic) (k l : Kept) → length x ≡ n → (Apart k.members → vs ≡ map (value_at k.members) (words n))
     → (ShowsAt ops x start vs k.exponent → ShowsAt ops x place ws l.exponent × NoneLargeIn ops x start place) → l.members ≡ filter is_present (members_from n 0 ws) → Stands (take start ops) x k
     → Stands (take place ops) x l × NoneLargeIn ops x start place

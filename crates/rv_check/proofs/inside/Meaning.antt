@@ -1,11 +1,10 @@
 -- What the answers of a check mean.
-use Rattle.std.proofs.Common.{◌≡◌, ◌≢◌, ℕ, zero, suc, ◌+◌, ◌^◌, ◌<◌, ◌≤◌, ◌==◌, Bool, true, false, cond, ◌&&◌, List, [], ◌∷◌, map, length, take, refl, sym, ap, ◌∙◌, arith, inl, inr, ◌⊎◌, ◌↔◌, subst}
+use Rattle.std.proofs.Common.{◌≡◌, ◌≢◌, ℕ, zero, suc, ◌+◌, ◌^◌, ◌<◌, ◌≤◌, Bool, true, false, cond, ◌&&◌, List, [], ◌∷◌, map, length, take, refl, sym, ap, ◌∙◌, arith, ◌⊎◌, ◌↔◌, subst}
 use Rattle.std.proofs.lemmas.Bool.{cases_eq, false≢true, false_from_ne_true, eq-eqb, eqb-true, ne_eqb, lt-ltb, le-ltb, ltb-true, ltb-false}
 use Rattle.std.proofs.lemmas.List.Folds.{list_all-append, list_all-map}
 use Rattle.std.proofs.lemmas.Option.{none-some, same_Some, cond_some}
 use Rattle.std.specs.List.{list_all, list_any}
-use Rattle.std.specs.Option.{option_or}
-use Rattle.std.specs.Prelude.{Option, None, Some, Result, Ok, Err, MatchResult, nat_lt, option_map}
+use Rattle.std.specs.Prelude.{Option, None, Some, Result, Ok, Err, MatchResult, option_map}
 use Rattle.rv_gate.proofs.FirstAnswer.{none_at, none_first}
 use Rattle.rv_gate.specs.Circuit.{Cascade}
 use Rattle.rv_gate.specs.FirstAnswer.{first}
@@ -29,6 +28,7 @@ use Rattle.rv_check.proofs.inside.Deciding.{are_same-same}
 use Rattle.rv_check.proofs.inside.Places.{first_answer}
 use Rattle.rv_check.proofs.inside.Sparse.{Word, same_from}
 use Rattle.rv_check.proofs.inside.Vectors.{each_word}
+use Rattle.std.proofs.lemmas.Grind.{common_steps}
 
 -- ---- the first answer is that of some number, and those before have none
 
@@ -42,18 +42,7 @@ pub record FirstAt (A : Type 0) (f : ℕ → Option A) (k m : ℕ) (a : A) : Typ
 first_some : {A : Type 0} (f : ℕ → Option A) (k m : ℕ) (a : A) → first f k m ≡ Some a → FirstAt A f k m a
 unfolding first
 first_some f k zero a e = absurd (none-some a e)
-first_some {A = A} f k (suc m) a e = go (f k) refl e (first_some f (k + 1) m a) where
-  go : (o : Option A) → f k ≡ o → option_or o (first f (k + 1) m) ≡ Some a → (first f (k + 1) m ≡ Some a → FirstAt A f (k + 1) m a) → FirstAt A f k (suc m) a
-  go (Some b) is e rest = record { number = k; from = omega arith; below = omega arith; answer = is ∙ e; before = λ p g h. absurd (omega arith) }
-  go None is e rest =
-      let r = rest e in
-      record {
-        number = r.number;
-        from = omega (arith, r.from);
-        below = omega (arith, r.below);
-        answer = r.answer;
-        before = λ p g h. elim (cases_eq k p) [ inl s ↦ sym (ap f s) ∙ is | inr ne ↦ r.before p (omega arith) h ];
-      }
+first_some {A = A} f k (suc m) a e = let rest = first_some f (k + 1) m a in grind (arith, common_steps, rest, cases_eq)
 
 -- ---- agreement
 
@@ -252,21 +241,7 @@ told_compared c net on = go (first_large net) refl (first_difference c.gates net
   go None large (Some w) e = (on, none_large_from net large, break_from_some c.gates net w e)
 
 told : (c : Cascade) (net : Network) → Tells c net (check_of c net)
-told c net = go (nat_lt MOST_CHECKED_LINES (length c.names)) refl (nat_lt MOST_CHECKED_LINES net.lines) refl (length c.names == net.lines) refl where
-  go : (p : Bool) → nat_lt MOST_CHECKED_LINES (length c.names) ≡ p → (q : Bool) → nat_lt MOST_CHECKED_LINES net.lines ≡ q → (r : Bool) → (length c.names == net.lines) ≡ r → Tells c net (check_of c net)
-  go true e q f r g = let lt = ltb-true MOST_CHECKED_LINES (length c.names) e in subst (Tells c net) (sym (circuit_lines c net lt)) (refl, lt)
-  go false e true f r g =
-      let le = ltb-false MOST_CHECKED_LINES (length c.names) e in
-      let lt = ltb-true MOST_CHECKED_LINES net.lines f in
-      subst (Tells c net) (sym (net_lines c net le lt)) (le, refl, lt)
-  go false e false f true g =
-      let on : OnSameLines c net = (eqb-true (length c.names) net.lines g, ltb-false MOST_CHECKED_LINES net.lines f) in
-      subst (Tells c net) (sym (same_lines c net on.0 on.1)) (told_compared c net on)
-  go false e false f false g =
-      let le = ltb-false MOST_CHECKED_LINES (length c.names) e in
-      let few = ltb-false MOST_CHECKED_LINES net.lines f in
-      let ne : length c.names ≢ net.lines = λ same. false≢true (sym g ∙ eq-eqb (length c.names) net.lines same) in
-      subst (Tells c net) (sym (other_lines c net le few ne)) (refl, refl, le, few, ne)
+told c net = grind (arith, common_steps, ltb-true, circuit_lines, ltb-false, net_lines, eqb-true, same_lines, told_compared, eq-eqb, other_lines)
 
 only : (c : Cascade) (net : Network) (answer : Answer) → Tells c net answer → check_of c net ≡ answer
 only c net (Err (CircuitLines n)) (is, lt) = circuit_lines c net (omega (arith, is, lt)) ∙ ap (λ k. Err (CircuitLines k)) is

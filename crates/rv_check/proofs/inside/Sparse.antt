@@ -16,13 +16,14 @@ use Rattle.rv_net.specs.declared.op.Op.TheVariants.{H}
 use Rattle.rv_net.proofs.Cyclotomic.{same_cyclotomic, plus_assoc, plus_comm, plus_nought, nought_plus, plus_swap, nought_times, times-add_left, times-add_right, times_w_power-zero}
 use Rattle.rv_net.proofs.Matrix.{same_sum, sum_over_words-zero, amplitude_product}
 use Rattle.rv_check.specs.Check.{are_same}
-use Rattle.rv_check.specs.Reduced.{is_multiple, quotient}
+use Rattle.rv_check.specs.Reduced.{is_multiple}
 use Rattle.rv_check.specs.declared.member.Member.{Member}
 use Rattle.rv_check.specs.inside.Kept.{added, divided, is_present, spread}
 use Rattle.rv_check.specs.inside.Stands.{On, at_word, scaled, value_at}
 use Rattle.rv_check.proofs.inside.Adding.{more}
 use Rattle.rv_check.proofs.inside.Multiples.{root2_quotient}
 use Rattle.rv_check.proofs.inside.Scaled.{scaled-plus, scaled-times}
+use Rattle.std.proofs.lemmas.Grind.{common_steps}
 
 abbrev pub Word : Type 0
 Word = List Bool
@@ -166,9 +167,4 @@ value_at-filter (m ∷ ms) z = go (are_same m.value nought) refl (value_at-filte
 pub value_at-divided : (ms : List Member) (z : Word) → list_all (λ m. is_multiple m.value) ms ≡ true → value_at ms z ≡ times root2 (value_at (map divided ms) z)
 unfolding value_at
 value_at-divided [] z e = sym (times_nought root2)
-value_at-divided (m ∷ ms) z e =
-    let b = and_parts (is_multiple m.value) (list_all (λ m. is_multiple m.value) ms) e in
-    ap₂ plus (at-root2 (same_word m.word z) m.value (root2_quotient m.value b.0)) (value_at-divided ms z b.1) ∙ sym (times-add_left root2 _ _) where
-      at-root2 : (b : Bool) (v : Cyclotomic) → times root2 (quotient v) ≡ v → cond b v nought ≡ times root2 (cond b (quotient v) nought)
-      at-root2 true v e = sym e
-      at-root2 false v e = sym (times_nought root2)
+value_at-divided (m ∷ ms) z e = let rest = value_at-divided ms z in grind (arith, common_steps, rest, and_parts, root2_quotient, times-add_left, times_nought)

@@ -1,5 +1,5 @@
 -- A network followed from a word, at a place where the kept vector stands for the first operations.
-use Rattle.std.proofs.Common.{◌≡◌, ℕ, ◌+◌, ◌<◌, ◌≤◌, true, false, ◌&&◌, ◌==◌, List, length, take, get_or, All, sym, ◌∙◌, arith, inl, inr, subst}
+use Rattle.std.proofs.Common.{◌≡◌, ℕ, ◌+◌, ◌<◌, ◌≤◌, true, false, ◌&&◌, ◌==◌, List, length, take, get_or, All, sym, ◌∙◌, arith, inl, inr}
 use Rattle.std.proofs.lemmas.Bool.{cases_eq, cases_lt}
 use Rattle.std.proofs.lemmas.List.{take_all, take_more}
 use Rattle.std.specs.List.{list_any}
@@ -16,10 +16,10 @@ use Rattle.rv_check.proofs.inside.Places.{followed_done, followed_large, stands_
 use Rattle.rv_check.proofs.inside.Sparse.{Word}
 use Rattle.rv_check.proofs.inside.Stands.{stands_after, stands_more}
 
-pub stands_next : (ops : List Op) (x : Word) (place : ℕ) (k : Kept) (d : Op) → All (λ op. OpFitsIn op (length x)) ops → place < length ops → Stands (take place ops) x k
-    → Stands (take (place + 1) ops) x (kept_more k (get_or ops place d))
-stands_next ops x place k d fits lt s =
-    subst (λ l. Stands l x (kept_more k (get_or ops place d))) (sym (take_more ops place d lt)) (stands_more (get_or ops place d) (take place ops) x k (fits place d lt) s)
+pub stands_next : (ops : List Op) (x : Word) (place : ℕ) (k next : Kept) (d : Op) → All (λ op. OpFitsIn op (length x)) ops → place < length ops → next ≡ kept_more k (get_or ops place d) → Stands (take place ops) x k
+    → Stands (take (place + 1) ops) x next
+stands_next ops x place k next d fits lt is s =
+    rw (is, take_more ops place d lt) (stands_more (get_or ops place d) (take place ops) x k (fits place d lt) s)
 
 same_large : (ops : List Op) (x : Word) (place : ℕ) (k : Kept) → All (λ op. OpFitsIn op (length x)) ops → Stands (take place ops) x k
     → has_large (kept_after (take place ops) x).members ≡ list_any (λ m. is_large m.value) k.members

@@ -7,7 +7,7 @@ use Rattle.rv_net.specs.Amplitude.{amplitude, count_h, same_word}
 use Rattle.rv_net.specs.Cyclotomic.{nought, unity, plus, times, times_w_power}
 use Rattle.rv_net.specs.Op.{goes_to, phase_of, OpFitsIn}
 use Rattle.rv_net.specs.declared.op.Op.{Op}
-use Rattle.rv_net.specs.declared.op.Op.TheVariants.{X, Y, Z, H, S, Sdg, T, Tdg, Cx, Cz, Ccx, Swap, Cswap}
+use Rattle.rv_net.specs.declared.op.Op.TheVariants.{H}
 use Rattle.rv_net.proofs.Cyclotomic.{plus_nought, nought_plus}
 use Rattle.rv_check.specs.Reduced.{is_multiple}
 use Rattle.rv_check.specs.declared.member.Member.{Member}
@@ -119,18 +119,7 @@ stands_moved op ops x k s next = record { divisions = next.divisions; total = ne
 pub stands_more : (op : Op) (ops : List Op) (x : Word) (k : Kept) → OpFitsIn op (length x) → Stands ops x k → Stands (ops ++ op ∷ []) x (kept_more k op)
 unfolding kept_more undivided_more
 stands_more (H q) ops x k fits s = over_reduced (ops ++ H q ∷ []) x _ (over_mixed q ops x k (over ops x k s))
-stands_more (X q) ops x k fits s = stands_moved (X q) ops x k s (over_more (X q) ops x k fits (over ops x k s))
-stands_more (Y q) ops x k fits s = stands_moved (Y q) ops x k s (over_more (Y q) ops x k fits (over ops x k s))
-stands_more (Z q) ops x k fits s = stands_moved (Z q) ops x k s (over_more (Z q) ops x k fits (over ops x k s))
-stands_more (S q) ops x k fits s = stands_moved (S q) ops x k s (over_more (S q) ops x k fits (over ops x k s))
-stands_more (Sdg q) ops x k fits s = stands_moved (Sdg q) ops x k s (over_more (Sdg q) ops x k fits (over ops x k s))
-stands_more (T q) ops x k fits s = stands_moved (T q) ops x k s (over_more (T q) ops x k fits (over ops x k s))
-stands_more (Tdg q) ops x k fits s = stands_moved (Tdg q) ops x k s (over_more (Tdg q) ops x k fits (over ops x k s))
-stands_more (Cx a b) ops x k fits s = stands_moved (Cx a b) ops x k s (over_more (Cx a b) ops x k fits (over ops x k s))
-stands_more (Cz a b) ops x k fits s = stands_moved (Cz a b) ops x k s (over_more (Cz a b) ops x k fits (over ops x k s))
-stands_more (Ccx a b c) ops x k fits s = stands_moved (Ccx a b c) ops x k s (over_more (Ccx a b c) ops x k fits (over ops x k s))
-stands_more (Swap a b) ops x k fits s = stands_moved (Swap a b) ops x k s (over_more (Swap a b) ops x k fits (over ops x k s))
-stands_more (Cswap c a b) ops x k fits s = stands_moved (Cswap c a b) ops x k s (over_more (Cswap c a b) ops x k fits (over ops x k s))
+stands_more o ops x k fits s = stands_moved o ops x k s (over_more o ops x k fits (over ops x k s))
 
 stands_all : (done ops : List Op) (x : Word) (k : Kept) → All (λ op. OpFitsIn op (length x)) ops → Stands done x k → Stands (done ++ ops) x (fold kept_more k ops)
 stands_all done [] x k fits s = rw (append-nil done) s

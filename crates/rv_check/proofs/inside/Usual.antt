@@ -1,15 +1,16 @@
 -- The operations that one pass with a mask does.
-use Rattle.std.proofs.Common.{◌≡◌, ℕ, ◌-◌, ◌*◌, ◌%◌, ◌^◌, ◌<◌, ◌≤◌, ◌&&◌, Bool, true, not, cond, List, map, length, set, refl, sym, ap, ap₂, ◌∙◌, arith}
+use Rattle.std.proofs.Common.{◌≡◌, ℕ, ◌-◌, ◌*◌, ◌%◌, ◌^◌, ◌<◌, ◌≤◌, ◌&&◌, ◌≢◌, Bool, true, false, not, cond, List, map, length, set, refl, sym, ap, ap₂, ◌∙◌, arith}
 use Rattle.std.proofs.lemmas.Bool.{eq-eqb}
+use Rattle.std.proofs.lemmas.List.{set_comm, set-get_or}
 use Rattle.std.proofs.Math.Nat.{mod-eq_of_lt}
 use Rattle.std.proofs.Math.Pow.{pow_mono}
 use Rattle.rv_gate.specs.Gate.{xor}
 use Rattle.std.specs.Int.Bits.{bit_or, or_zero_r}
 use Rattle.rv_gate.specs.Word.{bit_of, number_of}
 use Rattle.rv_net.specs.Cyclotomic.{Cyclotomic, times_w_power}
-use Rattle.rv_net.specs.Op.{OpFitsIn}
+use Rattle.rv_net.specs.Op.{OpFitsIn, goes_to}
 use Rattle.rv_net.specs.declared.op.Op.{Op}
-use Rattle.rv_net.specs.declared.op.Op.TheVariants.{X, Cx, Cz, Ccx}
+use Rattle.rv_net.specs.declared.op.Op.TheVariants.{X, Cx, Cz, Ccx, Swap, Cswap}
 use Rattle.rv_check.specs.Reduced.{words}
 use Rattle.rv_check.specs.inside.Dense.{Marks, covers, moved_at}
 use Rattle.rv_check.proofs.Back.{there}
@@ -81,3 +82,25 @@ ccx_done n a b c p q f ws fits e g is =
       held = λ x l. covers_two n a b p q x l fits.0 fits.1 e g;
       free = λ x d. ap₂ (λ s t. s && t) (there x c a d fits.4) (there x c b d fits.5);
     })
+
+-- what a pass that exchanges lines does
+abbrev pub Exchanges : ℕ → ℕ → ℕ → ℕ → (Word → Cyclotomic) → List Cyclotomic → Type 0
+Exchanges n mask a b f ws =
+    (on : Word → Bool) → Marks mask n a on → Marks mask n b on → ws ≡ map (λ x. f (cond (on x) (goes_to (Swap a b) x) x)) (words n)
+
+pub swap_done : (n a b : ℕ) (f : Word → Cyclotomic) (ws : List Cyclotomic) → Exchanges n 0 a b f ws → ws ≡ map (moved_at (Swap a b) f) (words n)
+unfolding times_w_power
+swap_done n a b f ws is = is (λ x. true) none none where
+  none : {q : ℕ} → Marks 0 n q (λ x. true)
+  none = record { held = λ x l. eq-eqb _ (number_of x) (or_zero_r (number_of x)); free = λ x b. refl }
+
+pub cswap_done : (n c a b p : ℕ) (f : Word → Cyclotomic) (ws : List Cyclotomic) → OpFitsIn (Cswap c a b) n → p ≡ 2 ^ (n - 1 - c) → Exchanges n p a b f ws → ws ≡ map (moved_at (Cswap c a b) f) (words n)
+unfolding times_w_power
+cswap_done n c a b p f ws fits e is =
+    is (λ x. bit_of x c) (marks a fits.3) (marks b fits.4) ∙ same_map _ _ n (λ x l. ap f (chosen x (bit_of x c))) where
+      marks : (q : ℕ) → c ≢ q → Marks p n q (λ x. bit_of x c)
+      marks q ne = record { held = λ x l. ap (λ m. covers m (number_of x)) e ∙ covers_line n c x l fits.0; free = λ x d. there x q c d ne }
+
+      chosen : (x : Word) (on : Bool) → cond on (goes_to (Swap a b) x) x ≡ set (set x a (cond on (bit_of x b) (bit_of x a))) b (cond on (bit_of x a) (bit_of x b))
+      chosen x true = refl
+      chosen x false = sym (set_comm x a b _ _ fits.5 ∙ ap (λ y. set y a (bit_of x a)) (set-get_or x b false) ∙ set-get_or x a false)

@@ -1,6 +1,6 @@
 -- Vectors over all words, and their reduction.
 use Rattle.rv_gate.proofs.Bits.{same_bool}
-use Rattle.std.proofs.Common.{◌≡◌, ℕ, zero, suc, ◌+◌, Bool, true, false, cond, not, ◌&&◌, ◌||◌, List, [], ◌∷◌, map, length, refl, sym, ap, ap₂, ◌∙◌, arith, ◌⊎◌}
+use Rattle.std.proofs.Common.{◌≡◌, ℕ, zero, suc, ◌+◌, Bool, true, false, cond, not, ◌&&◌, List, [], ◌∷◌, map, length, refl, sym, ap, ap₂, ◌∙◌, arith, ◌⊎◌}
 use Rattle.std.proofs.lemmas.Bool.{and_parts}
 use Rattle.std.proofs.lemmas.List.Folds.{list_all-append, list_all-map}
 use Rattle.std.specs.List.{list_all, list_any}
@@ -11,6 +11,7 @@ use Rattle.rv_check.specs.inside.Stands.{Apart, On, scaled, value_at}
 use Rattle.rv_check.proofs.inside.Apart.{members_pass, values_pass}
 use Rattle.rv_check.proofs.inside.Multiples.{multiple-root2, quotient_root2, large-nought}
 use Rattle.rv_check.proofs.inside.Sparse.{Word}
+use Rattle.std.proofs.lemmas.Grind.{common_steps}
 
 -- ---- tests of all words
 
@@ -38,10 +39,7 @@ each_word f o e v l = absurd (omega (arith, l))
 
 pub any_is : {X : Type 0} (p : X → Bool) (xs : List X) → list_any p xs ≡ not (list_all (λ x. not (p x)) xs)
 any_is p [] = refl
-any_is p (x ∷ xs) = go (p x) (any_is p xs) where
-  go : (b : Bool) → list_any p xs ≡ not (list_all (λ x. not (p x)) xs) → (b || list_any p xs) ≡ not (not b && list_all (λ x. not (p x)) xs)
-  go true r = refl
-  go false r = r
+any_is p (x ∷ xs) = let rest = any_is p xs in grind (arith, common_steps, rest)
 
 -- ---- the vector of members
 

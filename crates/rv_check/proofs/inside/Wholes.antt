@@ -1,10 +1,9 @@
 -- The values of all words, as the operations change them: those of the kept vector.
 use Rattle.rv_gate.proofs.Lists.{map_map}
 use Rattle.rv_gate.proofs.Words.{same_word-is, same_word-true, same_word-false}
-use Rattle.std.proofs.Common.{◌≡◌, ℕ, zero, suc, ◌+◌, ◌<◌, Bool, true, false, cond, ◌&&◌, List, [], ◌∷◌, map, length, take, set, fold, refl, sym, ap, ap₂, ◌∙◌, arith, subst}
+use Rattle.std.proofs.Common.{◌≡◌, ℕ, zero, suc, ◌+◌, ◌<◌, Bool, true, false, cond, List, [], ◌∷◌, map, length, take, set, fold, refl, sym, ap, ap₂, ◌∙◌, arith, subst}
 use Rattle.std.proofs.lemmas.Int.{ints}
 use Rattle.std.proofs.lemmas.List.Elements.{All-head, All-tail}
-use Rattle.rv_gate.specs.Gate.{same}
 use Rattle.rv_gate.specs.Word.{bit_of}
 use Rattle.rv_net.specs.Amplitude.{amplitude, same_word}
 use Rattle.rv_net.specs.Cyclotomic.{Cyclotomic, negated, nought, plus, times, times_w_power}
@@ -24,6 +23,7 @@ use Rattle.rv_check.proofs.inside.Numbers.{same_map}
 use Rattle.rv_check.proofs.inside.Sparse.{Word, signed_at, turned_at, value_at-divided, value_at-filter, value_at-fold_spread, worth}
 use Rattle.rv_check.proofs.inside.Stands.{on_divided, over, over_reduced}
 use Rattle.rv_check.proofs.inside.Vectors.{vector_all}
+use Rattle.std.proofs.lemmas.Grind.{common_steps}
 
 -- ---- an operation that is no H
 
@@ -94,27 +94,8 @@ both_parts : (q : ℕ) (w z : Word) (v : Cyclotomic) → q < length w → length
 unfolding mixed_at
 both_parts q [] z v lt l = absurd (omega (arith, lt))
 both_parts q (c ∷ w) [] v lt l = absurd (omega (arith, l))
-both_parts zero (c ∷ w) (b ∷ z) v lt l = go b c (same_word w z) where
-  go : (b c s : Bool)
-      → plus (cond (same false b && s) v nought) (cond (same true b && s) (cond c (negated v) v) nought)
-      ≡ cond b (minus (cond (same c false && s) v nought) (cond (same c true && s) v nought)) (plus (cond (same c false && s) v nought) (cond (same c true && s) v nought))
-  go true true true = nought_plus (negated v) ∙ sym (nought_minus v)
-  go true true false = plus_nought nought ∙ sym (minus_nought nought)
-  go true false true = nought_plus v ∙ sym (minus_nought v)
-  go true false false = plus_nought nought ∙ sym (minus_nought nought)
-  go false true true = plus_comm v nought
-  go false true false = refl
-  go false false true = refl
-  go false false false = refl
-both_parts (suc q) (c ∷ w) (b ∷ z) v lt l = go c b (both_parts q w z v (omega (arith, lt)) (omega (arith, l))) where
-  none : (d : Bool) → plus nought nought ≡ cond d (minus nought nought) (plus nought nought)
-  none true = plus_nought nought ∙ sym (minus_nought nought)
-  none false = refl
-
-  go : (c b : Bool) → plus (at_word (set w q false) z v) (at_word (set w q true) z (cond (bit_of w q) (negated v) v)) ≡ mixed_at q (λ y. at_word w y v) z
-      → plus (at_word (c ∷ set w q false) (b ∷ z) v) (at_word (c ∷ set w q true) (b ∷ z) (cond (bit_of w q) (negated v) v))
-      ≡ cond (bit_of z q) (minus (at_word (c ∷ w) (b ∷ set z q false) v) (at_word (c ∷ w) (b ∷ set z q true) v)) (plus (at_word (c ∷ w) (b ∷ set z q false) v) (at_word (c ∷ w) (b ∷ set z q true) v))
-  go c b h = grind (arith, none)
+both_parts zero (c ∷ w) (b ∷ z) v lt l = grind (arith, common_steps, nought_plus, nought_minus, plus_nought, minus_nought, plus_comm)
+both_parts (suc q) (c ∷ w) (b ∷ z) v lt l = let rest = both_parts q w z v in grind (arith, common_steps, rest, plus_nought, minus_nought)
 
 worth_one : (q : ℕ) (w z : Word) (v : Cyclotomic) → q < length w → length w ≡ length z → times v (amplitude (H q ∷ []) w z) ≡ mixed_at q (λ y. at_word w y v) z
 unfolding amplitude times_w_power

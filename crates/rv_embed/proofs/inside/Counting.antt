@@ -1,18 +1,17 @@
 -- How often output words are used while the words are found.
-use Rattle.std.proofs.Common.{◌≡◌, ◌≢◌, ℕ, zero, suc, ◌+◌, ◌^◌, ◌<◌, ◌≤◌, Bool, true, false, not, ◌&&◌, cond, eqb, List, length, set, get_or, refl, sym, ◌∙◌, ap, inl, inr, arith, eq-eqb, ne_eqb, add-one, length-set, get_or-set_same, get_or-set_other, ext_get_or}
-use Rattle.std.specs.Prelude.{◌⊎◌, bit_and}
+use Rattle.std.proofs.Common.{◌≡◌, ◌≢◌, ℕ, zero, suc, ◌+◌, ◌^◌, ◌<◌, ◌≤◌, Bool, true, false, not, ◌&&◌, cond, eqb, List, length, set, get_or, refl, sym, ◌∙◌, ap, subst, inl, inr, arith, eq-eqb, ne_eqb, add-one, length-set, get_or-set_same, get_or-set_other, ext_get_or}
+use Rattle.std.specs.Prelude.{◌⊎◌}
 use Rattle.std.specs.List.{count_by, range_with_len}
-use Rattle.std.proofs.lemmas.Bool.{cases_Bool, cases_eq, eqb-true, false≢true}
+use Rattle.std.proofs.lemmas.Bool.{cases_Bool, cases_eq, false≢true}
 use Rattle.std.proofs.lemmas.List.{map-id}
 use Rattle.std.proofs.lemmas.List.FromFn.{length-range_with_len, length-map-range_with_len, get_or-map-range_with_len, sum_by-map-range_with_len_more}
 use Rattle.std.proofs.lemmas.List.Sums.{count_by-le-length}
 use Rattle.rv_pla.specs.Pla.{TwoLevel}
-use Rattle.rv_pla.specs.declared.entry.Entry.{Entry}
 use Rattle.rv_embed.specs.Filled.{row, is_open, suits, own_word, known_uses, taken_word, raised, uses, greedy_word}
 use Rattle.rv_embed.specs.inside.Rows.{IsLeastUsed, entries_row, fits, known_before}
 use Rattle.rv_embed.specs.declared.row.Row.{Row}
 use Rattle.rv_embed.proofs.inside.Fillings.{least_used_is, taken_fits}
-use Rattle.rv_embed.proofs.inside.Walking.{fit_agrees, agrees_fit, free_is, want_own}
+use Rattle.rv_embed.proofs.inside.Walking.{fits_suits, free_is, want_own}
 
 -- 1 where two words are the same
 abbrev pub hit : ℕ → ℕ → ℕ
@@ -139,26 +138,19 @@ uses-le pla (suc x) y h =
     ]
 
 -- the same property for the same test
-least_same : (p q : ℕ → Bool) (c : ℕ → ℕ) (n y : ℕ) → ((z : ℕ) → z < n → p z ≡ true → q z ≡ true) → ((z : ℕ) → z < n → q z ≡ true → p z ≡ true) → IsLeastUsed p c n y → IsLeastUsed q c n y
-least_same p q c n y pq qp h = record {
+least_same : (p q : ℕ → Bool) (c : ℕ → ℕ) (n y : ℕ) → ((z : ℕ) → p z ≡ q z) → IsLeastUsed p c n y → IsLeastUsed q c n y
+least_same p q c n y same h = record {
   within = h.within;
-  passed = pq y h.within h.passed;
-  least = λ z l f. h.least z l (qp z l f);
-  first = λ z l f. h.first z l (qp z (let w = h.within in omega arith) f);
+  passed = sym (same y) ∙ h.passed;
+  least = λ z l f. h.least z l (same z ∙ f);
+  first = λ z l f. h.first z l (same z ∙ f);
 }
 
 -- the word that is used least
 least_taken : (pla : TwoLevel) (counts : List ℕ) (n v : ℕ) (r : Row) → r ≡ entries_row (row pla n) pla.outputs → IsLeastUsed (fits r.care r.want) (λ y. get_or counts y 0) (2 ^ pla.outputs) v → v ≡ taken_word pla counts n
 least_taken pla counts n v r e least =
-    let o : ℕ = pla.outputs in
-    let entries : ℕ → Entry = row pla n in
-    let ec : r.care ≡ (entries_row entries o).care = ap (λ (t : Row). t.care) e in
-    let ew : r.want ≡ (entries_row entries o).want = ap (λ (t : Row). t.want) e in
-    sym (least_used_is (suits entries o) (λ y. get_or counts y 0) (2 ^ o) v
-    (least_same (fits r.care r.want) (suits entries o) (λ y. get_or counts y 0) (2 ^ o) v
-    (λ z l g. fit_agrees entries o z (ap (bit_and z) (sym ec) ∙ eqb-true _ _ g ∙ ew))
-    (λ z l g. eq-eqb _ _ (ap (bit_and z) ec ∙ agrees_fit entries o z l g ∙ sym ew))
-    least))
+    let P : Row → Type 0 = λ t. IsLeastUsed (fits t.care t.want) (λ y. get_or counts y 0) (2 ^ pla.outputs) v in
+    sym (least_used_is _ _ _ v (least_same _ (suits (row pla n) pla.outputs) _ _ v (fits_suits (row pla n) pla.outputs) (subst P e least)))
 
 -- one more input word has its output word
 pub record Found (pla : TwoLevel) (counts : List ℕ) (n v : ℕ) : Type 0 where

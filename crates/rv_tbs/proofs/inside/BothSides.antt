@@ -1,6 +1,6 @@
 -- Gates on the inputs and on the outputs meet, and compute the permutation.
 use Rattle.std.proofs.lemmas.Grind.{common_steps}
-use Rattle.std.proofs.Common.{◌≡◌, ℕ, zero, suc, ◌+◌, ◌*◌, ◌^◌, ◌<◌, ◌≤◌, Bool, true, false, List, [], ◌∷◌, ◌++◌, length, map, reverse, get_or, drop, refl, sym, ◌∙◌, ap, subst, inl, inr, arith, length-append}
+use Rattle.std.proofs.Common.{◌≡◌, ℕ, zero, suc, ◌+◌, ◌*◌, ◌^◌, ◌<◌, ◌≤◌, Bool, true, false, List, [], ◌∷◌, ◌++◌, length, map, reverse, get_or, drop, refl, sym, ◌∙◌, ap, subst, inl, inr, arith, add-one, length-append}
 use Rattle.std.proofs.lemmas.Bool.{cases_lt, cases_Bool, cond-true, cond-false}
 use Rattle.std.proofs.lemmas.List.{get_or-map, reverse-append, reverse-reverse, length-reverse, drop_more, drop_all}
 use Rattle.rv_gate.specs.Word.{number_of, word_of}
@@ -13,7 +13,7 @@ use Rattle.rv_perm.proofs.inside.Inverse.{onto, place_once, preimage_of-is, leng
 use Rattle.rv_tbs.specs.Synthesis.{turning, step_gates, in_step_gates, applied_in, is_inward, Sides, sides, step, after, never, out_gates, both_gates}
 use Rattle.rv_tbs.specs.inside.Fixed.{FixedBelow}
 use Rattle.rv_tbs.proofs.Turning.{Flips, Flips-append, turn_turns}
-use Rattle.rv_tbs.proofs.inside.OutGates.{word_of-run, step_does, run_reverse, Flips-reverse}
+use Rattle.rv_tbs.proofs.inside.OutGates.{word_of-run, step_does, step_flips, run_reverse, Flips-reverse}
 
 -- ---- gates on the inputs
 
@@ -97,10 +97,9 @@ inward_from n k w images p fixed lt wlt wk =
     let gk : number_of goal ≡ k = number_of-word_of_small n k lt in
     let vw : number_of v ≡ w = number_of-word_of_small n w wlt in
     let le : k ≤ w = elim (cases_lt w k) [ inl less ↦ (let e = fixed w less in absurd (omega arith)) | inr ge ↦ ge ] in
-    let t = turn_turns goal v (omega (arith, p.1)) (vl ∙ sym gl) (omega arith) in
+    let t = turn_turns goal v (vl ∙ sym gl) (omega arith) in
     let gates : List Shape = turning goal v in
-    let F : ℕ → Type 0 = λ c. Flips c gates in
-    let flips : Flips n gates = subst F gl t.flips in
+    let flips = step_flips n k w (omega (arith, p.1)) in
     record {
       flips = flips;
       few = omega (arith, t.few);
@@ -274,33 +273,6 @@ unfolding step
 step_out inward n k images images' ins outs outs' b test off acted pushed =
     rw (acted, pushed) (sym (cond-false (inward k images) _ _ (sym test ∙ off)))
 
--- what the loop over k keeps
-pub record Searched (inward : ℕ → List ℕ → Bool) (n k : ℕ) (images : List ℕ) (s : Sides) : Type 0 where
-  pub is : s ≡ after inward n images k
-  pub fixed : FixedBelow k s.images
-  pub within : k ≤ 2 ^ n
-
-searched_from : (inward : ℕ → List ℕ → Bool) (n k : ℕ) (images : List ℕ) (s : Sides) → IsPerm n images → k ≤ 2 ^ n → s ≡ after inward n images k
-    → Searched inward n k images s
-searched_from inward n k images s p le is = record {
-  is = is;
-  fixed = subst (λ (t : Sides). FixedBelow k t.images) (sym is) (between_after inward n images p k le).fixed;
-  within = le;
-}
-
-pub searched_start : (inward : ℕ → List ℕ → Bool) (n : ℕ) (images images' : List ℕ) (ins outs : List Shape) → IsPerm n images → images' ≡ images → ins ≡ [] → outs ≡ []
-    → Searched inward n 0 images (sides images' ins outs)
+pub after_more : (inward : ℕ → List ℕ → Bool) (n : ℕ) (images : List ℕ) (k : ℕ) → after inward n images (k + 1) ≡ step inward n k (after inward n images k)
 unfolding after
-searched_start inward n images images' ins outs p same no_ins no_outs =
-    searched_from inward n 0 images (sides images' ins outs) p (omega arith) (rw (same, no_ins, no_outs) refl)
-
-pub searched_more : (inward : ℕ → List ℕ → Bool) (n n' k : ℕ) (images : List ℕ) (s t : Sides) → IsPerm n images → n' ≡ n → k < 2 ^ n → t ≡ step inward n' k s
-    → Searched inward n k images s → Searched inward n (k + 1) images t
-unfolding after
-searched_more inward n n' k images s t p lines lt stepped h =
-    let next : suc k ≡ k + 1 = omega arith in
-    searched_from inward n (k + 1) images t p (omega arith)
-    (stepped ∙ ap (λ m. step inward m k s) lines ∙ ap (step inward n k) h.is ∙ ap (after inward n images) next)
-
-pub searched_all : (inward : ℕ → List ℕ → Bool) (n k : ℕ) (images : List ℕ) (s : Sides) → 2 ^ n ≤ k → Searched inward n k images s → s ≡ after inward n images (2 ^ n)
-searched_all inward n k images s past h = grind arith
+after_more inward n images k = rw (add-one k) refl

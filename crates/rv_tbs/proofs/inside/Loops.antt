@@ -1,5 +1,5 @@
 -- The loops of the synthesis against its definitions.
-use Rattle.std.proofs.Common.{◌≡◌, ℕ, zero, suc, ◌+◌, ◌-◌, ◌*◌, ◌^◌, ◌<◌, ◌≤◌, Bool, true, false, not, cond, eqb, List, [], ◌∷◌, ◌++◌, length, map, get_or, set, take, drop, sym, ◌∙◌, ap, subst, arith, append_assoc}
+use Rattle.std.proofs.Common.{◌≡◌, ℕ, zero, suc, ◌+◌, ◌-◌, ◌*◌, ◌^◌, ◌<◌, ◌≤◌, Bool, true, false, not, cond, eqb, List, [], ◌∷◌, ◌++◌, length, map, get_or, set, take, drop, sym, ◌∙◌, ap, arith, append_assoc}
 use Rattle.std.proofs.lemmas.Bool.{cases_lt, cond-true, and_parts, not-true}
 use Rattle.std.proofs.lemmas.List.{append-nil, length-set, drop_more}
 use Rattle.std.proofs.lemmas.Nat.{pow_below}
@@ -7,13 +7,14 @@ use Rattle.std.proofs.Math.Nat.{mul-le-mul}
 use Rattle.std.proofs.Math.Seq.{drop-append_seam}
 use Rattle.rv_gate.proofs.Lists.{take_rest}
 use Rattle.rv_gate.specs.Word.{has, bit_of, number_of, word_of, ones_of}
+use Rattle.rv_gate.specs.declared.word.TheConstants.{MOST_LINES}
 use Rattle.rv_gate.specs.Gate.{holds, flip, run, act_on_number, run_on_number, FitsIn, IsFlip, IsGate}
 use Rattle.rv_gate.specs.declared.gate.Shape.{Shape}
 use Rattle.rv_gate.specs.declared.gate.Shape.TheVariants.{Flip}
 use Rattle.rv_tbs.specs.Synthesis.{due_flips, is_set_due, set_controls, is_clear_due, clear_controls, turning}
 use Rattle.rv_gate.proofs.inside.Ones.{has-ones_of}
 use Rattle.rv_tbs.proofs.Turning.{Flips, holds_within, clear_held}
-use Rattle.rv_tbs.proofs.inside.OutGates.{map_run_cons}
+use Rattle.rv_tbs.proofs.inside.OutGates.{map_run_cons, step_flips}
 
 -- ---- a row of flips, one line on
 
@@ -129,14 +130,8 @@ pub gates_bound : (n : ℕ) → n ≤ 16 → n * 2 ^ n ≤ 2 ^ 20
 gates_bound n h = grind (arith, cases_lt, pow_below, mul-le-mul)
 
 -- the gates that turn a word into the goal, as the code makes them
-pub turned_all : (n k x : ℕ) (gates : List Shape) (lines j : ℕ) (goal w : List Bool) → lines ≡ n → goal ≡ word_of lines k → w ≡ word_of lines j → j ≡ x → gates ≡ turning goal w
-    → Flips n (turning (word_of n k) (word_of n x)) → (i : ℕ) (d : Shape) → i < length gates → IsFlip (get_or gates i d) × FitsIn (get_or gates i d) n
-turned_all n k x gates lines j goal w same ge we je are flips =
-    let e : gates ≡ turning (word_of n k) (word_of n x) =
-    are ∙ ap (λ v. turning v w) (ge ∙ ap (λ m. word_of m k) same)
-    ∙ ap (turning (word_of n k)) (we ∙ ap (λ m. word_of m j) same ∙ ap (word_of n) je) in
-    let P : List Shape → Type 0 = λ l. Flips n l in
-    flips_at n gates (subst P (sym e) flips)
+pub turned_all : (n k x : ℕ) (gates : List Shape) (goal w : List Bool) → n ≤ MOST_LINES → goal ≡ word_of n k → w ≡ word_of n x → gates ≡ turning goal w → Flips n gates
+turned_all n k x gates goal w small ge we are = rw (are, ge, we) (step_flips n k x small)
 
 -- the gates that were added
 pub added : (old new found shown : List Shape) (start : ℕ) → start ≡ length old → new ≡ old ++ found → shown ≡ new → take (length shown - start) (drop start shown) ≡ found

@@ -5,6 +5,7 @@ use Rattle.std.proofs.lemmas.Simd.{map-map}
 use Rattle.std.proofs.lemmas.List.{length-map, get_or-map, reverse-append}
 use Rattle.rv_gate.specs.Word.{number_of, word_of}
 use Rattle.rv_gate.specs.inside.WordLaws.{length-word_of, number_of-word_of_small, word_of-number_of}
+use Rattle.rv_gate.specs.declared.word.TheConstants.{MOST_LINES}
 use Rattle.rv_gate.specs.Gate.{act, run, act_on_number, run_on_number}
 use Rattle.rv_gate.specs.declared.gate.Shape.{Shape}
 use Rattle.rv_gate.proofs.inside.GateLemmas.{length-act, length-run, run-append, act_twice, word_of-act_on_number}
@@ -12,7 +13,7 @@ use Rattle.rv_perm.specs.Perm.{IsPerm}
 use Rattle.rv_perm.proofs.Images.{perm_moved}
 use Rattle.rv_tbs.specs.Synthesis.{turning, step_gates}
 use Rattle.rv_tbs.specs.inside.Fixed.{FixedBelow}
-use Rattle.rv_tbs.proofs.Turning.{Flips, Flips-append, turn_turns}
+use Rattle.rv_tbs.proofs.Turning.{Flips, Flips-append, turn_turns, turning_flips}
 
 -- ---- gates on all images
 
@@ -49,6 +50,13 @@ image_above n k images p fixed lt =
       | inr above ↦ above
     ]
 
+-- the gates of a step are flips on its lines
+pub step_flips : (n k x : ℕ) → n ≤ MOST_LINES → Flips n (turning (word_of n k) (word_of n x))
+step_flips n k x small =
+    let len : length (word_of n k) ≡ n = length-word_of n k in
+    let F : ℕ → Type 0 = λ c. Flips c (turning (word_of n k) (word_of n x)) in
+    subst F len (turning_flips (word_of n k) (word_of n x) (omega (arith, len)) (length-word_of n x ∙ sym len))
+
 pub record Step (n k : ℕ) (images : List ℕ) (gates : List Shape) : Type 0 where
   pub flips : Flips n gates
   pub few : length gates ≤ n
@@ -67,10 +75,9 @@ step_does n k images p fixed lt =
     let gk : number_of goal ≡ k = number_of-word_of_small n k lt in
     let wj : number_of w ≡ j = number_of-word_of_small n j jlt in
     let le : k ≤ j = image_above n k images p fixed lt in
-    let t = turn_turns goal w (omega (arith, p.1)) (wl ∙ sym gl) (omega arith) in
+    let t = turn_turns goal w (wl ∙ sym gl) (omega arith) in
     let gates : List Shape = turning goal w in
-    let F : ℕ → Type 0 = λ c. Flips c gates in
-    let flips : Flips n gates = subst F gl t.flips in
+    let flips = step_flips n k j (omega (arith, p.1)) in
     record {
       flips = flips;
       few = omega (arith, t.few);

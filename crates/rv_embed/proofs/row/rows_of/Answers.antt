@@ -1,7 +1,6 @@
 use Rattle.std.proofs.Common.{◌≡◌, ◌^◌, ℕ, map, ◌++◌, ◌∷◌, [], ◌∙◌, ap, sym, arith}
 use Rattle.std.specs.List.{range_with_len}
 use Rattle.std.proofs.lemmas.List.FromFn.{map-range_with_len_more}
-use Rattle.std.proofs.lemmas.Nat.{one_shl}
 use Rattle.rv_embed.specs.Filled.{row}
 use Rattle.rv_embed.specs.inside.Rows.{entries_row}
 use Rattle.rv_embed.specs.declared.row.Row.{Row}
@@ -15,8 +14,5 @@ loop-input-preserved c =
 
 pub returns : goal.returns
 returns c =
-    let few = c.inputs.ensures.valid.few_inputs in
-    let p = one_shl c.inputs.result 32 (omega (arith, c.inputs.ensures.value)) in
-    let q : 2 ^ c.inputs.result ≡ 2 ^ c.args.pla.now.inputs = ap (λ k. 2 ^ k) c.inputs.ensures.value in
     let all : c.loop-input.input ≡ 2 ^ c.args.pla.now.inputs = omega arith in
     c.loop-input.invariant ∙ ap (λ n. map (λ x. entries_row (row c.args.pla.now x) c.args.pla.now.outputs) (range_with_len 0 n)) all

@@ -1,7 +1,6 @@
 use Rattle.std.proofs.Common.{◌≡◌, ℕ, ◌^◌, ◌<◌, map, ◌∙◌, ap, arith}
 use Rattle.std.specs.List.{range_with_len}
 use Rattle.std.proofs.lemmas.List.Elements.{All-push}
-use Rattle.std.proofs.lemmas.Nat.{one_shl}
 use Rattle.rv_gate.specs.Word.{number_of, word_of}
 use Rattle.rv_pla.specs.Pla.{TwoLevel}
 use Rattle.rv_pla.specs.Zeros.{output_word, zeros}
@@ -29,8 +28,5 @@ loop-input-preserved c = record {
 pub returns-clause-table : goal.returns-clause-table
 unfolding zeros
 returns-clause-table c =
-    let few = c.inputs.ensures.valid.few_inputs in
-    let words = one_shl c.inputs.result 32 (omega (arith, c.inputs.ensures.value)) in
-    let same : 2 ^ c.inputs.result ≡ 2 ^ c.args.pla.now.inputs = ap (λ k. 2 ^ k) c.inputs.ensures.value in
     let all : c.loop-input.input ≡ 2 ^ c.args.pla.now.inputs = omega arith in
     c.loop-input.invariant.table ∙ ap (λ n. map (output_at c.args.pla.now) (range_with_len 0 n)) all

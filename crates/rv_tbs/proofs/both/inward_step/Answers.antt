@@ -1,7 +1,7 @@
-use Rattle.std.proofs.Common.{◌≡◌, length, vec_len, ap, sym, ◌∙◌, rules}
+use Rattle.std.proofs.Common.{◌≡◌, length, vec_len, ap, sym, ◌∙◌, arith, rules}
 use Rattle.rv_gate.specs.inside.WordLaws.{length-word_of}
-use Rattle.rv_tbs.proofs.inside.BothSides.{inward_does}
-use Rattle.rv_tbs.proofs.inside.Loops.{added, turned_all}
+use Rattle.rv_gate.specs.Word.{word_of}
+use Rattle.rv_tbs.proofs.inside.Loops.{added, flips_at, turned_all}
 use Rattle.rv_tbs.proofs.both.inward_step.Goals as goal
 
 pub turning_gates-requires : goal.turning_gates-requires
@@ -9,14 +9,10 @@ turning_gates-requires c =
     ap length c.word_at-2.ensures ∙ length-word_of c.lines-lines.result c.inverse_get.result
     ∙ sym (ap length c.word_at.ensures ∙ length-word_of c.lines-lines.result c.args.k)
 
-pub apply_to_inputs-requires-clause-flips : goal.apply_to_inputs-requires-clause-flips
-apply_to_inputs-requires-clause-flips c k d h =
+pub apply_to_inputs-requires : goal.apply_to_inputs-requires
+apply_to_inputs-requires c =
     let len : vec_len c.args.gates.now ≡ length c.args.gates.now.items = search rules in
-    (turned_all _ _ _ _ c.lines-lines.result _ _ _ c.lines-lines.ensures.value c.word_at.ensures c.word_at-2.ensures c.inverse_get.ensures.value (added _ _ _ _ _ (c.len-start.ensures ∙ len) c.in_ok-turning_gates.ensures c.deref.ensures.value)
-    (inward_does _ _ _ c.lines-lines.ensures.valid c.requires.fixed c.requires.small).flips k d h).0
-
-pub apply_to_inputs-requires-clause-fits : goal.apply_to_inputs-requires-clause-fits
-apply_to_inputs-requires-clause-fits c k d h =
-    let len : vec_len c.args.gates.now ≡ length c.args.gates.now.items = search rules in
-    (turned_all _ _ _ _ c.lines-lines.result _ _ _ c.lines-lines.ensures.value c.word_at.ensures c.word_at-2.ensures c.inverse_get.ensures.value (added _ _ _ _ _ (c.len-start.ensures ∙ len) c.in_ok-turning_gates.ensures c.deref.ensures.value)
-    (inward_does _ _ _ c.lines-lines.ensures.valid c.requires.fixed c.requires.small).flips k d h).1
+    let lines : c.lines-lines.result ≡ c.args.table.now.lines = c.lines-lines.ensures.value in
+    let flips = turned_all c.args.table.now.lines c.args.k c.inverse_get.result _ _ _ (omega (arith, c.lines-lines.ensures.valid.1)) (c.word_at.ensures ∙ ap (λ n. word_of n c.args.k) lines) (c.word_at-2.ensures ∙ ap (λ n. word_of n c.inverse_get.result) lines)
+    (added _ _ _ _ _ (c.len-start.ensures ∙ len) c.in_ok-turning_gates.ensures c.deref.ensures.value) in
+    record { flips = λ k d h. (flips_at _ _ flips k d h).0; fits = λ k d h. (flips_at _ _ flips k d h).1 }

@@ -2,7 +2,7 @@ use Rattle.std.proofs.Common.{◌≡◌, ◌+◌, ◌∙◌, length, take, sym, 
 use Rattle.rv_net.specs.declared.op.Op.TheVariants.{X}
 use Rattle.rv_check.specs.declared.following.Followed.TheVariants.{Agrees}
 use Rattle.rv_check.specs.inside.Followed.{is_only}
-use Rattle.rv_check.specs.inside.Stands.{On, Stands}
+use Rattle.rv_check.specs.inside.Stands.{On}
 use Rattle.rv_check.specs.inside.View.{HasRoom, kept_of}
 use Rattle.rv_check.proofs.inside.Places.{exponent_few, members_few_ten, not_zero_and, stands_kept, zero_and}
 use Rattle.rv_check.proofs.inside.Standing.{done_here, none_large_at, not_large_here, not_large_on, stands_next, too_large_here}
@@ -40,24 +40,21 @@ pub go_on-requires-clause-on : goal.go_on-requires-clause-on
 go_on-requires-clause-on c =
     let ops = c.args.ops.now in
     let place = c.loop-place.place in
-    let next : Stands (take (place + 1) ops) c.args.word (kept_of c.step.new.self) =
-    subst (λ k. Stands (take (place + 1) ops) c.args.word k) (sym c.in_ok-step.ensures.kept) (stands_next ops c.args.word place (kept_of c.loop-place.self) (X 0) c.requires.fits c.loop-place-test.true c.loop-place.invariant.stands) in
+    let next = stands_next ops c.args.word place (kept_of c.loop-place.self) (kept_of c.step.new.self) (X 0) c.requires.fits c.loop-place-test.true c.in_ok-step.ensures.kept c.loop-place.invariant.stands in
     subst (λ n. On n c.step.new.self.members.items) (sym c.len.ensures) next.on
 
 pub go_on-requires-clause-exponent : goal.go_on-requires-clause-exponent
 go_on-requires-clause-exponent c =
     let ops = c.args.ops.now in
     let place = c.loop-place.place in
-    let next : Stands (take (place + 1) ops) c.args.word (kept_of c.step.new.self) =
-    subst (λ k. Stands (take (place + 1) ops) c.args.word k) (sym c.in_ok-step.ensures.kept) (stands_next ops c.args.word place (kept_of c.loop-place.self) (X 0) c.requires.fits c.loop-place-test.true c.loop-place.invariant.stands) in
+    let next = stands_next ops c.args.word place (kept_of c.loop-place.self) (kept_of c.step.new.self) (X 0) c.requires.fits c.loop-place-test.true c.in_ok-step.ensures.kept c.loop-place.invariant.stands in
     omega (arith, exponent_few (take (place + 1) ops) c.args.word (kept_of c.step.new.self) next, length-take (place + 1) ops)
 
 pub loop-place-preserved : goal.loop-place-preserved
 loop-place-preserved c =
     let ops = c.args.ops.now in
     let place = c.loop-place.place in
-    let next : Stands (take (place + 1) ops) c.args.word (kept_of c.step.new.self) =
-    subst (λ k. Stands (take (place + 1) ops) c.args.word k) (sym c.in_ok-step.ensures.kept) (stands_next ops c.args.word place (kept_of c.loop-place.self) (X 0) c.requires.fits c.loop-place-test.true c.loop-place.invariant.stands) in
+    let next = stands_next ops c.args.word place (kept_of c.loop-place.self) (kept_of c.step.new.self) (X 0) c.requires.fits c.loop-place-test.true c.in_ok-step.ensures.kept c.loop-place.invariant.stands in
     let after = c.in_ok-place.ensures.stands c.args.word (sym c.len.ensures) next in
     record {
       stands = after.0;
@@ -71,8 +68,7 @@ pub returns-then-branch-clause-answer : goal.returns-then-branch-clause-answer
 returns-then-branch-clause-answer c =
     let ops = c.args.ops.now in
     let place = c.loop-place.place in
-    let next : Stands (take (place + 1) ops) c.args.word (kept_of c.step.new.self) =
-    subst (λ k. Stands (take (place + 1) ops) c.args.word k) (sym c.in_ok-step.ensures.kept) (stands_next ops c.args.word place (kept_of c.loop-place.self) (X 0) c.requires.fits c.loop-place-test.true c.loop-place.invariant.stands) in
+    let next = stands_next ops c.args.word place (kept_of c.loop-place.self) (kept_of c.step.new.self) (X 0) c.requires.fits c.loop-place-test.true c.in_ok-step.ensures.kept c.loop-place.invariant.stands in
     sym (too_large_here ops c.args.word c.args.image place (kept_of c.step.new.self) c.requires.fits next c.loop-place.invariant.small c.loop-place-test.true (sym c.in_ok-step.ensures.large ∙ c.if-branch.true))
 
 pub returns-then-self-eq0-clause-answer : goal.returns-then-self-eq0-clause-answer

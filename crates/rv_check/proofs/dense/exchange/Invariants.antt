@@ -1,0 +1,14 @@
+use Rattle.std.proofs.Common.{◌≡◌, ◌-◌, ◌^◌, length}
+use Rattle.rv_check.proofs.inside.Masks.{Covers}
+use Rattle.rv_check.proofs.inside.Pairs.{Exchanging}
+use Rattle.rv_check.proofs.dense.exchange.Given as goal
+
+abbrev pub decreases-loop-place : goal.decreases-loop-place
+decreases-loop-place l = length l.values - l.place
+
+abbrev pub invariant-loop-place : goal.invariant-loop-place
+invariant-loop-place l = record {
+  here : Covers l.all l.place;
+  len : length l.values ≡ 2 ^ l.lines;
+  exchanging : Exchanging l.lines l.mask l.a l.b l.initial.values l.values l.place;
+}
