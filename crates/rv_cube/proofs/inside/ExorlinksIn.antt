@@ -12,10 +12,10 @@ use Rattle.rv_cube.specs.inside.Reducing.{DifferAt}
 use Rattle.rv_cube.specs.declared.step.Step.{Step}
 use Rattle.rv_cube.specs.declared.step.Step.TheVariants.{Merge, Exorlink}
 use Rattle.rv_cube.proofs.Symbols.{symbol_with-same, symbol_with-other}
-use Rattle.rv_cube.proofs.inside.Differing.{differs-comm, IsDiffering, differing_is, differs-same, is_same-comm}
+use Rattle.rv_cube.proofs.inside.Differing.{differs-comm, IsDiffering, differing_is, differ_not, is_same-comm}
 use Rattle.rv_cube.proofs.inside.Merges.{Mergeable}
 use Rattle.rv_cube.proofs.Exorlinks.{IsForm, form_1, form_2}
-use Rattle.rv_cube.proofs.Steps.{Finds, finds_else, finds_first, finds_none, finds_if, finds_cond}
+use Rattle.rv_cube.proofs.Searches.{Finds, finds_else, finds_first, finds_none, finds_if, finds_cond}
 use Rattle.rv_cube.proofs.inside.Keys.{alike_symbols}
 use Rattle.rv_cube.proofs.inside.PartnerSearches.{test_partner}
 
@@ -76,7 +76,7 @@ form_far n x y p q is =
     }
 
 exorlinked_in_by : (n : ℕ) (slots : List Cube) (a b : ℕ) (x : List ℕ) → (at slots a).outs ≡ (at slots b).outs → IsDiffering (at slots a) (at slots b) n x
-    → Finds (ExorlinksIn n slots a b) (exorlink_in_by x n slots a b)
+    → Finds (ExorlinksIn n slots a b) (exorlink_in_by x n slots a b (at slots a) (at slots b))
 exorlinked_in_by n slots a b (p ∷ q ∷ []) o is =
     let x : Cube = at slots a in
     let y : Cube = at slots b in
@@ -92,9 +92,6 @@ exorlink_in_is n slots a b =
     (λ e. exorlinked_in_by n slots a b (differing n (at slots a) (at slots b)) (eqb-true _ _ e) (differing_is n (at slots a) (at slots b)))
 
 -- ---- what a cube and its partner become has other inputs than a cube that differs from it in two
-
-differ_not : (x y : Cube) (i : ℕ) → differs x y i ≡ true → symbol x i ≡ symbol y i → ⊥
-differ_not x y i d e = false≢true (sym (differs-same x y i e) ∙ d)
 
 -- at one of p and q it has the cube's symbol
 far_from : (n : ℕ) (x other z : Cube) (p q r : ℕ) → DifferAt n x other p q → ((i : ℕ) → i < n → i ≢ r → symbol z i ≡ symbol x i) → is_alike z other ≡ true → ⊥

@@ -61,7 +61,7 @@ put_keeps old new i cube near merges exorlinks new_merges new_exorlinks h p m e 
       keyed = keyed;
       as_many_merges = x.merging.as_many ∙ h.as_many_merges ∙ sym l;
       as_many_exorlinks = x.exorlinking.as_many ∙ h.as_many_exorlinks ∙ sym l;
-      watched = watched_settled old.inputs old.cubes i cube merges exorlinks new_merges new_exorlinks h.valid p.own p.some p.within p.empty h.watched
+      watched = watched_settled old.inputs old.cubes i cube merges exorlinks new_merges new_exorlinks p.within p.empty h.watched
           x.merging.stays x.exorlinking.stays
           (pairs_due old.inputs cube old.cubes (settled old.inputs old.cubes i cube) near merges exorlinks new_merges new_exorlinks valid keyed
           (h.as_many_exorlinks ∙ sym l) m x.merging x.exorlinking);

@@ -1,6 +1,6 @@
 -- What stands in the slots after two cubes became one.
 use Rattle.std.proofs.Common.{◌≡◌, ◌≢◌, ℕ, ◌<◌, Bool, true, false, cond, List, length, set, refl, sym, ◌∙◌, ap, subst, inl, inr, arith, eqb, get_or-set_same, get_or-set_other, length-set, ◌∷◌, []}
-use Rattle.std.specs.Prelude.{None, Some, All, nat_lt}
+use Rattle.std.specs.Prelude.{Option, None, Some, All, nat_lt}
 use Rattle.std.proofs.lemmas.Bool.{cases_eq, cond_both}
 use Rattle.std.proofs.lemmas.Nat.{xor_lt}
 use Rattle.std.proofs.lemmas.List.Elements.{All-set}
@@ -8,11 +8,11 @@ use Rattle.rv_pla.specs.Cube.{IsCube}
 use Rattle.rv_pla.specs.declared.cube.Cube.{Cube}
 use Rattle.rv_cube.specs.Distance.{differing}
 use Rattle.rv_cube.specs.Reduction.{no_cube, at, merge_by, carrying}
-use Rattle.rv_cube.specs.inside.Slots.{carries, full, is_alike, or_empty, merge_in, merged_in, merged_in_any}
-use Rattle.rv_cube.proofs.inside.Differing.{InputsBelow, found_below}
+use Rattle.rv_cube.specs.inside.Slots.{carries, full, is_alike, slot_of, or_empty, merge_in, merged_in, merged_in_any, settled_by, settled}
+use Rattle.rv_cube.proofs.inside.Differing.{IsDiffering, differing_is}
 use Rattle.rv_cube.proofs.inside.Merges.{with_third_cube, both}
 use Rattle.rv_cube.proofs.inside.Full.{full_within, no_cube_valid, at_valid, apart_from}
-use Rattle.rv_cube.proofs.inside.Keys.{alike_differing, is_alike-self}
+use Rattle.rv_cube.proofs.inside.Keys.{alike_differing, is_alike-self, slot_of-some}
 
 -- ---- what two cubes become
 
@@ -24,12 +24,12 @@ both_valid : (n outputs : ℕ) (x y : Cube) → IsCube n outputs x → IsCube n 
 both_valid n outputs x y vx vy =
     carrying_valid n outputs (both x y) (eqb (both x y).outs 0) (record { asked = vx.asked; wanted = vx.wanted; carried = xor_lt outputs _ _ vx.carried vy.carried })
 
-merge_in_by_valid : (n outputs : ℕ) (x y : Cube) (a : List ℕ) → InputsBelow n a → IsCube n outputs x → IsCube n outputs y → IsCube n outputs (or_empty (merge_by a x y))
-merge_in_by_valid n outputs x y (p ∷ []) h vx vy = with_third_cube n outputs x y p h vx
-merge_in_by_valid n outputs x y o h vx vy = both_valid n outputs x y vx vy
+merge_in_by_valid : (n outputs : ℕ) (x y : Cube) (a : List ℕ) → IsDiffering x y n a → IsCube n outputs x → IsCube n outputs y → IsCube n outputs (or_empty (merge_by a x y))
+merge_in_by_valid n outputs x y (p ∷ []) is vx vy = with_third_cube n outputs x y p is.0 vx
+merge_in_by_valid n outputs x y o is vx vy = both_valid n outputs x y vx vy
 
 pub merge_in_valid : (n outputs : ℕ) (x y : Cube) → IsCube n outputs x → IsCube n outputs y → IsCube n outputs (merge_in n x y)
-merge_in_valid n outputs x y vx vy = merge_in_by_valid n outputs x y (differing n x y) (found_below x y n (differing n x y) refl) vx vy
+merge_in_valid n outputs x y vx vy = merge_in_by_valid n outputs x y (differing n x y) (differing_is n x y) vx vy
 
 pub merge_in_same : (n : ℕ) (x y : Cube) → is_alike x y ≡ true → merge_in n x y ≡ or_empty (carrying (both x y))
 merge_in_same n x y h = ap (λ a. or_empty (merge_by a x y)) (alike_differing n x y h)
@@ -52,10 +52,6 @@ merged_in_valid n outputs slots a b all =
 -- what holds of both orders holds of any
 pub either_way : (P : List Cube → Type 0) (n : ℕ) (slots : List Cube) (i j : ℕ) → P (merged_in n slots i j) → P (merged_in n slots j i) → P (merged_in_any n slots i j)
 either_way P n slots i j p q = cond_both (nat_lt i j) (merged_in n slots i j) (merged_in n slots j i) P (λ t. p) (λ t. q)
-
-pub merged_in_any_valid : (n outputs : ℕ) (slots : List Cube) (a b : ℕ) → All (IsCube n outputs) slots → All (IsCube n outputs) (merged_in_any n slots a b)
-merged_in_any_valid n outputs slots a b all =
-    either_way (All (IsCube n outputs)) n slots a b (merged_in_valid n outputs slots a b all) (merged_in_valid n outputs slots b a all)
 
 pub merged_in_length : (n : ℕ) (slots : List Cube) (a b : ℕ) → length (merged_in n slots a b) ≡ length slots
 merged_in_length n slots a b = length-set (set slots b no_cube) a (merge_in n (at slots a) (at slots b)) ∙ length-set slots b no_cube
@@ -97,3 +93,19 @@ merged_in_stood n slots a b k ba fa fb e f =
             record { was_full = ap carries (sym o) ∙ f; was_alike = ap (λ c. is_alike c (at slots k)) o ∙ is_alike-self (at slots k) }
       ]
     ]
+
+-- ---- a cube is put into a slot
+
+-- what holds of the slots with the cube, and of those where it and a slot with its inputs became one, holds of what
+-- it leaves
+pub settled_case : (P : List Cube → Type 0) (n : ℕ) (slots : List Cube) (i : ℕ) (cube : Cube) → (slot_of slots cube ≡ None → P (set slots i cube))
+    → ((j : ℕ) → full slots j ≡ true → is_alike (at slots j) cube ≡ true → P (merged_in n (set slots i cube) i j) × P (merged_in n (set slots i cube) j i))
+    → P (settled n slots i cube)
+settled_case P n slots i cube none some = choose (slot_of slots cube) refl
+  where
+    choose : (o : Option ℕ) → slot_of slots cube ≡ o → P (settled_by o n slots i cube)
+    choose None e = none e
+    choose (Some j) e =
+        let f = slot_of-some slots cube j e in
+        let both = some j f.0 f.1 in
+        either_way P n (set slots i cube) i j both.0 both.1

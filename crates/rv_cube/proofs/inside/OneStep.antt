@@ -9,7 +9,7 @@ use Rattle.rv_cube.specs.Esop.{terms_of}
 use Rattle.rv_cube.specs.Distance.{differing}
 use Rattle.rv_cube.specs.Reduction.{no_cube, at, merge, merge_by, reduced}
 use Rattle.rv_cube.specs.inside.Slots.{carries, full, list_place, is_alike, IsKeyed, or_empty, merge_in, merged_in, merged_in_any, settled, IsFirstMerge}
-use Rattle.rv_cube.specs.inside.Reducing.{settled_any, IsExorlinked, Steps}
+use Rattle.rv_cube.specs.inside.Reducing.{settled_any, emptied, IsExorlinked, Steps}
 use Rattle.rv_cube.specs.declared.step.Step.TheVariants.{Merge}
 use Rattle.rv_cube.proofs.inside.Merges.{Mergeable, Mergeable-comm-at, can_merge_Mergeable}
 use Rattle.rv_cube.proofs.Reduced.{reduced_once}
@@ -87,19 +87,15 @@ merge_steps n slots a b x y o valid keyed h ex ey eo =
 
 -- ---- an exorlink, in any order of its edits
 
--- slots p, o and c are emptied
-abbrev pub emptied : List Cube → ℕ → ℕ → ℕ → Cube → List Cube
-emptied s p o c e = set (set (set s p e) o e) c e
-
 -- a cube x comes to p and y to o, and c is emptied
-shuffle_first : (s : List Cube) (p o c : ℕ) (own y x e : Cube) → p ≢ o → p ≢ c → o ≢ c
-    → set (set (set (set s p own) o y) c e) p x ≡ set (set (emptied s p o c e) p x) o y
-shuffle_first s p o c own y x e po pc oc = grind (arith, set_comm, set-set)
+shuffle_first : (s : List Cube) (p o c : ℕ) (own y x : Cube) → p ≢ o → p ≢ c → o ≢ c
+    → set (set (set (set s p own) o y) c no_cube) p x ≡ set (set (emptied s p o c) p x) o y
+shuffle_first s p o c own y x po pc oc = grind (arith, set_comm, set-set)
 
 -- a cube x comes to c and y to o, and p is emptied
-shuffle_second : (s : List Cube) (p o c : ℕ) (own y x e : Cube) → p ≢ o → p ≢ c → o ≢ c
-    → set (set (set (set s p own) o y) p e) c x ≡ set (set (emptied s p o c e) c x) o y
-shuffle_second s p o c own y x e po pc oc = grind (arith, set_comm, set-set)
+shuffle_second : (s : List Cube) (p o c : ℕ) (own y x : Cube) → p ≢ o → p ≢ c → o ≢ c
+    → set (set (set (set s p own) o y) p no_cube) c x ≡ set (set (emptied s p o c) c x) o y
+shuffle_second s p o c own y x po pc oc = grind (arith, set_comm, set-set)
 
 -- ---- what it leaves
 
@@ -110,9 +106,9 @@ formed s p o own rest = set (set s p own) o rest
 -- the cubes at low and high become one, which stands at low
 low_at : (n : ℕ) (s : List Cube) (p o c : ℕ) (own rest x y : Cube) (low high : ℕ) (lower : ℕ) (one : Option Cube)
     → at (formed s p o own rest) low ≡ x → at (formed s p o own rest) high ≡ y
-    → ((z : Cube) → set (set (formed s p o own rest) high no_cube) low z ≡ set (set (emptied s p o c no_cube) low z) o rest)
+    → ((z : Cube) → set (set (formed s p o own rest) high no_cube) low z ≡ set (set (emptied s p o c) low z) o rest)
     → ◌≡◌ {A = ℕ × Option Cube} (lower, one) (low, merge n x y)
-    → merged_in n (formed s p o own rest) low high ≡ set (set (emptied s p o c no_cube) lower (or_empty one)) o rest
+    → merged_in n (formed s p o own rest) low high ≡ set (set (emptied s p o c) lower (or_empty one)) o rest
 low_at n s p o c own rest x y low high lower one at_low at_high shuffle is = grind arith
 
 formed_own : (s : List Cube) (p o : ℕ) (own rest : Cube) → p ≢ o → p < length s → at (formed s p o own rest) p ≡ own
@@ -125,7 +121,7 @@ formed_third s p o c own rest third cp co e = get_or-set_other (set s p own) o c
 low_is : (n : ℕ) (s : List Cube) (p o c : ℕ) (own rest third : Cube) (low : ℕ) (one : Option Cube) (t : Bool) → p ≢ o → c ≢ p → c ≢ o
     → p < length s → third ≡ at s c
     → ◌≡◌ {A = ℕ × Option Cube} (low, one) (cond t (p, merge n own third) (c, merge n third own))
-    → cond t (merged_in n (formed s p o own rest) p c) (merged_in n (formed s p o own rest) c p) ≡ set (set (emptied s p o c no_cube) low (or_empty one)) o rest
+    → cond t (merged_in n (formed s p o own rest) p c) (merged_in n (formed s p o own rest) c p) ≡ set (set (emptied s p o c) low (or_empty one)) o rest
 low_is n s p o c own rest third low one t h h1 h2 h3 h4 h5 =
     grind (arith, low_at, formed_own, formed_third, shuffle_first, no_cube, shuffle_second)
 
@@ -182,13 +178,13 @@ lower n s p o c own rest third low one h =
 
 -- the emptied slots
 pub record Bare (n : ℕ) (s : List Cube) (p o c : ℕ) : Type 0 where
-  pub valid : All (IsCube n MOST_OUTPUTS) (emptied s p o c no_cube)
-  pub keyed : IsKeyed (emptied s p o c no_cube)
-  pub as_long : length (emptied s p o c no_cube) ≡ length s
-  pub at_p : at (emptied s p o c no_cube) p ≡ no_cube
-  pub at_o : at (emptied s p o c no_cube) o ≡ no_cube
-  pub at_c : at (emptied s p o c no_cube) c ≡ no_cube
-  pub fewer : count (emptied s p o c no_cube) + 3 ≡ count s
+  pub valid : All (IsCube n MOST_OUTPUTS) (emptied s p o c)
+  pub keyed : IsKeyed (emptied s p o c)
+  pub as_long : length (emptied s p o c) ≡ length s
+  pub at_p : at (emptied s p o c) p ≡ no_cube
+  pub at_o : at (emptied s p o c) o ≡ no_cube
+  pub at_c : at (emptied s p o c) c ≡ no_cube
+  pub fewer : count (emptied s p o c) + 3 ≡ count s
 
 pub bare : (n : ℕ) (s : List Cube) (p o c : ℕ) (own rest : Cube) → All (IsCube n MOST_OUTPUTS) s → IsKeyed s → IsExorlinked n s p o c own rest → Bare n s p o c
 bare n s p o c own rest valid keyed h =
@@ -217,9 +213,9 @@ bare n s p o c own rest valid keyed h =
       fewer = omega arith;
     }
 
-pub bare_low : (n : ℕ) (s : List Cube) (p o c low : ℕ) → Bare n s p o c → (low ≡ p) ⊎ (low ≡ c) → at (emptied s p o c no_cube) low ≡ no_cube
+pub bare_low : (n : ℕ) (s : List Cube) (p o c low : ℕ) → Bare n s p o c → (low ≡ p) ⊎ (low ≡ c) → at (emptied s p o c) low ≡ no_cube
 bare_low n s p o c low b which =
-    elim which [ inl e ↦ ap (at (emptied s p o c no_cube)) e ∙ b.at_p | inr e ↦ ap (at (emptied s p o c no_cube)) e ∙ b.at_c ]
+    elim which [ inl e ↦ ap (at (emptied s p o c)) e ∙ b.at_p | inr e ↦ ap (at (emptied s p o c)) e ∙ b.at_c ]
 
 -- a cube comes into the lower slot, and then the other one
 any_beside : (n : ℕ) (slots : List Cube) (i k : ℕ) (o : Option Cube) (rest : Cube) → All (IsCube n MOST_OUTPUTS) slots → IsKeyed slots → i < length slots → k < length slots
@@ -254,7 +250,7 @@ pub low_other : (s : List Cube) (p o c low : ℕ) → p ≢ o → c ≢ o → (l
 low_other s p o c low po co which = elim which [ inl e ↦ (λ q. po (sym (q ∙ e))) | inr e ↦ (λ q. co (sym (q ∙ e))) ]
 
 pub exorlink_steps : (n : ℕ) (s : List Cube) (p o c : ℕ) (own rest third : Cube) (low : ℕ) (one : Option Cube) → Exorlinking n s p o c own rest third low one
-    → Steps n s (merged_in_any n (set (set s p own) o rest) p c) (settled n (settled_any n (emptied s p o c no_cube) low one) o rest)
+    → Steps n s (merged_in_any n (set (set s p own) o rest) p c) (settled n (settled_any n (emptied s p o c) low one) o rest)
 exorlink_steps n s p o c own rest third low one h =
     let r = h.exorlinked in
     let b = bare n s p o c own rest h.valid h.keyed r in
@@ -264,18 +260,18 @@ exorlink_steps n s p o c own rest third low one h =
     let lp = full_within s p r.full_place in
     let lo = full_within s o r.full_other in
     let lc = full_within s c r.is_partner.other.stands in
-    let low_in : low < length (emptied s p o c no_cube) = elim k.place [ inl e ↦ omega arith | inr e ↦ omega arith ] in
+    let low_in : low < length (emptied s p o c) = elim k.place [ inl e ↦ omega arith | inr e ↦ omega arith ] in
     let ol : o ≢ low = low_other s p o c low r.two r.is_partner.other.other_b k.place in
     let bare_at = bare_low n s p o c low b k.place in
-    let empty_low : full (emptied s p o c no_cube) low ≡ false = ap carries bare_at in
-    let empty_o : full (emptied s p o c no_cube) o ≡ false = ap carries b.at_o in
-    let any : List Cube = settled_any n (emptied s p o c no_cube) low one in
-    let la = length_any n (emptied s p o c no_cube) low one in
-    let more = count_any n (emptied s p o c no_cube) low one k.some low_in empty_low in
-    let most = settled_count n any o rest r.rest_carries (omega arith) (empty_any n (emptied s p o c no_cube) low o one ol empty_o) in
+    let empty_low : full (emptied s p o c) low ≡ false = ap carries bare_at in
+    let empty_o : full (emptied s p o c) o ≡ false = ap carries b.at_o in
+    let any : List Cube = settled_any n (emptied s p o c) low one in
+    let la = length_any n (emptied s p o c) low one in
+    let more = count_any n (emptied s p o c) low one k.some low_in empty_low in
+    let most = settled_count n any o rest r.rest_carries (omega arith) (empty_any n (emptied s p o c) low o one ol empty_o) in
     record {
       kept =
-          any_beside n (emptied s p o c no_cube) low o one rest b.valid b.keyed low_in (omega arith) ol empty_low empty_o bare_at r.rest_carries r.rest_valid k.some k.own k.apart_from_rest
+          any_beside n (emptied s p o c) low o one rest b.valid b.keyed low_in (omega arith) ol empty_low empty_o bare_at r.rest_carries r.rest_valid k.some k.own k.apart_from_rest
           ∙ ap (λ x. reduced n (terms_of x)) (sym (low_is n s p o c own rest third low one (nat_lt p c) r.two r.is_partner.other.other_a r.is_partner.other.other_b lp h.third_is h.low_one));
       fewer = omega arith;
     }

@@ -7,8 +7,8 @@ use Rattle.rv_pla.specs.declared.cube.Cube.{Cube}
 use Rattle.rv_cube.specs.Reduction.{at, can_merge}
 use Rattle.rv_cube.specs.inside.Slots.{full, IsPartner, partner_in_at, partner_in}
 use Rattle.rv_cube.specs.declared.step.Step.TheVariants.{Exorlink}
-use Rattle.rv_gate.proofs.FirstAnswer.{first_start, none_at}
-use Rattle.rv_cube.proofs.Searches.{first_found, first_none}
+use Rattle.rv_gate.proofs.FirstAnswer.{none_at, none_first}
+use Rattle.rv_cube.proofs.Searches.{first_found}
 use Rattle.rv_cube.proofs.inside.Full.{full_within}
 
 -- the test of the search at one slot
@@ -33,8 +33,7 @@ at_some n slots a b f s place cube c h = grind arith
 pub partner_in-none : (n : ℕ) (slots : List Cube) (a b : ℕ) (f s : Cube) (place : ℕ) (cube : Cube) → ((c : ℕ) → IsPartner n slots a b cube c → ⊥)
     → partner_in n slots a b f s place cube ≡ None
 partner_in-none n slots a b f s place cube h =
-    sym (first_start (partner_in_at n slots a b f s place cube) (length slots))
-    ∙ first_none (partner_in_at n slots a b f s place cube) 0 (length slots) (λ c l u. at_none n slots a b f s place cube c (h c))
+    none_first (partner_in_at n slots a b f s place cube) 0 (length slots) (λ c l u. at_none n slots a b f s place cube c (h c))
 
 pub none_partner : (n : ℕ) (slots : List Cube) (a b : ℕ) (f s : Cube) (place : ℕ) (cube : Cube) → partner_in n slots a b f s place cube ≡ None
     → (c : ℕ) → IsPartner n slots a b cube c → ⊥
@@ -46,8 +45,7 @@ none_partner n slots a b f s place cube e c h =
 pub partner_in-some : (n : ℕ) (slots : List Cube) (a b : ℕ) (f s : Cube) (place : ℕ) (cube : Cube) (c : ℕ) → IsPartner n slots a b cube c
     → ((d : ℕ) → IsPartner n slots a b cube d → c ≤ d) → partner_in n slots a b f s place cube ≡ Some (Exorlink a b f s place c)
 partner_in-some n slots a b f s place cube c h least =
-    sym (first_start (partner_in_at n slots a b f s place cube) (length slots))
-    ∙ first_found (partner_in_at n slots a b f s place cube) 0 (length slots) c (Exorlink a b f s place c) (omega arith) (full_within slots c h.other.stands)
+    first_found (partner_in_at n slots a b f s place cube) 0 (length slots) c (Exorlink a b f s place c) (omega arith) (let w = full_within slots c h.other.stands in omega arith)
     (at_some n slots a b f s place cube c h)
     (λ i l u. at_none n slots a b f s place cube i (λ p. let le = least i p in omega arith))
 

@@ -12,7 +12,7 @@ use Rattle.rv_cube.specs.inside.Slots.{carries, full, list_place, slot_of, merge
 use Rattle.rv_cube.proofs.inside.Full.{full_set-same, full_set-other, apart_from, full_within, full_cleared}
 use Rattle.rv_cube.proofs.inside.Keys.{slot_of-some, is_alike-comm, is_alike-trans, slot_of-none}
 use Rattle.rv_cube.proofs.inside.Ranks.{terms_of-remove, rank_within}
-use Rattle.rv_cube.proofs.inside.MergesIn.{merged_in_length, merged_in_other, either_way, merged_in_stood, merged_in_any_valid, merged_in_gone}
+use Rattle.rv_cube.proofs.inside.MergesIn.{merged_in_length, merged_in_other, merged_in_stood, merged_in_valid, merged_in_gone, settled_case}
 
 -- ---- how many are full
 
@@ -38,39 +38,33 @@ count_clear slots i f =
 count_merged_in : (n : ℕ) (slots : List Cube) (a b : ℕ) → full slots b ≡ true → count (merged_in n slots a b) ≤ count slots
 count_merged_in n slots a b f = grind (arith, count_clear, count_set, no_cube, merge_in)
 
-settled_by_count : (n : ℕ) (slots : List Cube) (i : ℕ) (cube : Cube) (o : Option ℕ) → slot_of slots cube ≡ o → carries cube ≡ true → i < length slots
-    → full slots i ≡ false → count (settled_by o n slots i cube) ≤ count slots + 1
-settled_by_count n slots i cube None e some within empty = count_set slots i cube
-settled_by_count n slots i cube (Some j) e some within empty =
-    let f = slot_of-some slots cube j e in
-    let t : List Cube = set slots i cube in
-    let fi = full_set-same slots i cube within ∙ some in
-    let fj = full_set-other slots i j cube (apart_from slots i j empty f.0) ∙ f.0 in
-    let c = either_way (λ l. count l ≤ count (set slots i cube)) n t i j (count_merged_in n t i j fj) (count_merged_in n t j i fi) in
-    let s = count_set slots i cube in
-    omega arith
-
 pub settled_count : (n : ℕ) (slots : List Cube) (i : ℕ) (cube : Cube) → carries cube ≡ true → i < length slots → full slots i ≡ false
     → count (settled n slots i cube) ≤ count slots + 1
-settled_count n slots i cube some within empty = settled_by_count n slots i cube (slot_of slots cube) refl some within empty
-
-settled_by_length : (n : ℕ) (slots : List Cube) (i : ℕ) (cube : Cube) (o : Option ℕ) → length (settled_by o n slots i cube) ≡ length slots
-settled_by_length n slots i cube o = grind (arith, length-set, either_way, merged_in_length)
+settled_count n slots i cube some within empty =
+    let t : List Cube = set slots i cube in
+    let s = count_set slots i cube in
+    let fi = full_set-same slots i cube within ∙ some in
+    settled_case (λ l. count l ≤ count slots + 1) n slots i cube (λ e. s)
+    (λ j f a.
+    let fj = full_set-other slots i j cube (apart_from slots i j empty f) ∙ f in
+    let x = count_merged_in n (set slots i cube) i j fj in
+    let y = count_merged_in n (set slots i cube) j i fi in
+    (omega arith, omega arith))
 
 pub settled_length : (n : ℕ) (slots : List Cube) (i : ℕ) (cube : Cube) → length (settled n slots i cube) ≡ length slots
-settled_length n slots i cube = settled_by_length n slots i cube (slot_of slots cube)
-
-settled_by_empty : (n : ℕ) (slots : List Cube) (i k : ℕ) (cube : Cube) (o : Option ℕ) → slot_of slots cube ≡ o → k ≢ i → full slots k ≡ false
-    → full (settled_by o n slots i cube) k ≡ false
-settled_by_empty n slots i k cube None e ni empty = full_set-other slots i k cube ni ∙ empty
-settled_by_empty n slots i k cube (Some j) e ni empty =
-    let f = slot_of-some slots cube j e in
-    let nj : k ≢ j = λ kj. apart_from slots k j empty f.0 (sym kj) in
-    let t : List Cube = set slots i cube in
-    ap carries (either_way (λ l. at l k ≡ at t k) n t i j (merged_in_other n t i j k ni nj) (merged_in_other n t j i k nj ni)) ∙ full_set-other slots i k cube ni ∙ empty
+settled_length n slots i cube =
+    let l = length-set slots i cube in
+    settled_case (λ t. length t ≡ length slots) n slots i cube (λ e. l)
+    (λ j f a. (merged_in_length n (set slots i cube) i j ∙ l, merged_in_length n (set slots i cube) j i ∙ l))
 
 pub settled_empty : (n : ℕ) (slots : List Cube) (i k : ℕ) (cube : Cube) → k ≢ i → full slots k ≡ false → full (settled n slots i cube) k ≡ false
-settled_empty n slots i k cube ni empty = settled_by_empty n slots i k cube (slot_of slots cube) refl ni empty
+settled_empty n slots i k cube ni empty =
+    let t : List Cube = set slots i cube in
+    let e = full_set-other slots i k cube ni ∙ empty in
+    settled_case (λ l. full l k ≡ false) n slots i cube (λ none. e)
+    (λ j f a.
+    let nj : k ≢ j = λ s. apart_from slots k j empty f (sym s) in
+    (ap carries (merged_in_other n t i j k ni nj) ∙ e, ap carries (merged_in_other n t j i k nj ni) ∙ e))
 
 -- ---- no two with the same inputs
 
@@ -156,35 +150,28 @@ keyed_alone slots i cube within h alone p q fp fq e =
       | inr o ↦ (elim o [ inl s ↦ absurd s.1 | inr s ↦ absurd s.0 ])
     ]
 
-settled_by_keyed : (n : ℕ) (slots : List Cube) (i : ℕ) (cube : Cube) (o : Option ℕ) → slot_of slots cube ≡ o → IsKeyed slots → carries cube ≡ true
-    → i < length slots → full slots i ≡ false → IsKeyed (settled_by o n slots i cube)
-settled_by_keyed n slots i cube None e h some within empty =
-    keyed_alone slots i cube within h (slot_of-none slots cube e)
-settled_by_keyed n slots i cube (Some j) e h some within empty =
-    let f = slot_of-some slots cube j e in
-    let ne : j ≢ i = apart_from slots i j empty f.0 in
-    let here : at (set slots i cube) i ≡ cube = get_or-set_same slots i cube no_cube within in
-    let there : at (set slots i cube) j ≡ at slots j = get_or-set_other slots i j cube no_cube ne in
-    let t : List Cube = set slots i cube in
-    let fi = full_set-same slots i cube within ∙ some in
-    let fj = full_set-other slots i j cube ne ∙ f.0 in
-    let a : is_alike (at t i) (at t j) ≡ true = ap (λ c. is_alike c (at t j)) here ∙ ap (is_alike cube) there ∙ is_alike-comm (at slots j) cube f.1 in
-    let but = keyed_put slots i j cube within h f.0 f.1 in
-    either_way IsKeyed n t i j (keyed_merged_in n t i j ne fi fj a but)
-    (keyed_merged_in n t j i (λ s. ne (sym s)) fj fi (is_alike-comm (at t i) (at t j) a) (but-swap t i j but))
-
 pub settled_keyed : (n : ℕ) (slots : List Cube) (i : ℕ) (cube : Cube) → IsKeyed slots → carries cube ≡ true → i < length slots → full slots i ≡ false
     → IsKeyed (settled n slots i cube)
-settled_keyed n slots i cube h some within empty = settled_by_keyed n slots i cube (slot_of slots cube) refl h some within empty
+settled_keyed n slots i cube h some within empty =
+    let t : List Cube = set slots i cube in
+    let here : at (set slots i cube) i ≡ cube = get_or-set_same slots i cube no_cube within in
+    let fi = full_set-same slots i cube within ∙ some in
+    settled_case IsKeyed n slots i cube (λ e. keyed_alone slots i cube within h (slot_of-none slots cube e))
+    (λ j f like.
+    let ne : j ≢ i = apart_from slots i j empty f in
+    let there : at (set slots i cube) j ≡ at slots j = get_or-set_other slots i j cube no_cube ne in
+    let fj = full_set-other slots i j cube ne ∙ f in
+    let a : is_alike (at t i) (at t j) ≡ true = ap (λ c. is_alike c (at t j)) here ∙ ap (is_alike cube) there ∙ is_alike-comm (at slots j) cube like in
+    let but = keyed_put slots i j cube within h f like in (
+      keyed_merged_in n t i j ne fi fj a but,
+      keyed_merged_in n t j i (λ s. ne (sym s)) fj fi (is_alike-comm (at t i) (at t j) a) (but-swap t i j but),
+    ))
 
 -- ---- each has a cube
 
-settled_by_valid : (n outputs : ℕ) (slots : List Cube) (i : ℕ) (cube : Cube) (o : Option ℕ) → All (IsCube n outputs) slots → IsCube n outputs cube
-    → All (IsCube n outputs) (settled_by o n slots i cube)
-settled_by_valid n outputs slots i cube None all v = All-set (IsCube n outputs) slots i cube v all
-settled_by_valid n outputs slots i cube (Some j) all v =
-    merged_in_any_valid n outputs (set slots i cube) i j (All-set (IsCube n outputs) slots i cube v all)
-
 pub settled_valid : (n outputs : ℕ) (slots : List Cube) (i : ℕ) (cube : Cube) → All (IsCube n outputs) slots → IsCube n outputs cube
     → All (IsCube n outputs) (settled n slots i cube)
-settled_valid n outputs slots i cube all v = settled_by_valid n outputs slots i cube (slot_of slots cube) all v
+settled_valid n outputs slots i cube all v =
+    let t : List Cube = set slots i cube in
+    let own = All-set (IsCube n outputs) slots i cube v all in
+    settled_case (All (IsCube n outputs)) n slots i cube (λ e. own) (λ j f a. (merged_in_valid n outputs t i j own, merged_in_valid n outputs t j i own))

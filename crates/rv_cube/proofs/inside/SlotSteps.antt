@@ -12,9 +12,10 @@ use Rattle.rv_cube.specs.Reduction.{no_cube, at, merge_by, standing, merged, mer
 use Rattle.rv_cube.specs.inside.Slots.{carries, full, list_place, or_empty, merged_in, merged_in_any, moved, ranked, partner_in_at, partner_in, form_in, exorlink_in_by, exorlink_in, ExorlinksNone, IsFirstExorlink}
 use Rattle.rv_cube.specs.declared.step.Step.{Step}
 use Rattle.rv_cube.specs.declared.step.Step.TheVariants.{Merge, Exorlink}
-use Rattle.rv_cube.proofs.Searches.{first_found, first_none, first_same, option_or-map, first-map}
+use Rattle.rv_gate.proofs.FirstAnswer.{none_first}
+use Rattle.rv_cube.proofs.Searches.{first_found, first_same, option_or-map, first-map}
 use Rattle.rv_cube.proofs.inside.Full.{full_within, full_set-other, full_set}
-use Rattle.rv_cube.proofs.inside.Ranks.{at-rank, terms_of-set, terms_of-remove, eqb-rank, lt-rank, rank_set, rank_set-before, by_rank, by_rank-full, by_rank-none, first-rank_all, first-rank_after}
+use Rattle.rv_cube.proofs.inside.Ranks.{at-rank, terms_of-set, terms_of-remove, eqb-rank, lt-rank, rank_set, rank_set-before, by_rank, by_rank-full, by_rank-none, first-rank_all, first-rank_after, rank_found, rank_none}
 
 -- ---- a search over pairs of places is one over pairs of full slots
 
@@ -27,14 +28,17 @@ row_found : (f : ℕ → ℕ → Option Step) (slots : List Cube) (a b : ℕ) (x
     → row f (length (terms_of slots)) (list_place slots a) ≡ Some x
 row_found f slots a b x ab fa fb is between =
     let g : ℕ → Option Step = f (list_place slots a) in
+    let w = full_within slots b fb in
     first-rank_after g slots a fa
-    ∙ first_found (by_rank g slots) (a + 1) (length slots) b x (omega arith) (full_within slots b fb) (by_rank-full g slots b fb ∙ is)
+    ∙ first_found (by_rank g slots) (a + 1) (length slots - (a + 1)) b x (omega arith) (omega arith) (by_rank-full g slots b fb ∙ is)
     (λ j l u. by_rank-none g slots j (between j (omega arith) u))
 
 row_none : (f : ℕ → ℕ → Option Step) (slots : List Cube) (a : ℕ) → full slots a ≡ true
     → ((j : ℕ) → a < j → full slots j ≡ true → f (list_place slots a) (list_place slots j) ≡ None)
     → row f (length (terms_of slots)) (list_place slots a) ≡ None
-row_none f slots a fa none = grind (arith, list_place, first-rank_after, first_none, by_rank, by_rank-none)
+row_none f slots a fa none =
+    let g : ℕ → Option Step = f (list_place slots a) in
+    first-rank_after g slots a fa ∙ none_first (by_rank g slots) (a + 1) (length slots - (a + 1)) (λ j l u. by_rank-none g slots j (none j (omega arith)))
 
 pairs_found : (f : ℕ → ℕ → Option Step) (slots : List Cube) (a b : ℕ) (x : Step) → a < b → full slots a ≡ true → full slots b ≡ true
     → f (list_place slots a) (list_place slots b) ≡ Some x
@@ -42,24 +46,14 @@ pairs_found : (f : ℕ → ℕ → Option Step) (slots : List Cube) (a b : ℕ) 
     → ((j : ℕ) → a < j → j < b → full slots j ≡ true → f (list_place slots a) (list_place slots j) ≡ None)
     → first (row f (length (terms_of slots))) 0 (length (terms_of slots)) ≡ Some x
 pairs_found f slots a b x ab fa fb is before between =
-    let g : ℕ → Option Step = row f (length (terms_of slots)) in
-    let z : length slots ≡ length slots - 0 = omega arith in
-    first-rank_all g slots
-    ∙ ap (first (by_rank g slots) 0) z
-    ∙ first_found (by_rank g slots) 0 (length slots) a x (omega arith) (full_within slots a fa)
-    (by_rank-full g slots a fa ∙ row_found f slots a b x ab fa fb is between)
-    (λ i l u. by_rank-none g slots i (λ fi. row_none f slots i fi (λ j ij fj. before i j u ij fi fj)))
+    rank_found (row f (length (terms_of slots))) slots a x fa (row_found f slots a b x ab fa fb is between)
+    (λ i u fi. row_none f slots i fi (λ j ij fj. before i j u ij fi fj))
 
 pairs_none : (f : ℕ → ℕ → Option Step) (slots : List Cube)
     → ((i j : ℕ) → i < j → full slots i ≡ true → full slots j ≡ true → f (list_place slots i) (list_place slots j) ≡ None)
     → first (row f (length (terms_of slots))) 0 (length (terms_of slots)) ≡ None
 pairs_none f slots none =
-    let g : ℕ → Option Step = row f (length (terms_of slots)) in
-    let z : length slots ≡ length slots - 0 = omega arith in
-    first-rank_all g slots
-    ∙ ap (first (by_rank g slots) 0) z
-    ∙ first_none (by_rank g slots) 0 (length slots)
-    (λ i l u. by_rank-none g slots i (λ fi. row_none f slots i fi (λ j ij fj. none i j ij fi fj)))
+    rank_none (row f (length (terms_of slots))) slots (λ i fi. row_none f slots i fi (λ j ij fj. none i j ij fi fj))
 
 -- ---- merges
 
@@ -122,7 +116,7 @@ forms_ranks n slots a b f s g t fa fb =
     grind (arith, option_or, terms_of, list_place, form_ranks, option_map, form_in, option_or-map)
 
 exorlink_by_ranks : (d : List ℕ) (n : ℕ) (slots : List Cube) (a b : ℕ) → full slots a ≡ true → full slots b ≡ true
-    → exorlink_at_by d n (terms_of slots) (list_place slots a) (list_place slots b) ≡ option_map (ranked slots) (exorlink_in_by d n slots a b)
+    → exorlink_at_by d n (terms_of slots) (list_place slots a) (list_place slots b) ≡ option_map (ranked slots) (exorlink_in_by d n slots a b (at slots a) (at slots b))
 exorlink_by_ranks d n slots a b h h2 = grind (arith, at-rank, forms_ranks)
 
 map-cond : (h : Step → Step) (t : Bool) (o : Option Step) → cond t (option_map h o) None ≡ option_map h (cond t o None)
