@@ -204,7 +204,7 @@ impl Reduction {
     }
 
     // The cubes in a and b become one. A step that fails for want of memory loses the list.
-    #[tactic(auto, using(crate::proofs::inside::MadeSteps::joined))]
+    #[tactic(auto, using(crate::proofs::inside::OneStep::joined))]
     fn merge(&mut self, a: usize, b: usize) -> Result<(), AllocError>
         requires { IsFirstMerge self.old.inputs self.old.cubes a b }
         ensures inputs { self.new.inputs ≡ self.old.inputs }

@@ -20,6 +20,7 @@ use Rattle.rv_cube.proofs.inside.Full.{full_within, at_valid}
 use Rattle.rv_cube.proofs.inside.Keys.{is_alike-self, is_alike-comm, is_alike-trans, is_alike-same_inputs}
 use Rattle.rv_cube.proofs.inside.SlotSteps.{merge_first, merged_in_list}
 use Rattle.rv_cube.proofs.inside.MergesIn.{merged_in_valid, merged_in_other, Stood, merged_in_stood}
+use Rattle.std.proofs.lemmas.Grind.{common_steps}
 
 -- ---- the first slots with the same inputs
 
@@ -134,8 +135,7 @@ all_other slots a b i j h =
     record {
       a_i = omega arith;
       a_j = omega arith;
-      b_i = λ e. not_alike_a slots a b i j h
-          (is_alike-trans (at slots a) (at slots b) (at slots j) h.first.same (ap (λ k. is_alike (at slots k) (at slots j)) e ∙ h.nearest.same));
+      b_i = grind (arith, common_steps, not_alike_a, is_alike-trans);
       b_j = λ e. not_alike_a slots a b i j h (ap (λ k. is_alike (at slots a) (at slots k)) (sym e) ∙ h.first.same);
     }
 

@@ -18,6 +18,7 @@ use Rattle.rv_cube.proofs.Exorlinks.{IsForm, form_1, form_2}
 use Rattle.rv_cube.proofs.Searches.{Finds, finds_else, finds_first, finds_none, finds_if, finds_cond}
 use Rattle.rv_cube.proofs.inside.Keys.{alike_symbols}
 use Rattle.rv_cube.proofs.inside.PartnerSearches.{test_partner}
+use Rattle.std.proofs.lemmas.Grind.{common_steps}
 
 -- the slots a and b are exorlinked as f and s, and the one of these at `place`, which is `cube`, has a partner
 pub record IsExorlinkIn (n : ℕ) (slots : List Cube) (a b : ℕ) (f s : Cube) (place : ℕ) (cube : Cube) (c : ℕ) : Type 0 where
@@ -65,14 +66,8 @@ form_far n x y p q is =
       p_in = omega arith;
       q_in = qn;
       two = np;
-      at_p =
-          ap (λ s. not (is_same s (symbol (with_third y x q) p))) (symbol_with-same x p (third (symbol x p) (symbol y p)))
-          ∙ ap (λ s. not (is_same (third (symbol x p) (symbol y p)) s)) (symbol_with-other y q p (third (symbol y q) (symbol x q)) np)
-          ∙ ap not (third-left (symbol x p) (symbol y p) dp);
-      at_q =
-          ap (λ s. not (is_same s (symbol (with_third y x q) q))) (symbol_with-other x p q (third (symbol x p) (symbol y p)) qp)
-          ∙ ap (λ s. not (is_same (symbol x q) s)) (symbol_with-same y q (third (symbol y q) (symbol x q)))
-          ∙ ap not (third-right (symbol x q) (symbol y q) dq);
+      at_p = grind (arith, common_steps, symbol_with-same, symbol_with-other, third-left);
+      at_q = grind (arith, common_steps, symbol_with-other, symbol_with-same, third-right);
     }
 
 exorlinked_in_by : (n : ℕ) (slots : List Cube) (a b : ℕ) (x : List ℕ) → (at slots a).outs ≡ (at slots b).outs → IsDiffering (at slots a) (at slots b) n x

@@ -13,7 +13,7 @@ use Rattle.rv_cube.specs.inside.Reducing.{IsReduction}
 use Rattle.rv_cube.proofs.inside.Full.{full_within, no_cube_valid, valid_set}
 use Rattle.rv_cube.proofs.inside.Watched.{watched_clear, watched_settled}
 use Rattle.rv_cube.proofs.inside.Watching.{pairs_due}
-use Rattle.rv_cube.proofs.inside.SettledSlots.{settled_length, keyed_clear, settled_keyed, settled_valid}
+use Rattle.rv_cube.proofs.inside.MergesIn.{settled_length, keyed_clear, settled_keyed, settled_valid}
 
 pub clear_keeps : (old new : Slotted) (i : ℕ) (merges exorlinks : List Bool) → IsReduction old.inputs old.cubes merges exorlinks
     → new ≡ record old { cubes = set old.cubes i no_cube } → IsReduction new.inputs new.cubes merges exorlinks

@@ -19,6 +19,7 @@ use Rattle.rv_cube.proofs.inside.Differing.{IsDiffering, differing_as, both_from
 use Rattle.rv_cube.proofs.inside.Merges.{with_cube}
 use Rattle.rv_cube.proofs.inside.Full.{at_valid}
 use Rattle.rv_cube.proofs.inside.Neighbours.{two_others, third_turn, beside_either, same_but, partner_key}
+use Rattle.std.proofs.lemmas.Grind.{common_steps}
 
 -- ---- what a list gains
 
@@ -48,9 +49,7 @@ gains_some find slots cube b found h e =
     let long = length-append found (b ∷ []) in
     let new : Lists (found ++ b ∷ []) b = (length found, omega arith, get_or_push found b 0 (length found) refl) in
     record {
-      stays = λ d l.
-          let k : l.0 < length found = l.1 in
-          (l.0, omega arith, get_or_append_left found (b ∷ []) 0 l.0 k ∙ l.2);
+      stays = grind (arith, common_steps, get_or_append_left);
       holds = λ a. All-append Full found (b ∷ []) a (All-cons Full b [] s.0 (All-nil Full));
       gets = λ d f k. subst (Lists (found ++ b ∷ [])) (same_Some b d (sym e ∙ ap find (sym k) ∙ h.complete d f)) new;
     }

@@ -16,6 +16,7 @@ use Rattle.rv_cube.proofs.inside.Full.{full_within}
 use Rattle.std.proofs.lemmas.Bool.{false≢true}
 use Rattle.std.proofs.lemmas.List.Elements.{All-get_or}
 use Rattle.rv_cube.proofs.Symbols.{has_put-other, symbol_with-same, symbol_with-other}
+use Rattle.std.proofs.lemmas.Grind.{common_steps}
 
 -- ---- sets
 
@@ -54,11 +55,7 @@ beside_moved slots cube x one other p q b s ne ex eo et h =
 beside_gains : (slots : List Cube) (cube x one other : Cube) (p q : ℕ) (s : Symbol) (old new : List ℕ) → q ≢ p → x ≡ with_symbol cube p s
     → one ≡ with_symbol cube q (turn (symbol cube q)) → other ≡ with_third cube one q
     → Gains slots (IsMovedEither slots x cube one other) old new → Gains slots (IsBeside slots x q) old new
-beside_gains slots cube x one other p q s old new ne ex eo et g = record {
-  stays = g.stays;
-  holds = g.holds;
-  gets = λ b f h. g.gets b f (beside_moved slots cube x one other p q b s ne ex eo et h);
-}
+beside_gains slots cube x one other p q s old new ne ex eo et g = grind (arith, common_steps, beside_moved)
 
 pub gains_moved : (slots : List Cube) (cube first second one other : Cube) (p q : ℕ) (old mid new : List ℕ) → q ≢ p
     → first ≡ with_symbol cube p (turn (symbol cube p)) → second ≡ with_third cube first p

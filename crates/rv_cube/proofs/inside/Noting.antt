@@ -14,6 +14,7 @@ use Rattle.std.specs.Int.{bit_at}
 use Rattle.std.proofs.lemmas.Nat.Bits.{bit_at-lt, bit_at-zero, bit_at_or}
 use Rattle.rv_cube.proofs.inside.Full.{apart_from, full_cleared, no_cube_valid, at_open}
 use Rattle.rv_cube.proofs.inside.Keys.{alike_care, alike_want, alike_from, slot_of-none, slot_of-some}
+use Rattle.std.proofs.lemmas.Grind.{common_steps}
 
 -- ---- keys
 
@@ -60,10 +61,7 @@ put_complete find slots k cube h l empty some none i f = grind (arith, cases_eq,
 
 noted_put : (find then : ℕ × ℕ → Option ℕ) (slots : List Cube) (i : ℕ) (cube : Cube) → Noted find slots → i < length slots → full slots i ≡ false
     → carries cube ≡ true → find (key_of cube) ≡ None → ((q : ℕ × ℕ) → then q ≡ cond (key_eq (key_of cube) q) (Some i) (find q)) → Noted then (set slots i cube)
-noted_put find then slots i cube h l empty some none e = record {
-  sound = λ q j x. put_sound find slots i cube h l empty some q j (sym (e q) ∙ x);
-  complete = λ j f. e (key_of (at (set slots i cube) j)) ∙ put_complete find slots i cube h l empty some none j f;
-}
+noted_put find then slots i cube h l empty some none e = grind (arith, common_steps, put_sound, put_complete)
 
 -- a slot is emptied
 clear_sound : (find : ℕ × ℕ → Option ℕ) (slots : List Cube) (k : ℕ) → Noted find slots
@@ -76,10 +74,7 @@ clear_complete find slots k h i f = grind (arith, cases_eq, full_cleared, and_pa
 
 noted_clear : (find then : ℕ × ℕ → Option ℕ) (slots : List Cube) (i : ℕ) → Noted find slots
     → ((q : ℕ × ℕ) → then q ≡ cond (full slots i && key_eq (key_of (at slots i)) q) None (find q)) → Noted then (set slots i no_cube)
-noted_clear find then slots i h e = record {
-  sound = λ q j x. clear_sound find slots i h q j (sym (e q) ∙ x);
-  complete = λ j f. e (key_of (at (set slots i no_cube) j)) ∙ clear_complete find slots i h j f;
-}
+noted_clear find then slots i h e = grind (arith, common_steps, clear_sound, clear_complete)
 
 -- a cube comes into slot a, and slot b is emptied
 replaced_only : (find : ℕ × ℕ → Option ℕ) (slots : List Cube) (a b : ℕ) (cube : Cube) → Noted find slots → IsReplaced slots a b cube
@@ -107,10 +102,7 @@ replace_complete find slots a b cube h l ne is i f =
 noted_replace : (find then : ℕ × ℕ → Option ℕ) (slots : List Cube) (a b : ℕ) (cube : Cube) → Noted find slots → a < length slots → b ≢ a
     → carries cube ≡ true → IsReplaced slots a b cube → ((q : ℕ × ℕ) → then q ≡ cond (key_eq (key_of cube) q) (Some a) (find q))
     → Noted then (set (set slots b no_cube) a cube)
-noted_replace find then slots a b cube h l ne some is e = record {
-  sound = λ q j x. replace_sound find slots a b cube h l ne some is q j (sym (e q) ∙ x);
-  complete = λ j f. e (key_of (at (set (set slots b no_cube) a cube) j)) ∙ replace_complete find slots a b cube h l ne is j f;
-}
+noted_replace find then slots a b cube h l ne some is e = grind (arith, common_steps, replace_sound, replace_complete)
 
 -- ---- what every `Slots` keeps
 
@@ -134,16 +126,7 @@ more_asked asked cube slots all =
     eq-eqb _ 1 (omega arith)) slots all
 
 pub slotted_open : (find : ℕ × ℕ → Option ℕ) (asked n : ℕ) (slots : List Cube) → IsSlotted find asked n slots → IsSlotted find asked n (slots ++ no_cube ∷ [])
-slotted_open find asked n slots h = record {
-  some_inputs = h.some_inputs;
-  few_inputs = h.few_inputs;
-  valid = All-push (IsCube n MOST_OUTPUTS) slots no_cube h.valid (no_cube_valid n MOST_OUTPUTS);
-  noted = record {
-    sound = λ q i e. let s = h.noted.sound q i e in (ap carries (at_open slots i) ∙ s.0, ap key_of (at_open slots i) ∙ s.1);
-    complete = λ i f. ap (λ (c : Cube). find (key_of c)) (at_open slots i) ∙ h.noted.complete i (ap carries (sym (at_open slots i)) ∙ f);
-  };
-  asks = All-push (AsksWithin asked) slots no_cube h.asks (no_cube_asks asked);
-}
+slotted_open find asked n slots h = grind (arith, common_steps, All-push, no_cube_valid, at_open, no_cube_asks)
 
 pub slotted_put : (find then : ℕ × ℕ → Option ℕ) (asked n : ℕ) (slots : List Cube) (i : ℕ) (cube : Cube) → IsSlotted find asked n slots → i < length slots → full slots i ≡ false
     → carries cube ≡ true → IsCube n MOST_OUTPUTS cube → slot_of slots cube ≡ None
@@ -158,13 +141,7 @@ slotted_put find then asked n slots i cube h l empty some own none e = record {
 
 pub slotted_clear : (find then : ℕ × ℕ → Option ℕ) (asked n : ℕ) (slots : List Cube) (i : ℕ) (cube : Cube) → IsSlotted find asked n slots → i < length slots → cube ≡ at slots i
     → ((q : ℕ × ℕ) → then q ≡ cond (carries cube && key_eq (key_of cube) q) None (find q)) → IsSlotted then asked n (set slots i no_cube)
-slotted_clear find then asked n slots i cube h l is e = record {
-  some_inputs = h.some_inputs;
-  few_inputs = h.few_inputs;
-  valid = All-set (IsCube n MOST_OUTPUTS) slots i no_cube (no_cube_valid n MOST_OUTPUTS) h.valid;
-  noted = noted_clear find then slots i h.noted (λ q. e q ∙ ap (λ c. cond (carries c && key_eq (key_of c) q) None (find q)) is);
-  asks = All-set (AsksWithin asked) slots i no_cube (no_cube_asks asked) h.asks;
-}
+slotted_clear find then asked n slots i cube h l is e = grind (arith, common_steps, All-set, no_cube_valid, noted_clear, no_cube_asks)
 
 pub slotted_replace : (find then : ℕ × ℕ → Option ℕ) (asked n : ℕ) (slots : List Cube) (a b : ℕ) (cube : Cube) → IsSlotted find asked n slots → a < b → b < length slots
     → carries cube ≡ true → IsCube n MOST_OUTPUTS cube → IsReplaced slots a b cube

@@ -14,12 +14,12 @@ use Rattle.rv_cube.specs.Settled.{DifferInTwo}
 use Rattle.rv_cube.proofs.inside.Differing.{IsDiffering, differing_is, differing-comm, both_from, both_back, both_other}
 use Rattle.rv_cube.specs.inside.Watching.{lower}
 use Rattle.rv_cube.proofs.inside.DueRows.{lower_less, lower_more}
-use Rattle.rv_cube.proofs.inside.Finding.{outputs-comm}
+use Rattle.rv_cube.proofs.inside.PartnerSearches.{outputs-comm, partner_in-none, none_partner}
 use Rattle.rv_gate.proofs.FirstAnswer.{or_none}
 use Rattle.rv_cube.proofs.inside.Full.{full_within, full_cleared, apart_from}
 use Rattle.rv_cube.proofs.inside.Keys.{is_alike-self, is_alike-comm, is_alike-trans}
-use Rattle.rv_cube.proofs.inside.PartnerSearches.{partner_in-none, none_partner}
 use Rattle.rv_cube.proofs.inside.MergesIn.{merge_in_alike, merged_in_first, merged_in_other, merged_in_gone, settled_case}
+use Rattle.std.proofs.lemmas.Grind.{common_steps}
 
 none_or : (o p : Option Step) → o ≡ None → p ≡ None → option_or o p ≡ None
 none_or o p h i = ap (λ x. option_or x p) h ∙ i
@@ -235,7 +235,4 @@ watched_settled n slots i cube merges exorlinks new_merges new_exorlinks within 
 
 pub watched_all : (n : ℕ) (slots : List Cube) (merges exorlinks : List Bool) → ((a : ℕ) → a < length slots → is_due merges a ≡ true)
     → ((a : ℕ) → a < length slots → is_due exorlinks a ≡ true) → IsWatched n slots merges exorlinks
-watched_all n slots merges exorlinks m r = record {
-  merges = λ a nd b ab fa fb. absurd (false≢true (sym nd ∙ m a (full_within slots a fa)));
-  exorlinks = λ a nd b ab fa fb. absurd (false≢true (sym nd ∙ r a (full_within slots a fa)));
-}
+watched_all n slots merges exorlinks m r = grind (arith, common_steps, false≢true, full_within)

@@ -1,5 +1,5 @@
 use Rattle.std.proofs.lemmas.Result.{on_ok_weaker}
-use Rattle.rv_cube.proofs.inside.MadeSteps.{comes_in, exorlinked_steps, exorlinking}
+use Rattle.rv_cube.proofs.inside.OneStep.{comes_in, exorlinked_steps, exorlinking}
 use Rattle.rv_cube.proofs.reduction.Reduction.exorlink.Goals as goal
 
 pub come_in-requires : goal.come_in-requires

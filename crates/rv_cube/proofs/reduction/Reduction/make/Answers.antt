@@ -1,5 +1,5 @@
 use Rattle.std.proofs.lemmas.Result.{on_ok_weaker}
-use Rattle.rv_cube.proofs.inside.MadeSteps.{exorlinks_own, exorlinks_rest, own_steps, rest_steps}
+use Rattle.rv_cube.proofs.inside.OneStep.{exorlinks_own, exorlinks_rest, own_steps, rest_steps}
 use Rattle.rv_cube.proofs.reduction.Reduction.make.Goals as goal
 
 pub exorlink-requires : goal.exorlink-requires

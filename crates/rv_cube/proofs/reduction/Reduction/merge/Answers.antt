@@ -1,4 +1,4 @@
-use Rattle.rv_cube.proofs.inside.MadeSteps.{merge_valid}
+use Rattle.rv_cube.proofs.inside.OneStep.{merge_valid}
 use Rattle.rv_cube.proofs.reduction.Reduction.merge.Goals as goal
 
 pub put_any-requires-clause-valid : goal.put_any-requires-clause-valid
