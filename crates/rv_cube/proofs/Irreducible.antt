@@ -1,8 +1,8 @@
 -- A list is settled exactly if it is irreducible.
-use Rattle.std.proofs.Common.{◌≡◌, ◌≢◌, ℕ, zero, suc, ◌+◌, ◌-◌, ◌<◌, Bool, true, not, ◌&&◌, ◌||◌, cond, eqb, List, [], ◌∷◌, ◌++◌, length, refl, sym, ◌∙◌, ap, inl, inr, arith, eq-eqb, ne_eqb}
+use Rattle.std.proofs.Common.{◌≡◌, ◌≢◌, ℕ, ◌+◌, ◌-◌, ◌<◌, Bool, true, not, ◌&&◌, ◌||◌, cond, eqb, List, [], ◌∷◌, length, refl, sym, ◌∙◌, ap, inl, inr, arith, eq-eqb, ne_eqb}
 use Rattle.std.specs.Option.{option_or}
 use Rattle.std.specs.Prelude.{◌⊎◌, Option, None, Some, option_map}
-use Rattle.std.proofs.lemmas.Bool.{and_parts, cases_eq, cases_order, cases_Bool, eqb-false, eqb-true, false≢true, not-true, true≢false}
+use Rattle.std.proofs.lemmas.Bool.{and_parts, cases_order, cases_Bool, eqb-false, eqb-true, false≢true, not-true}
 use Rattle.std.proofs.lemmas.Option.{none-some}
 use Rattle.rv_gate.proofs.AllBelow.{all_below-from}
 use Rattle.rv_gate.proofs.FirstAnswer.{none_at, none_first, or_none}
@@ -10,10 +10,9 @@ use Rattle.rv_gate.specs.FirstAnswer.{first}
 use Rattle.rv_gate.specs.Gate.{all_below}
 use Rattle.rv_gate.specs.Word.{word_of}
 use Rattle.rv_gate.specs.inside.WordLaws.{length-word_of}
-use Rattle.rv_pla.specs.Cube.{symbol}
 use Rattle.rv_pla.specs.declared.cube.Cube.{Cube}
 use Rattle.rv_pla.specs.Pla.{TwoLevel}
-use Rattle.rv_cube.specs.Distance.{differing, differs, distance, with_third}
+use Rattle.rv_cube.specs.Distance.{differing, distance, with_third}
 use Rattle.rv_cube.specs.Reduction.{at, are_adjacent, can_merge, have_same_inputs, first_pair, changed, merge_at, first_merge, partner_at, with_partner, form, exorlink_at_by, exorlink_at, first_exorlink, found_step, first_step, IsSettled}
 use Rattle.rv_cube.specs.declared.step.Step.TheVariants.{Merge as MergeStep, Exorlink}
 use Rattle.rv_cube.specs.ReductionFor.{IsSettledFor, dropped, dropping, first_drop, first_step_for, free_where, is_idle}

@@ -1,13 +1,10 @@
 -- Each step that is found keeps the value and makes the list shorter.
-use Rattle.std.proofs.Common.{◌≡◌, ◌≢◌, ℕ, zero, suc, ◌+◌, ◌-◌, ◌<◌, ◌≤◌, Bool, true, false, cond, not, eqb, List, length, set, refl, sym, ◌∙◌, subst, inl, inr, arith, length-set, get_or-set_same, get_or-set_other, ◌∷◌, []}
-use Rattle.std.specs.Option.{option_or}
-use Rattle.std.specs.Prelude.{Option, None, Some, ◌⊎◌, option_map}
+use Rattle.std.proofs.Common.{◌≡◌, ◌≢◌, ℕ, ◌<◌, Bool, true, not, eqb, List, length, set, refl, sym, ◌∙◌, subst, inl, inr, arith, length-set, get_or-set_same, get_or-set_other, ◌∷◌, []}
+use Rattle.std.specs.Prelude.{◌⊎◌}
 use Rattle.std.proofs.lemmas.Bool.{or_left, or_right, eqb-true, eqb-false, and_parts, not-true}
-use Rattle.std.proofs.lemmas.Option.{none-some, same_Some}
 use Rattle.rv_pla.specs.declared.cube.Cube.{Cube}
 use Rattle.rv_cube.specs.Distance.{differing}
-use Rattle.rv_gate.specs.FirstAnswer.{first}
-use Rattle.rv_cube.specs.Reduction.{no_cube, at, have_same_inputs, are_adjacent, can_merge, first_pair, changed, merge_at, first_merge, partner_at, with_partner, form, exorlink_at_by, exorlink_at, first_exorlink, found_step}
+use Rattle.rv_cube.specs.Reduction.{no_cube, at, have_same_inputs, are_adjacent, can_merge, changed, merge_at, first_merge, partner_at, with_partner, form, exorlink_at_by, exorlink_at, first_exorlink, found_step}
 use Rattle.rv_cube.specs.declared.step.Step.{Step}
 use Rattle.rv_cube.specs.declared.step.Step.TheVariants.{Merge, Exorlink}
 use Rattle.rv_cube.proofs.Searches.{Finds, finds_else, finds_first, finds_none, finds_pair, finds_if, finds_cond}

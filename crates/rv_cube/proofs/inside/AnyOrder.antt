@@ -2,7 +2,7 @@
 use Rattle.std.proofs.Common.{◌≡◌, ◌≢◌, ℕ, zero, suc, ◌<◌, ◌≤◌, Bool, true, false, ◌&&◌, List, length, set, sym, ◌∙◌, ap, subst, inl, inr, arith, lt-ltb, refl, cond}
 use Rattle.std.specs.Option.{option_or}
 use Rattle.std.specs.Prelude.{Option, None, Some, All, nat_lt}
-use Rattle.std.proofs.lemmas.Bool.{cases_lt, cases_eq, cases_Bool, false≢true, and_parts, and_from, ltb-true, false_from_ne_true}
+use Rattle.std.proofs.lemmas.Bool.{cases_lt, cases_eq, false≢true, and_parts, and_from, ltb-true, false_from_ne_true}
 use Rattle.std.proofs.lemmas.List.{set_comm}
 use Rattle.rv_pla.specs.Cube.{IsCube}
 use Rattle.rv_pla.specs.declared.cube.Cube.{Cube}
@@ -51,6 +51,7 @@ first_pair slots i j ij fi fj s = choose (first (paired slots) 0 (length slots))
   where
     none_after : (k : ℕ) → paired slots k ≡ None → (l : ℕ) → full slots l ≡ true → is_pair slots k l ≡ false
     none_after k e l f = let w = full_within slots l f in passes_none _ k (none_at _ 0 (length slots) l e (omega arith) (omega arith))
+
     choose : (o : Option ℕ) → first (paired slots) 0 (length slots) ≡ o → (a : ℕ) × (b : ℕ) × IsFirstPair slots a b
     choose None e =
         let w = full_within slots i fi in
@@ -60,15 +61,18 @@ first_pair slots i j ij fi fj s = choose (first (paired slots) 0 (length slots))
         let c = first_is _ 0 (length slots) x r.3 in
         let p = and_parts _ _ (passes_some _ r.0 x c.3) in
         let q = and_parts _ _ p.1 in
-        let t = and_parts _ _ q.1 in
-        (r.0, c.0, record {
-          order = ltb-true _ _ p.0;
-          full_a = q.0;
-          full_b = t.0;
-          same = t.1;
-          before = λ k l ka kl fk fl. not_pair slots k l (none_after k (r.4 k (omega arith) ka) l fl) kl fk fl;
-          between = λ l al lb fl. not_pair slots r.0 l (passes_none _ r.0 (c.4 l (omega arith) lb)) al q.0 fl;
-        })
+        let t = and_parts _ _ q.1 in (
+          r.0,
+          c.0,
+          record {
+            order = ltb-true _ _ p.0;
+            full_a = q.0;
+            full_b = t.0;
+            same = t.1;
+            before = λ k l ka kl fk fl. not_pair slots k l (none_after k (r.4 k (omega arith) ka) l fl) kl fk fl;
+            between = λ l al lb fl. not_pair slots r.0 l (passes_none _ r.0 (c.4 l (omega arith) lb)) al q.0 fl;
+          },
+        )
 
 -- ---- they become one first
 

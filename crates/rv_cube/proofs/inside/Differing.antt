@@ -1,17 +1,14 @@
 -- In which inputs two cubes differ, and in how many.
-use Rattle.rv_gate.proofs.Bits.{flag_small}
-use Rattle.std.proofs.Common.{◌≡◌, ◌≢◌, ◌&&◌, ◌||◌, ℕ, zero, suc, ◌+◌, ◌<◌, ◌≤◌, Bool, true, false, not, cond, eqb, List, [], ◌∷◌, ◌++◌, length, refl, sym, ◌∙◌, ap, subst, inl, inr, arith, ne_eqb, add-one, append-nil}
-use Rattle.std.specs.Prelude.{count_by, bit_and, bit_or, bit_xor}
-use Rattle.std.specs.List.{range_with_len}
+use Rattle.std.proofs.Common.{◌≡◌, ◌≢◌, ◌&&◌, ◌||◌, ℕ, zero, suc, ◌+◌, ◌<◌, ◌≤◌, Bool, true, false, not, cond, List, [], ◌∷◌, ◌++◌, length, refl, sym, ◌∙◌, ap, subst, inl, inr, arith, add-one, append-nil}
+use Rattle.std.specs.Prelude.{bit_and, bit_or, bit_xor}
 use Rattle.std.proofs.lemmas.Bool.{cases_Bool, cases_eq, false≢true, not-false}
-use Rattle.std.proofs.lemmas.List.Sums.{length-filter, sum_by-cons}
 use Rattle.rv_gate.specs.Word.{has}
 use Rattle.rv_gate.specs.Gate.{xor}
 use Rattle.rv_gate.proofs.LineSets.{has-and, has-or, has-xor}
 use Rattle.rv_gate.proofs.Ranges.{filter-suc}
 use Rattle.rv_pla.specs.Cube.{Symbol, symbol, symbol_of}
 use Rattle.rv_pla.specs.declared.cube.Cube.{Cube}
-use Rattle.rv_cube.specs.Distance.{is_same, differs, differing, distance}
+use Rattle.rv_cube.specs.Distance.{is_same, differs, differing}
 use Rattle.rv_cube.specs.Settled.{DifferInTwo}
 use Rattle.rv_cube.specs.declared.distance.Apart.{Apart}
 use Rattle.rv_cube.specs.inside.Apart.{Tells, apart_of, further}

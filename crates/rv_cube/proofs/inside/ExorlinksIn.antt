@@ -1,11 +1,11 @@
 -- What an exorlink of two slots is.
-use Rattle.std.proofs.Common.{◌≡◌, ◌≢◌, ℕ, ◌<◌, Bool, true, false, not, cond, eqb, List, length, refl, sym, ◌∙◌, ap, inl, inr, arith, ◌∷◌, []}
+use Rattle.std.proofs.Common.{◌≡◌, ◌≢◌, ℕ, ◌<◌, Bool, true, false, cond, eqb, List, length, refl, sym, ◌∙◌, inl, inr, arith, ◌∷◌, []}
 use Rattle.std.specs.Prelude.{None, Some, ◌⊎◌, bit_xor}
-use Rattle.std.proofs.lemmas.Bool.{cases_eq, eqb-true, false≢true, not-true}
+use Rattle.std.proofs.lemmas.Bool.{cases_eq, eqb-true, not-true}
 use Rattle.rv_pla.specs.Cube.{Symbol, symbol}
 use Rattle.rv_pla.specs.declared.cube.Cube.{Cube}
 use Rattle.rv_pla.specs.declared.cube.TheConstants.{MOST_OUTPUTS}
-use Rattle.rv_cube.specs.Distance.{is_same, differs, differing, third, with_third}
+use Rattle.rv_cube.specs.Distance.{is_same, differing, third, with_third}
 use Rattle.rv_cube.specs.Reduction.{at, merge_by, partner_at}
 use Rattle.rv_cube.specs.inside.Slots.{carries, full, is_alike, or_empty, merge_in, IsPartner, partner_in_at, partner_in, form_in, exorlink_in_by, exorlink_in}
 use Rattle.rv_cube.specs.inside.Reducing.{DifferAt}

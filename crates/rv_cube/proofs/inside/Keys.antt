@@ -1,10 +1,9 @@
 -- Cubes with the same inputs, and the slot that has some inputs.
-use Rattle.std.proofs.Common.{◌≡◌, ℕ, zero, suc, ◌<◌, ◌≤◌, Bool, true, false, not, cond, refl, sym, ◌∙◌, ap, inl, inr, arith, eq-eqb, ne_eqb, ◌+◌, ◌&&◌, List, length, subst, [], ◌∷◌, ◌++◌, eqb}
+use Rattle.std.proofs.Common.{◌≡◌, ℕ, zero, suc, ◌<◌, ◌≤◌, Bool, true, false, not, cond, refl, sym, ◌∙◌, ap, inl, inr, arith, eq-eqb, ne_eqb, ◌&&◌, List, length, [], ◌∷◌, ◌++◌, eqb}
 use Rattle.std.specs.Cmp.{both_ways}
-use Rattle.std.specs.Prelude.{Option, None, Some, ◌⊎◌, IfSome}
-use Rattle.std.proofs.lemmas.Bool.{cases_lt, eqb-true, false≢true, and_parts, and_from, cases_eq}
+use Rattle.std.specs.Prelude.{Option, None, Some, IfSome}
+use Rattle.std.proofs.lemmas.Bool.{cases_lt, eqb-true, false≢true, and_parts, and_from}
 use Rattle.std.proofs.lemmas.Nat.Bits.{same_from_bits, bit_at_above}
-use Rattle.std.proofs.lemmas.Option.{none-some}
 use Rattle.rv_gate.specs.Word.{has}
 use Rattle.rv_gate.proofs.LineSets.{bits_from_has}
 use Rattle.rv_pla.specs.Cube.{symbol_of, symbol, IsCube}

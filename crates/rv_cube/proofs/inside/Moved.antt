@@ -15,7 +15,7 @@ use Rattle.rv_cube.proofs.inside.Neighbours.{beside_either, third_turn}
 use Rattle.rv_cube.proofs.inside.Full.{full_within}
 use Rattle.std.proofs.lemmas.Bool.{false≢true}
 use Rattle.std.proofs.lemmas.List.Elements.{All-get_or}
-use Rattle.rv_cube.proofs.Symbols.{has_put-other, symbol_with-same, symbol_with-other}
+use Rattle.rv_cube.proofs.Symbols.{has_put-other, symbol_with-other}
 use Rattle.std.proofs.lemmas.Grind.{common_steps}
 
 -- ---- sets

@@ -1,5 +1,5 @@
 -- The inputs of a cube with another symbol at one input.
-use Rattle.std.proofs.Common.{◌≡◌, ◌≢◌, ℕ, zero, suc, ◌<◌, true, false, cond, not, sym, ◌∙◌, ap, inl, inr, arith, ◌∷◌, [], ◌++◌}
+use Rattle.std.proofs.Common.{◌≡◌, ◌≢◌, ℕ, ◌<◌, true, false, not, sym, ◌∙◌, ap, inl, inr, arith, ◌∷◌, []}
 use Rattle.std.specs.Prelude.{◌⊎◌}
 use Rattle.std.proofs.lemmas.Bool.{cases_eq, not-true}
 use Rattle.rv_pla.specs.Cube.{Symbol, symbol, IsCube}

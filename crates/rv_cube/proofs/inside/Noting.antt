@@ -1,9 +1,9 @@
 -- What is found by its inputs, after a slot has changed.
-use Rattle.std.proofs.Common.{◌≡◌, ◌≢◌, ℕ, ◌<◌, Bool, true, false, cond, ◌&&◌, List, [], ◌∷◌, ◌++◌, length, set, refl, sym, ◌∙◌, ap, subst, inl, inr, arith, eq-eqb, ne_eqb, get_or-set_same, get_or-set_other, length-set}
+use Rattle.std.proofs.Common.{◌≡◌, ◌≢◌, ℕ, ◌<◌, true, false, cond, ◌&&◌, List, [], ◌∷◌, ◌++◌, length, set, refl, sym, ◌∙◌, ap, inl, inr, arith, eq-eqb, ne_eqb, get_or-set_same, get_or-set_other, length-set}
 use Rattle.std.specs.Prelude.{Option, None, Some, All, bit_or}
 use Rattle.std.proofs.lemmas.Bool.{cases_eq, eqb-true, false≢true, and_parts, and_from}
 use Rattle.std.proofs.lemmas.List.Elements.{All-set, All-push, All-weaker}
-use Rattle.std.proofs.lemmas.Option.{none-some, same_Some}
+use Rattle.std.proofs.lemmas.Option.{same_Some}
 use Rattle.rv_pla.specs.declared.cube.Cube.{Cube}
 use Rattle.rv_pla.specs.Cube.{IsCube}
 use Rattle.rv_pla.specs.declared.cube.TheConstants.{MOST_OUTPUTS}
@@ -12,7 +12,7 @@ use Rattle.rv_cube.specs.inside.Slots.{carries, full, is_alike, slot_of, key_of,
 use Rattle.rv_cube.specs.inside.Slotted.{Noted, IsReplaced, AsksWithin, IsSlotted}
 use Rattle.std.specs.Int.{bit_at}
 use Rattle.std.proofs.lemmas.Nat.Bits.{bit_at-lt, bit_at-zero, bit_at_or}
-use Rattle.rv_cube.proofs.inside.Full.{apart_from, full_cleared, no_cube_valid, at_open}
+use Rattle.rv_cube.proofs.inside.Full.{full_cleared, no_cube_valid, at_open}
 use Rattle.rv_cube.proofs.inside.Keys.{alike_care, alike_want, alike_from, slot_of-none, slot_of-some}
 use Rattle.std.proofs.lemmas.Grind.{common_steps}
 

@@ -21,7 +21,6 @@ use Rattle.rv_cube.proofs.inside.ExorlinksIn.{merge_in_far, merge_in_far-other, 
 use Rattle.rv_cube.specs.inside.Slotted.{Slotted}
 use Rattle.rv_cube.specs.declared.step.Step.{Step}
 use Rattle.rv_cube.proofs.inside.Differing.{differs-comm}
-use Rattle.rv_cube.proofs.Exorlinks.{IsForm}
 use Rattle.std.proofs.lemmas.Result.{on_ok_weaker}
 use Rattle.std.proofs.lemmas.Grind.{common_steps}
 

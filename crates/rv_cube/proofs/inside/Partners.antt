@@ -122,8 +122,7 @@ below_partner n slots a b cube c (inr y) =
     let x = y.2 in
     record {
       other = x.0;
-      one = or_right (have_same_inputs n cube (at slots c)) (are_adjacent n cube (at slots c))
-          (and_from _ _ (eq-eqb cube.outs (at slots c).outs (sym x.1)) (ap (λ l. eqb (length l) 1) x.2));
+      one = grind (arith, common_steps, or_right, and_from, eq-eqb);
     }
 
 partner_below : (n : ℕ) (slots : List Cube) (a b : ℕ) (cube : Cube) (c : ℕ) → All (IsCube n MOST_OUTPUTS) slots → IsCube n MOST_OUTPUTS cube

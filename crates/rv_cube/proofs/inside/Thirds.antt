@@ -1,7 +1,7 @@
 -- The pairs to which a third cube may bring an exorlink.
-use Rattle.std.proofs.Common.{◌≡◌, ◌≢◌, ℕ, ◌<◌, ◌≤◌, true, false, List, [], ◌∷◌, length, refl, sym, ◌∙◌, ap, subst, inl, inr, arith}
+use Rattle.std.proofs.Common.{◌≡◌, ◌≢◌, ℕ, ◌<◌, true, false, List, [], ◌∷◌, refl, sym, ◌∙◌, ap, subst, inl, inr, arith}
 use Rattle.std.specs.Prelude.{◌⊎◌, All}
-use Rattle.std.proofs.lemmas.Bool.{cases_eq, cases_Bool, false≢true, not-true}
+use Rattle.std.proofs.lemmas.Bool.{cases_eq, cases_Bool, not-true}
 use Rattle.rv_pla.specs.Cube.{Symbol, symbol, IsCube}
 use Rattle.rv_pla.specs.declared.cube.Cube.{Cube}
 use Rattle.rv_pla.specs.declared.cube.TheConstants.{MOST_OUTPUTS}
@@ -12,7 +12,7 @@ use Rattle.rv_cube.specs.inside.Slotted.{IsBeside, IsTwoApart}
 use Rattle.rv_cube.specs.inside.Watching.{lower, IsLinkAcross, IsLinkFrom, IsThirdBy, IsThird}
 use Rattle.rv_cube.proofs.Symbols.{symbol_with-same, symbol_with-other}
 use Rattle.rv_cube.specs.Settled.{DifferInTwo}
-use Rattle.rv_cube.proofs.inside.Differing.{is_same-self, differs-same, differs-not, IsDiffering, differing_is, differ_not, not_three, differs-true}
+use Rattle.rv_cube.proofs.inside.Differing.{is_same-self, differs-not, IsDiffering, differing_is, differ_not, not_three, differs-true}
 use Rattle.rv_cube.proofs.inside.Merges.{Mergeable, can_merge_Mergeable, with_third-outs}
 use Rattle.rv_cube.proofs.inside.Full.{at_valid}
 use Rattle.rv_cube.proofs.inside.Keys.{symbols_alike}

@@ -1,11 +1,9 @@
 -- Which slots have to be looked at again after a cube was put into a slot.
 use Rattle.std.proofs.Common.{◌≡◌, ◌≢◌, ℕ, ◌<◌, Bool, true, false, cond, eqb, List, length, set, refl, subst, sym, ◌∙◌, ap, inl, inr, arith, length-set, get_or-set_same, get_or-set_other, ◌∷◌, []}
 use Rattle.std.specs.Option.{option_or}
-use Rattle.std.specs.Prelude.{Option, None, Some, All}
+use Rattle.std.specs.Prelude.{Option, None}
 use Rattle.std.proofs.lemmas.Bool.{cases_eq, eqb-true, false≢true, false_from_ne_true}
-use Rattle.rv_pla.specs.Cube.{IsCube}
 use Rattle.rv_pla.specs.declared.cube.Cube.{Cube}
-use Rattle.rv_pla.specs.declared.cube.TheConstants.{MOST_OUTPUTS}
 use Rattle.rv_cube.specs.Distance.{differing, with_third}
 use Rattle.rv_cube.specs.Reduction.{no_cube, at, can_merge, are_adjacent}
 use Rattle.rv_cube.specs.inside.Slots.{carries, full, is_alike, merge_in, merged_in, settled, partner_in, form_in, exorlink_in_by, exorlink_in, is_due, IsWatched, StaysDue, IsPartner}
