@@ -15,7 +15,7 @@ use Rattle.rv_cube.specs.Reduction.{no_cube, at, have_same_inputs, are_adjacent,
 use Rattle.rv_cube.specs.declared.step.Step.{Step}
 use Rattle.rv_cube.specs.declared.step.Step.TheVariants.{Merge, Exorlink}
 use Rattle.rv_cube.proofs.inside.Merges.{All-remove}
-use Rattle.rv_cube.proofs.Steps.{Finds, finds_else, finds_first, finds_none, finds_map, finds_pair, finds_if, finds_cond}
+use Rattle.rv_cube.proofs.Searches.{Finds, finds_else, finds_first, finds_none, finds_map, finds_pair, finds_if, finds_cond}
 use Rattle.rv_cube.proofs.Symbols.{symbol_with-same, symbol_with-other}
 use Rattle.rv_cube.proofs.Turns.{repeated_keeps}
 

@@ -16,6 +16,7 @@ use Rattle.std.proofs.lemmas.List.Sums.{sum_by-set}
 use Rattle.rv_cube.specs.ReductionFor.{carried_count}
 use Rattle.rv_cube.proofs.Outputs.{count-same}
 use Rattle.rv_cube.proofs.inside.Merges.{Kept, with_third-outs, with_third_valid, share-with_third, Mergeable, merged_any_kept}
+use Rattle.std.proofs.lemmas.Grind.{common_steps}
 
 -- two cubes that may stand for a and b
 pub record IsForm (n outputs : ℕ) (a b first second : Cube) : Type 0 where
@@ -60,9 +61,7 @@ form_2 n outputs a b p q is o =
     let pq : p < q = is.0 in
     let hq : q < n = is.1 in
     record {
-      shares = λ word len.
-          form_shares n b a p q word len (omega arith) (omega arith) hq (differs-comm b a p ∙ is.2) (differs-comm b a q ∙ is.3) (sym o) (λ i l np nq. sym (is.4 i l np nq))
-          ∙ xor_comm (share b word) (share a word);
+      shares = grind (arith, common_steps, form_shares, differs-comm, xor_comm);
       valid = λ va vb. (with_third_valid n outputs b a p (omega arith) vb, with_third_valid n outputs a b q hq va);
       first_outs = with_third-outs b a p ∙ sym o;
       second_outs = with_third-outs a b q ∙ o;

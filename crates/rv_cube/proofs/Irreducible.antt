@@ -1,8 +1,8 @@
 -- A list is settled exactly if it is irreducible.
-use Rattle.std.proofs.Common.{◌≡◌, ◌≢◌, ℕ, zero, suc, ◌+◌, ◌-◌, ◌<◌, Bool, true, not, ◌&&◌, ◌||◌, cond, eqb, List, [], ◌∷◌, ◌++◌, length, refl, sym, ◌∙◌, ap, inl, inr, arith, eq-eqb, ne_eqb}
+use Rattle.std.proofs.Common.{◌≡◌, ◌≢◌, ℕ, ◌+◌, ◌-◌, ◌<◌, Bool, true, not, ◌&&◌, ◌||◌, cond, eqb, List, [], ◌∷◌, length, refl, sym, ◌∙◌, ap, inl, inr, arith, eq-eqb, ne_eqb}
 use Rattle.std.specs.Option.{option_or}
 use Rattle.std.specs.Prelude.{◌⊎◌, Option, None, Some, option_map}
-use Rattle.std.proofs.lemmas.Bool.{and_parts, cases_eq, cases_order, cases_Bool, eqb-false, eqb-true, false≢true, not-true, true≢false}
+use Rattle.std.proofs.lemmas.Bool.{and_parts, cases_order, cases_Bool, eqb-false, eqb-true, false≢true, not-true}
 use Rattle.std.proofs.lemmas.Option.{none-some}
 use Rattle.rv_gate.proofs.AllBelow.{all_below-from}
 use Rattle.rv_gate.proofs.FirstAnswer.{none_at, none_first, or_none}
@@ -10,45 +10,24 @@ use Rattle.rv_gate.specs.FirstAnswer.{first}
 use Rattle.rv_gate.specs.Gate.{all_below}
 use Rattle.rv_gate.specs.Word.{word_of}
 use Rattle.rv_gate.specs.inside.WordLaws.{length-word_of}
-use Rattle.rv_pla.specs.Cube.{symbol}
 use Rattle.rv_pla.specs.declared.cube.Cube.{Cube}
 use Rattle.rv_pla.specs.Pla.{TwoLevel}
-use Rattle.rv_cube.specs.Distance.{differing, differs, distance, with_third}
+use Rattle.rv_cube.specs.Distance.{differing, distance, with_third}
 use Rattle.rv_cube.specs.Reduction.{at, are_adjacent, can_merge, have_same_inputs, first_pair, changed, merge_at, first_merge, partner_at, with_partner, form, exorlink_at_by, exorlink_at, first_exorlink, found_step, first_step, IsSettled}
 use Rattle.rv_cube.specs.declared.step.Step.TheVariants.{Merge as MergeStep, Exorlink}
 use Rattle.rv_cube.specs.ReductionFor.{IsSettledFor, dropped, dropping, first_drop, first_step_for, free_where, is_idle}
 use Rattle.rv_cube.specs.Settled.{AreAdjacent, ArePlaces, DifferInOne, DifferInTwo, HaveOneInputPart, IsIdle, IsIrreducible, IsIrreducibleFor, LeadsOn, Merge}
-use Rattle.rv_cube.proofs.inside.Differing.{differing-suc, differing_as, differs-not, differs-same}
-use Rattle.rv_cube.proofs.inside.Keys.{none_differing}
-use Rattle.rv_cube.proofs.inside.Neighbours.{one_differing}
+use Rattle.rv_cube.proofs.inside.Differing.{differ_not, differing_as, differing_only, differs-true, both_from, both_other, both_back}
 
 -- ---- in which inputs two cubes differ
 
-differs-true : (x y : Cube) (p : ℕ) → symbol x p ≢ symbol y p → differs x y p ≡ true
-differs-true x y p ne = elim (cases_Bool (differs x y p)) [ inl t ↦ t | inr f ↦ absurd (ne (differs-not x y p f)) ]
-
-two_differing : (n p q : ℕ) (x y : Cube) → p < q → q < n → differs x y p ≡ true → differs x y q ≡ true
-    → ((i : ℕ) → i < n → i ≢ p → i ≢ q → symbol x i ≡ symbol y i) → differing n x y ≡ p ∷ q ∷ []
-two_differing zero p q x y pq l dp dq h = absurd (omega arith)
-two_differing (suc n) p q x y pq l dp dq h =
-    elim (cases_eq n q) [
-      | inl e ↦
-          differing-suc n x y ∙ ap (λ t. cond t (differing n x y ++ n ∷ []) (differing n x y)) (ap (differs x y) e ∙ dq)
-          ∙ ap (λ a. a ++ n ∷ []) (one_differing n p x y (omega arith) dp (λ i u np. let nq : i ≢ q = omega arith in h i (omega arith) np nq))
-          ∙ ap (λ k. p ∷ k ∷ []) e
-      | inr ne ↦
-          differing-suc n x y
-          ∙ ap (λ t. cond t (differing n x y ++ n ∷ []) (differing n x y)) (differs-same x y n (let np : n ≢ p = omega arith in h n (omega arith) np ne))
-          ∙ two_differing n p q x y pq (omega arith) dp dq (λ i u. h i (omega arith))
-    ]
-
 same-true : (n : ℕ) (x y : Cube) → HaveOneInputPart n x y → have_same_inputs n x y ≡ true
-same-true n x y same = ap (λ (inputs : List ℕ). eqb (length inputs) 0) (none_differing n x y same)
+same-true n x y same = ap (λ (inputs : List ℕ). eqb (length inputs) 0) (differing_only n x y [] same (omega arith))
 
 adjacent-true : (n : ℕ) (x y : Cube) → AreAdjacent n x y → are_adjacent n x y ≡ true
 adjacent-true n x y a =
     ap (λ t. t && eqb (distance n x y) 1) (eq-eqb x.outs y.outs a.outputs)
-    ∙ ap (λ (inputs : List ℕ). eqb (length inputs) 1) (one_differing n a.input x y a.one.input (differs-true x y a.input a.one.differ) a.one.others)
+    ∙ ap (λ (inputs : List ℕ). eqb (length inputs) 1) (differing_only n x y (a.input ∷ []) (a.one.input, differs-true x y a.input a.one.differ, a.one.others) (omega arith))
 
 or-true : (s t : Bool) → (s ≡ true) ⊎ (t ≡ true) → (s || t) ≡ true
 or-true s t h = grind arith
@@ -70,26 +49,6 @@ fails test x holds none = none-some x (sym none ∙ ap (λ t. cond t (Some x) No
 
 sym_one : (n : ℕ) (x y : Cube) (p : ℕ) → DifferInOne n x y p → DifferInOne n y x p
 sym_one n x y p d = record { input = d.input; differ = λ e. d.differ (sym e); others = λ i l ne. sym (d.others i l ne) }
-
-sym_two : (n : ℕ) (x y : Cube) (p q : ℕ) → DifferInTwo n x y p q → DifferInTwo n y x p q
-sym_two n x y p q d = record {
-  first = d.first;
-  second = d.second;
-  two = d.two;
-  differ_first = λ e. d.differ_first (sym e);
-  differ_second = λ e. d.differ_second (sym e);
-  others = λ i l np nq. sym (d.others i l np nq);
-}
-
-swap_two : (n : ℕ) (x y : Cube) (p q : ℕ) → DifferInTwo n x y p q → DifferInTwo n x y q p
-swap_two n x y p q d = record {
-  first = d.second;
-  second = d.first;
-  two = λ e. d.two (sym e);
-  differ_first = d.differ_second;
-  differ_second = d.differ_first;
-  others = λ i l nq np. d.others i l np nq;
-}
 
 -- ---- exorlinks
 
@@ -117,7 +76,7 @@ forms : (n : ℕ) (cubes : List Cube) (a b p q : ℕ) → exorlink_at n cubes a 
 forms n cubes a b p q none outs d pq =
     let x : Cube = at cubes a in
     let y : Cube = at cubes b in
-    let is = two_differing n p q x y pq d.second (differs-true x y p d.differ_first) (differs-true x y q d.differ_second) d.others in
+    let is = differing_only n x y (p ∷ q ∷ []) (pq, d.second, differs-true x y p d.differ_first, differs-true x y q d.differ_second, d.others) (omega arith) in
     or_none (form n cubes a b (with_third x y p) (with_third y x q)) (form n cubes a b (with_third y x p) (with_third x y q))
     (sym (ap (λ t. cond t (exorlink_at_by (differing n x y) n cubes a b) None) (eq-eqb x.outs y.outs outs) ∙ ap (λ inputs. exorlink_at_by inputs n cubes a b) is) ∙ none)
 
@@ -128,13 +87,13 @@ module _ (n : ℕ) (cubes : List Cube) (none : first_exorlink n cubes ≡ None) 
       let f = forms n cubes a b p q (none_pair (exorlink_at n cubes) cubes a b none ab l.places.second) l.outputs l.inputs pq in
       lonely_first n cubes a b _ _ f.0 c l.third l.not_first l.not_second l.merge
   unlinked-by a b p q c l (inl ab) (inr qp) =
-      let f = forms n cubes a b q p (none_pair (exorlink_at n cubes) cubes a b none ab l.places.second) l.outputs (swap_two n (at cubes a) (at cubes b) p q l.inputs) qp in
+      let f = forms n cubes a b q p (none_pair (exorlink_at n cubes) cubes a b none ab l.places.second) l.outputs (both_back n (at cubes a) (at cubes b) p q l.inputs) qp in
       lonely_second n cubes a b _ _ f.1 c l.third l.not_first l.not_second l.merge
   unlinked-by a b p q c l (inr ba) (inl pq) =
-      let f = forms n cubes b a p q (none_pair (exorlink_at n cubes) cubes b a none ba l.places.first) (sym l.outputs) (sym_two n (at cubes a) (at cubes b) p q l.inputs) pq in
+      let f = forms n cubes b a p q (none_pair (exorlink_at n cubes) cubes b a none ba l.places.first) (sym l.outputs) (both_other n (at cubes a) (at cubes b) p q l.inputs) pq in
       lonely_first n cubes b a _ _ f.1 c l.third l.not_second l.not_first l.merge
   unlinked-by a b p q c l (inr ba) (inr qp) =
-      let d = sym_two n (at cubes a) (at cubes b) q p (swap_two n (at cubes a) (at cubes b) p q l.inputs) in
+      let d = both_other n (at cubes a) (at cubes b) q p (both_back n (at cubes a) (at cubes b) p q l.inputs) in
       let f = forms n cubes b a q p (none_pair (exorlink_at n cubes) cubes b a none ba l.places.first) (sym l.outputs) d qp in
       lonely_second n cubes b a _ _ f.0 c l.third l.not_second l.not_first l.merge
 
@@ -190,9 +149,6 @@ irreducible_for pla cubes settled =
 
 -- ---- and back: an irreducible list is settled
 
-differ-from : (x y : Cube) (p : ℕ) → differs x y p ≡ true → symbol x p ≢ symbol y p
-differ-from x y p d same = true≢false (sym d ∙ differs-same x y p same)
-
 same-from : (n : ℕ) (x y : Cube) (inputs : List ℕ) → differing n x y ≡ inputs → eqb (length inputs) 0 ≡ true → HaveOneInputPart n x y
 same-from n x y [] is none = differing_as n x y [] is
 same-from n x y (p ∷ rest) is none = absurd (let z = eqb-true (length (p ∷ rest)) 0 none in omega (arith, z))
@@ -201,7 +157,7 @@ one-from : (n : ℕ) (x y : Cube) (inputs : List ℕ) → differing n x y ≡ in
 one-from n x y [] is one outs = absurd (false≢true one)
 one-from n x y (p ∷ []) is one outs =
     let d = differing_as n x y (p ∷ []) is in
-    record { outputs = outs; input = p; one = record { input = d.0; differ = differ-from x y p d.1; others = d.2 } }
+    record { outputs = outs; input = p; one = record { input = d.0; differ = differ_not x y p d.1; others = d.2 } }
 one-from n x y (p ∷ q ∷ rest) is one outs = absurd (let z = eqb-true (length (p ∷ q ∷ rest)) 1 one in omega (arith, z))
 
 adjacent-from : (n : ℕ) (x y : Cube) → are_adjacent n x y ≡ true → AreAdjacent n x y
@@ -254,19 +210,16 @@ module _ (n : ℕ) (cubes : List Cube) (free : IsIrreducible n cubes) where
           let x : Cube = at cubes a in
           let y : Cube = at cubes b in
           let d = differing_as n x y (p ∷ q ∷ []) is in
-          let pq = d.0 in
-          let qn = d.1 in
-          let two : DifferInTwo n x y p q =
-          record { first = omega arith; second = qn; two = omega arith; differ_first = differ-from x y p d.2; differ_second = differ-from x y q d.3; others = d.4 } in
+          let two = both_from n x y p q d in
           let there : ArePlaces cubes a b = places-of a b ab within in
           let back : ArePlaces cubes b a = record { first = there.second; second = there.first; two = λ e. there.two (sym e) } in
           ap (λ o. option_or o (form n cubes a b (with_third y x p) (with_third x y q)))
           (no_form a b (with_third x y p) (with_third y x q)
           (λ c lc na nb m. free.unlinked a b p q c (record { places = there; outputs = outs; inputs = two; third = lc; not_first = na; not_second = nb; merge = m }))
-          (λ c lc na nb m. free.unlinked b a q p c (record { places = back; outputs = sym outs; inputs = sym_two n x y q p (swap_two n x y p q two); third = lc; not_first = nb; not_second = na; merge = m })))
+          (λ c lc na nb m. free.unlinked b a q p c (record { places = back; outputs = sym outs; inputs = both_other n x y q p (both_back n x y p q two); third = lc; not_first = nb; not_second = na; merge = m })))
           ∙ no_form a b (with_third y x p) (with_third x y q)
-          (λ c lc na nb m. free.unlinked b a p q c (record { places = back; outputs = sym outs; inputs = sym_two n x y p q two; third = lc; not_first = nb; not_second = na; merge = m }))
-          (λ c lc na nb m. free.unlinked a b q p c (record { places = there; outputs = outs; inputs = swap_two n x y p q two; third = lc; not_first = na; not_second = nb; merge = m }))
+          (λ c lc na nb m. free.unlinked b a p q c (record { places = back; outputs = sym outs; inputs = both_other n x y p q two; third = lc; not_first = nb; not_second = na; merge = m }))
+          (λ c lc na nb m. free.unlinked a b q p c (record { places = there; outputs = outs; inputs = both_back n x y p q two; third = lc; not_first = na; not_second = nb; merge = m }))
 
   settled : IsSettled n cubes
   unfolding found_step

@@ -6,7 +6,8 @@ use Rattle.rv_cube.specs.Esop.{esop_value, IsTerm}
 use Rattle.rv_cube.specs.Reduction.{first_step, IsSettled, reduced, changed, found_step}
 use Rattle.rv_cube.specs.declared.step.Step.{Step}
 use Rattle.rv_cube.proofs.inside.Merges.{Kept}
-use Rattle.rv_cube.proofs.Steps.{finds_map, found_good}
+use Rattle.rv_cube.proofs.Searches.{finds_map}
+use Rattle.rv_cube.proofs.Steps.{found_good}
 use Rattle.rv_cube.proofs.Turns.{Lowers, repeated_keeps, repeated_settles, repeated_once, repeated_end}
 
 pub step_kept : (n outputs : ℕ) (cubes next : List Cube) → first_step n cubes ≡ Some next → Kept n outputs cubes next

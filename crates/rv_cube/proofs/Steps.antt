@@ -1,51 +1,16 @@
 -- Each step that is found keeps the value and makes the list shorter.
-use Rattle.std.proofs.Common.{◌≡◌, ◌≢◌, ℕ, zero, suc, ◌+◌, ◌-◌, ◌<◌, ◌≤◌, Bool, true, false, cond, not, eqb, List, length, set, refl, sym, ◌∙◌, subst, inl, inr, arith, length-set, get_or-set_same, get_or-set_other, ◌∷◌, []}
-use Rattle.std.specs.Option.{option_or}
-use Rattle.std.specs.Prelude.{Option, None, Some, ◌⊎◌, option_map}
+use Rattle.std.proofs.Common.{◌≡◌, ◌≢◌, ℕ, ◌<◌, Bool, true, not, eqb, List, length, set, refl, sym, ◌∙◌, subst, inl, inr, arith, length-set, get_or-set_same, get_or-set_other, ◌∷◌, []}
+use Rattle.std.specs.Prelude.{◌⊎◌}
 use Rattle.std.proofs.lemmas.Bool.{or_left, or_right, eqb-true, eqb-false, and_parts, not-true}
-use Rattle.std.proofs.lemmas.Option.{none-some, same_Some}
 use Rattle.rv_pla.specs.declared.cube.Cube.{Cube}
 use Rattle.rv_cube.specs.Distance.{differing}
-use Rattle.rv_gate.specs.FirstAnswer.{first}
-use Rattle.rv_cube.specs.Reduction.{no_cube, at, have_same_inputs, are_adjacent, can_merge, first_pair, changed, merge_at, first_merge, partner_at, with_partner, form, exorlink_at_by, exorlink_at, first_exorlink, found_step}
+use Rattle.rv_cube.specs.Reduction.{no_cube, at, have_same_inputs, are_adjacent, can_merge, changed, merge_at, first_merge, partner_at, with_partner, form, exorlink_at_by, exorlink_at, first_exorlink, found_step}
 use Rattle.rv_cube.specs.declared.step.Step.{Step}
 use Rattle.rv_cube.specs.declared.step.Step.TheVariants.{Merge, Exorlink}
+use Rattle.rv_cube.proofs.Searches.{Finds, finds_else, finds_first, finds_none, finds_pair, finds_if, finds_cond}
 use Rattle.rv_cube.proofs.inside.Differing.{IsDiffering, differing_is}
 use Rattle.rv_cube.proofs.inside.Merges.{Kept, Mergeable, merged_kept, can_merge_Mergeable}
 use Rattle.rv_cube.proofs.Exorlinks.{IsForm, form_1, form_2, with_form, exorlink_kept}
-
-abbrev pub Finds : {A : Type 0} → (A → Type 0) → Option A → Type 0
-Finds {A} G answer = (x : A) → answer ≡ Some x → G x
-
-pub finds_else : {A : Type 0} (G : A → Type 0) (o p : Option A) → Finds G o → Finds G p → Finds G (option_or o p)
-finds_else G o p h h2 = grind arith
-
-pub finds_first : {A : Type 0} (G : A → Type 0) (f : ℕ → Option A) (k m : ℕ) → ((i : ℕ) → k ≤ i → i < k + m → Finds G (f i)) → Finds G (first f k m)
-unfolding first
-finds_first G f k zero h = λ x e. absurd (none-some x e)
-finds_first G f k (suc m) h =
-    finds_else G (f k) (first f (k + 1) m) (h k (omega arith) (omega arith)) (finds_first G f (k + 1) m (λ i l u. h i (omega arith) (omega arith)))
-
-pub finds_none : {A : Type 0} (G : A → Type 0) → Finds G None
-finds_none G x e = absurd (none-some x e)
-
-pub finds_map : {A B : Type 0} (f : A → B) (G : B → Type 0) (o : Option A) → Finds (λ x. G (f x)) o → Finds G (option_map f o)
-finds_map f G None h = finds_none G
-finds_map f G (Some y) h = λ x e. subst G (same_Some (f y) x e) (h y refl)
-
-pub finds_if : {A : Type 0} (G : A → Type 0) (t : Bool) (c : A) → (t ≡ true → G c) → Finds G (cond t (Some c) None)
-finds_if G true c h x e = let s : c ≡ x = cc in subst G s (h refl)
-finds_if G false c h x e = absurd (none-some x e)
-
-pub finds_cond : {A : Type 0} (G : A → Type 0) (t : Bool) (o : Option A) → (t ≡ true → Finds G o) → Finds G (cond t o None)
-finds_cond G true o h = h refl
-finds_cond G false o h = finds_none G
-
--- the first pair of places
-pub finds_pair : {A : Type 0} (G : A → Type 0) (f : ℕ → ℕ → Option A) (cubes : List Cube)
-    → ((a b : ℕ) → a < b → b < length cubes → Finds G (f a b)) → Finds G (first_pair f cubes)
-finds_pair G f cubes h =
-    finds_first G _ 0 (length cubes) (λ a l u. finds_first G (f a) (a + 1) (length cubes - (a + 1)) (λ b lb ub. h a b (omega arith) (omega arith)))
 
 -- the list after a step has the value, and is shorter
 abbrev Good : ℕ → ℕ → List Cube → Step → Type 0

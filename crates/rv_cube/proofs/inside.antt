@@ -27,13 +27,8 @@ pub mod Moved
 pub mod Probes
 pub mod SettledList
 pub mod ExorlinksIn
-pub mod NextSteps
-pub mod Finding
-pub mod SettledSlots
 pub mod Keeps
 pub mod OneStep
-pub mod MadeSteps
-pub mod Filling
 pub mod IdleSlots
 pub mod IdleSets
 pub mod Meaning

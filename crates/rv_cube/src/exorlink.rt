@@ -1,7 +1,8 @@
 // How the cubes of two slots are exorlinked, their partners found by keys.
-ghost use Rattle.std.specs.Prelude.{◌≡◌, ◌<◌, length, IfOk};
+ghost use Rattle.std.specs.Prelude.{◌≡◌, ◌<◌, ◌≤◌, length, IfOk};
 ghost use Rattle.rv_pla.specs.Cube.{IsCube};
-ghost use Rattle.rv_pla.specs.declared.cube.TheConstants.{MOST_OUTPUTS};
+ghost use Rattle.rv_pla.specs.declared.cube.TheConstants.{MOST_INPUTS, MOST_OUTPUTS};
+ghost use Rattle.rv_cube.specs.Distance.{with_third};
 ghost use Rattle.rv_cube.specs.inside.Slots.{partner_in, form_in, exorlink_in};
 ghost use Rattle.rv_cube.specs.inside.Reducing.{ExorlinksFirst};
 
@@ -48,6 +49,18 @@ fn form(slots: &Slots, a: usize, b: usize, first: Cube, second: Cube) -> Option<
     }
 }
 
+// The cube `a` with the third of both symbols at one input.
+#[inline(always)]
+fn third(slots: &Slots, a: Cube, b: Cube, input: u8) -> Cube
+    requires few { slots.now.inputs ≤ MOST_INPUTS }
+    requires within { input < slots.now.inputs }
+    requires valid { IsCube slots.now.inputs MOST_OUTPUTS a }
+    ensures value { result ≡ with_third a b input }
+    ensures valid { IsCube slots.now.inputs MOST_OUTPUTS result }
+{
+    with_third(a, b, input)
+}
+
 /// How slots a and b are exorlinked.
 pub fn exorlink_in(slots: &Slots, a: usize, b: usize) -> Option<Step>
     requires a_in { a < length slots.now.cubes }
@@ -61,9 +74,9 @@ pub fn exorlink_in(slots: &Slots, a: usize, b: usize) -> Option<Step>
     let Apart::TwoInputs(p, q) = differing(x, y, slots.inputs()) else {
         return None;
     };
-    match form(slots, a, b, with_third(x, y, p), with_third(y, x, q)) {
+    match form(slots, a, b, third(slots, x, y, p), third(slots, y, x, q)) {
         Some(step) => Some(step),
-        None => form(slots, a, b, with_third(y, x, p), with_third(x, y, q)),
+        None => form(slots, a, b, third(slots, y, x, p), third(slots, x, y, q)),
     }
 }
 

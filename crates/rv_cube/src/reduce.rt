@@ -11,7 +11,7 @@ use rv_pla::{Cube, MOST_INPUTS};
 use std::alloc::{AllocError, Global};
 
 // Puts cubes into slots, in their order. Those with the same inputs become one.
-#[tactic(auto, using(crate::proofs::inside::Filling::fills_none, crate::proofs::inside::Filling::fills_all))]
+#[tactic(auto, using(crate::proofs::inside::SettledList::fills_none, crate::proofs::inside::SettledList::fills_all))]
 fn fill(slots: &mut Slots, cubes: &[Cube]) -> Result<(), AllocError>
     requires empty { slots.old.cubes ≡ [] }
     requires valid { All (IsTerm slots.old.inputs MOST_OUTPUTS) cubes.now }

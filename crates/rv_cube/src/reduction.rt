@@ -8,7 +8,7 @@ ghost use Rattle.rv_cube.specs.Reduction.{no_cube, at, carrying, merge, reduced,
 ghost use Rattle.rv_cube.specs.ReductionFor.{output_dropped};
 ghost use Rattle.rv_cube.specs.inside.Slots.{carries, full, or_empty, IsKeyed, settled, merged_in_any, MergesNone};
 ghost use Rattle.rv_cube.specs.inside.Slots.{ExorlinksNone, IsFirstMerge, IsFirstExorlink};
-ghost use Rattle.rv_cube.specs.inside.Reducing.{settled_any, IsNext, IsExorlinked, Steps};
+ghost use Rattle.rv_cube.specs.inside.Reducing.{settled_any, emptied, ComesIn, IsNext, IsExorlinked, Steps};
 
 use super::due::Due;
 use super::exorlink::first_exorlink_in;
@@ -83,6 +83,24 @@ impl Reduction {
             near: Vec::new(alloc),
             slots,
         })
+    }
+
+    // How many inputs a cube has.
+    fn inputs(&self) -> u8
+        ensures value { result ≡ self.now.inputs }
+        ensures few { result ≤ MOST_INPUTS }
+    {
+        self.slots.inputs()
+    }
+
+    // The cube of a slot.
+    fn cube(&self, i: usize) -> Cube
+        requires { i < length self.now.cubes }
+        ensures value { result ≡ at self.now.cubes i }
+        ensures valid { All (IsCube self.now.inputs MOST_OUTPUTS) self.now.cubes }
+        ensures keyed { IsKeyed self.now.cubes }
+    {
+        self.slots.cube(i)
     }
 
     // Empties a slot.
@@ -186,21 +204,49 @@ impl Reduction {
     }
 
     // The cubes in a and b become one. A step that fails for want of memory loses the list.
-    #[tactic(auto, using(crate::proofs::inside::MadeSteps::joined))]
+    #[tactic(auto, using(crate::proofs::inside::OneStep::joined))]
     fn merge(&mut self, a: usize, b: usize) -> Result<(), AllocError>
         requires { IsFirstMerge self.old.inputs self.old.cubes a b }
         ensures inputs { self.new.inputs ≡ self.old.inputs }
         ensures steps { OnOk result (Steps self.old.inputs self.old.cubes self.old.cubes self.new.cubes) }
     {
-        let (x, y) = (self.slots.cube(a), self.slots.cube(b));
-        let one = merge(x, y, self.slots.inputs());
+        let (x, y) = (self.cube(a), self.cube(b));
+        let one = merge(x, y, self.inputs());
         self.clear(b);
         self.clear(a);
         self.put_any(a, one)
     }
 
+    // Empties three slots.
+    fn clear_three(&mut self, p: usize, o: usize, c: usize)
+        requires p { p < length self.old.cubes }
+        requires o { o < length self.old.cubes }
+        requires c { c < length self.old.cubes }
+        ensures { self.new ≡ record self.old { cubes = emptied self.old.cubes p o c } }
+    {
+        self.clear(p);
+        self.clear(o);
+        self.clear(c);
+    }
+
+    // Puts two cubes into empty slots, the first where there is one.
+    fn come_in(
+        &mut self,
+        low: usize,
+        one: Option<Cube>,
+        other: usize,
+        rest: Cube,
+    ) -> Result<(), AllocError>
+        requires { ComesIn self.old low one other rest }
+        ensures inputs { self.new.inputs ≡ self.old.inputs }
+        ensures ok { OnOk result (self.new.cubes
+            ≡ settled self.old.inputs (settled_any self.old.inputs self.old.cubes low one) other rest) }
+    {
+        self.put_any(low, one)?;
+        self.put(other, rest)
+    }
+
     // The cubes in `place` and `other` become `own` and `rest`, and then `own` one with its partner.
-    #[tactic(auto, using(crate::proofs::inside::MadeSteps::comes_in, crate::proofs::inside::MadeSteps::exorlinks))]
     fn exorlink(
         &mut self,
         place: usize,
@@ -215,13 +261,10 @@ impl Reduction {
             (merged_in_any self.old.inputs
             (slice_set (slice_set self.old.cubes place own) other rest) place partner) self.new.cubes) }
     {
-        let third = self.slots.cube(partner);
-        let (low, one) = merge_at(place, own, partner, third, self.slots.inputs());
-        self.clear(place);
-        self.clear(other);
-        self.clear(partner);
-        self.put_any(low, one)?;
-        self.put(other, rest)
+        let third = self.cube(partner);
+        let (low, one) = merge_at(place, own, partner, third, self.inputs());
+        self.clear_three(place, other, partner);
+        self.come_in(low, one, other, rest)
     }
 
     // Makes the step that is the first of the list.

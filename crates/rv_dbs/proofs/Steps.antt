@@ -87,9 +87,6 @@ are_walked n k images p h = record {
 
 -- ---- no others
 
-least_lesser : (k : ℕ) (images : List ℕ) (x : ℕ) → IsLeast k images x → x ≤ other k x
-least_lesser k images x h = (h 0).1
-
 opposite : (s t b : Bool) → xor s b ≡ xor t (not b) → s ≡ not t
 opposite s t b h = grind arith
 
@@ -147,7 +144,7 @@ brought_least n k x images l r p h lt w less =
           omega (arith, a, same, less, j.1)),
     ) in
     sym (brought_after n k j.0 x images l r p h lt w)
-    ∙ ap (λ b. xor b (l (iterate (next k images) j.0 x))) (lesser_off k (iterate (next k images) j.0 x) (least_lesser k images _ is_least))
+    ∙ ap (λ b. xor b (l (iterate (next k images) j.0 x))) (lesser_off k (iterate (next k images) j.0 x) (is_least 0).1)
     ∙ ap (xor false) (w.first (iterate (next k images) j.0 x) c_in (least_first n k (iterate (next k images) j.0 x) images p h c_in is_least))
 
 brought_other : (n k x : ℕ) (images : List ℕ) (l r : ℕ → Bool) → x < 2 ^ n → AreWalked n k images l r → brought k l (other k x) ≡ not (brought k l x)

@@ -1,8 +1,8 @@
 -- Cubes with the same inputs may become one in any order.
-use Rattle.std.proofs.Common.{◌≡◌, ◌≢◌, ℕ, zero, suc, ◌<◌, ◌≤◌, Bool, true, false, ◌&&◌, List, length, set, sym, ◌∙◌, ap, subst, inl, inr, arith, lt-ltb}
+use Rattle.std.proofs.Common.{◌≡◌, ◌≢◌, ℕ, zero, suc, ◌<◌, ◌≤◌, Bool, true, false, ◌&&◌, List, length, set, sym, ◌∙◌, ap, subst, inl, inr, arith, lt-ltb, refl, cond}
 use Rattle.std.specs.Option.{option_or}
-use Rattle.std.specs.Prelude.{◌⊎◌, Some, All, nat_lt}
-use Rattle.std.proofs.lemmas.Bool.{cases_lt, cases_eq, cases_Bool, false≢true, and_parts, and_from, ltb-true, false_from_ne_true}
+use Rattle.std.specs.Prelude.{Option, None, Some, All, nat_lt}
+use Rattle.std.proofs.lemmas.Bool.{cases_lt, cases_eq, false≢true, and_parts, and_from, ltb-true, false_from_ne_true}
 use Rattle.std.proofs.lemmas.List.{set_comm}
 use Rattle.rv_pla.specs.Cube.{IsCube}
 use Rattle.rv_pla.specs.declared.cube.Cube.{Cube}
@@ -12,63 +12,15 @@ use Rattle.rv_cube.specs.Reduction.{no_cube, at, reduced, are_adjacent, first_ex
 use Rattle.rv_cube.specs.inside.Slots.{carries, full, list_place, is_alike, merge_in, merged_in}
 use Rattle.rv_cube.specs.declared.step.Step.{Step}
 use Rattle.rv_cube.specs.declared.step.Step.TheVariants.{Merge}
+use Rattle.rv_gate.specs.FirstAnswer.{first}
+use Rattle.rv_gate.proofs.FirstAnswer.{none_at}
+use Rattle.rv_cube.proofs.Searches.{first_is, passes_some, passes_none}
 use Rattle.rv_cube.proofs.Reduced.{found_shorter, reduced_once}
 use Rattle.rv_cube.proofs.inside.Full.{full_within, at_valid}
 use Rattle.rv_cube.proofs.inside.Keys.{is_alike-self, is_alike-comm, is_alike-trans, is_alike-same_inputs}
 use Rattle.rv_cube.proofs.inside.SlotSteps.{merge_first, merged_in_list}
 use Rattle.rv_cube.proofs.inside.MergesIn.{merged_in_valid, merged_in_other, Stood, merged_in_stood}
-
--- ---- the first pair of numbers that passes a test
-
-record Least (p : ℕ → Bool) (m : ℕ) : Type 0 where
-  least : ℕ
-  below : least < m
-  passes : p least ≡ true
-  before : (j : ℕ) → j < least → p j ≡ false
-
-abbrev NonePasses : (ℕ → Bool) → ℕ → Type 0
-NonePasses p m = (k : ℕ) → k < m → p k ≡ false
-
-none_more : (p : ℕ → Bool) (m : ℕ) → NonePasses p m → p m ≡ false → NonePasses p (suc m)
-none_more p m h e k l = elim (cases_eq k m) [ inl s ↦ ap p s ∙ e | inr ne ↦ h k (omega arith) ]
-
-least_more : (p : ℕ → Bool) (m : ℕ) → NonePasses p m → Least p (suc m) ⊎ NonePasses p (suc m)
-least_more p m h =
-    elim (cases_Bool (p m)) [
-      | inl y ↦ inl (record { least = m; below = omega arith; passes = y; before = h })
-      | inr off ↦ inr (none_more p m h off)
-    ]
-
-find_least : (p : ℕ → Bool) (m : ℕ) → Least p m ⊎ NonePasses p m
-find_least p zero = inr (λ k l. absurd (omega arith))
-find_least p (suc m) =
-    elim (find_least p m) [
-      | inl h ↦ inl (let l = h.below in record { least = h.least; below = omega arith; passes = h.passes; before = h.before })
-      | inr h ↦ least_more p m h
-    ]
-
-record LeastPair (p : ℕ → ℕ → Bool) (m e : ℕ) : Type 0 where
-  row : ℕ
-  row_below : row < m
-  rows : (i : ℕ) → i < row → NonePasses (p i) e
-  column : Least (p row) e
-
-abbrev NoPair : (ℕ → ℕ → Bool) → ℕ → ℕ → Type 0
-NoPair p m e = (i : ℕ) → i < m → NonePasses (p i) e
-
-no_pair_more : (p : ℕ → ℕ → Bool) (m e : ℕ) → NoPair p m e → NonePasses (p m) e → NoPair p (suc m) e
-no_pair_more p m e h n i l = elim (cases_eq i m) [ inl s ↦ (λ k lk. ap (λ r. p r k) s ∙ n k lk) | inr ne ↦ h i (omega arith) ]
-
-find_pair : (p : ℕ → ℕ → Bool) (m e : ℕ) → LeastPair p m e ⊎ NoPair p m e
-find_pair p zero e = inr (λ i l. absurd (omega arith))
-find_pair p (suc m) e =
-    elim (find_pair p m e) [
-      | inl h ↦ inl (let l = h.row_below in record { row = h.row; row_below = omega arith; rows = h.rows; column = h.column })
-      | inr h ↦ elim (find_least (p m) e) [
-        | inl c ↦ inl (record { row = m; row_below = omega arith; rows = h; column = c })
-        | inr n ↦ inr (no_pair_more p m e h n)
-      ]
-    ]
+use Rattle.std.proofs.lemmas.Grind.{common_steps}
 
 -- ---- the first slots with the same inputs
 
@@ -89,34 +41,38 @@ pair_from slots a b ab fa fb s = and_from _ _ (lt-ltb a b ab) (and_from _ _ fa (
 not_pair : (slots : List Cube) (a b : ℕ) → is_pair slots a b ≡ false → a < b → full slots a ≡ true → full slots b ≡ true → is_alike (at slots a) (at slots b) ≡ false
 not_pair slots a b n ab fa fb = false_from_ne_true _ (λ s. false≢true (sym n ∙ pair_from slots a b ab fa fb s))
 
-record FirstPair (slots : List Cube) : Type 0 where
-  a : ℕ
-  b : ℕ
-  is : IsFirstPair slots a b
+-- an answer where slot i makes a pair with a later one
+abbrev paired : List Cube → ℕ → Option ℕ
+paired slots i = first (λ j. cond (is_pair slots i j) (Some i) None) 0 (length slots)
 
-least_is_first : (slots : List Cube) (h : LeastPair (is_pair slots) (length slots) (length slots)) → IsFirstPair slots h.row h.column.least
-least_is_first slots h =
-    let c = h.column in
-    let p = and_parts _ _ c.passes in
-    let q = and_parts _ _ p.1 in
-    let r = and_parts _ _ q.1 in
-    let u = h.row_below in
-    let v = c.below in
-    record {
-      order = ltb-true _ _ p.0;
-      full_a = q.0;
-      full_b = r.0;
-      same = r.1;
-      before = λ i j ia ij fi fj. not_pair slots i j (h.rows i ia j (full_within slots j fj)) ij fi fj;
-      between = λ j aj jb fj. not_pair slots h.row j (c.before j jb) aj q.0 fj;
-    }
+first_pair : (slots : List Cube) (i j : ℕ) → i < j → full slots i ≡ true → full slots j ≡ true → is_alike (at slots i) (at slots j) ≡ true
+    → (a : ℕ) × (b : ℕ) × IsFirstPair slots a b
+first_pair slots i j ij fi fj s = choose (first (paired slots) 0 (length slots)) refl
+  where
+    none_after : (k : ℕ) → paired slots k ≡ None → (l : ℕ) → full slots l ≡ true → is_pair slots k l ≡ false
+    none_after k e l f = let w = full_within slots l f in passes_none _ k (none_at _ 0 (length slots) l e (omega arith) (omega arith))
 
-first_pair : (slots : List Cube) (i j : ℕ) → i < j → full slots i ≡ true → full slots j ≡ true → is_alike (at slots i) (at slots j) ≡ true → FirstPair slots
-first_pair slots i j ij fi fj s =
-    elim (find_pair (is_pair slots) (length slots) (length slots)) [
-      | inl h ↦ record { a = h.row; b = h.column.least; is = least_is_first slots h }
-      | inr n ↦ absurd (false≢true (sym (n i (full_within slots i fi) j (full_within slots j fj)) ∙ pair_from slots i j ij fi fj s))
-    ]
+    choose : (o : Option ℕ) → first (paired slots) 0 (length slots) ≡ o → (a : ℕ) × (b : ℕ) × IsFirstPair slots a b
+    choose None e =
+        let w = full_within slots i fi in
+        absurd (false≢true (sym (none_after i (none_at (paired slots) 0 (length slots) i e (omega arith) (omega arith)) j fj) ∙ pair_from slots i j ij fi fj s))
+    choose (Some x) e =
+        let r = first_is (paired slots) 0 (length slots) x e in
+        let c = first_is _ 0 (length slots) x r.3 in
+        let p = and_parts _ _ (passes_some _ r.0 x c.3) in
+        let q = and_parts _ _ p.1 in
+        let t = and_parts _ _ q.1 in (
+          r.0,
+          c.0,
+          record {
+            order = ltb-true _ _ p.0;
+            full_a = q.0;
+            full_b = t.0;
+            same = t.1;
+            before = λ k l ka kl fk fl. not_pair slots k l (none_after k (r.4 k (omega arith) ka) l fl) kl fk fl;
+            between = λ l al lb fl. not_pair slots r.0 l (passes_none _ r.0 (c.4 l (omega arith) lb)) al q.0 fl;
+          },
+        )
 
 -- ---- they become one first
 
@@ -183,8 +139,7 @@ all_other slots a b i j h =
     record {
       a_i = omega arith;
       a_j = omega arith;
-      b_i = λ e. not_alike_a slots a b i j h
-          (is_alike-trans (at slots a) (at slots b) (at slots j) h.first.same (ap (λ k. is_alike (at slots k) (at slots j)) e ∙ h.nearest.same));
+      b_i = grind (arith, common_steps, not_alike_a, is_alike-trans);
       b_j = λ e. not_alike_a slots a b i j h (ap (λ k. is_alike (at slots a) (at slots k)) (sym e) ∙ h.first.same);
     }
 
@@ -275,15 +230,15 @@ nearest_reduced : (n m : ℕ) (slots : List Cube) (i j : ℕ) → length (terms_
 nearest_reduced n zero slots i j few all h = absurd (omega arith)
 nearest_reduced n (suc m) slots i j few all h =
     let f = first_pair slots i j h.order h.full_i h.full_j h.same in
-    elim (cases_lt f.a i) [
+    elim (cases_lt f.0 i) [
       | inl lt ↦
-          let both : Both slots f.a f.b i j = record { first = f.is; nearest = h; earlier = lt } in
-          let less = first_pair_shorter n slots f.a f.b all f.is in
-          sym (first_pair_reduced n (merged_in n slots i j) f.a f.b (merged_in_valid n MOST_OUTPUTS slots i j all) (first_stays n slots f.a f.b i j both))
-          ∙ ap (λ l. reduced n (terms_of l)) (sym (merged_in_twice n slots f.a f.b i j (all_other slots f.a f.b i j both)))
-          ∙ nearest_reduced n m (merged_in n slots f.a f.b) i j (omega arith) (merged_in_valid n MOST_OUTPUTS slots f.a f.b all) (nearest_stays n slots f.a f.b i j both)
-          ∙ first_pair_reduced n slots f.a f.b all f.is
-      | inr ge ↦ first_pair_reduced n slots i j all (nearest_first slots f.a f.b i j f.is h ge)
+          let both : Both slots f.0 f.1 i j = record { first = f.2; nearest = h; earlier = lt } in
+          let less = first_pair_shorter n slots f.0 f.1 all f.2 in
+          sym (first_pair_reduced n (merged_in n slots i j) f.0 f.1 (merged_in_valid n MOST_OUTPUTS slots i j all) (first_stays n slots f.0 f.1 i j both))
+          ∙ ap (λ l. reduced n (terms_of l)) (sym (merged_in_twice n slots f.0 f.1 i j (all_other slots f.0 f.1 i j both)))
+          ∙ nearest_reduced n m (merged_in n slots f.0 f.1) i j (omega arith) (merged_in_valid n MOST_OUTPUTS slots f.0 f.1 all) (nearest_stays n slots f.0 f.1 i j both)
+          ∙ first_pair_reduced n slots f.0 f.1 all f.2
+      | inr ge ↦ first_pair_reduced n slots i j all (nearest_first slots f.0 f.1 i j f.2 h ge)
     ]
 
 pub merges_anyway : (n : ℕ) (slots : List Cube) (i j : ℕ) → All (IsCube n MOST_OUTPUTS) slots → i < j → full slots i ≡ true → full slots j ≡ true

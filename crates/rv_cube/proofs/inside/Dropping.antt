@@ -5,7 +5,7 @@ use Rattle.std.specs.List.{remove}
 use Rattle.std.specs.Int.{bit_at}
 use Rattle.std.proofs.lemmas.Bool.{cases_Bool, cases_eq, eqb-true, and_parts, false≢true}
 use Rattle.std.proofs.lemmas.Nat.{or_disjoint, pow_pos}
-use Rattle.std.proofs.lemmas.Nat.Bits.{bit_at-lt, bit_at_and, bit_at_or, bit_at_xor, bit_at-pow_same, bit_at-pow_other, bit_at-zero, same_from_bits}
+use Rattle.std.proofs.lemmas.Nat.Bits.{bit_at-lt, bit_at_xor, bit_at-pow_other, bit_at-zero}
 use Rattle.std.proofs.lemmas.List.Edits.{length-remove}
 use Rattle.std.proofs.lemmas.List.Elements.{All-set, All-get_or}
 use Rattle.std.proofs.lemmas.List.Sums.{sum_by-set, sum_by-remove}
@@ -16,6 +16,7 @@ use Rattle.rv_pla.specs.declared.cube.Cube.{Cube}
 use Rattle.rv_pla.specs.declared.entry.Entry.{Entry}
 use Rattle.rv_pla.specs.Pla.{TwoLevel, entry}
 use Rattle.rv_pla.specs.FreeEntries.{allows, is_dont_care}
+use Rattle.rv_gate.proofs.LineSets.{has-and, has-line, has-none, has-or, has-xor, same_lines}
 use Rattle.rv_gate.proofs.AllBelow.{all_below-at}
 use Rattle.rv_cube.specs.Esop.{share, esop_value, IsTerm}
 use Rattle.rv_gate.specs.FirstAnswer.{first}
@@ -23,7 +24,7 @@ use Rattle.rv_cube.specs.Reduction.{no_cube, at}
 use Rattle.rv_cube.specs.ReductionFor.{IsRight, free_where, is_idle, output_dropped, dropped, dropping, first_drop, carried_count, weight}
 use Rattle.rv_cube.proofs.inside.Merges.{All-remove, cond-zero}
 use Rattle.rv_cube.proofs.Outputs.{count-output_dropped}
-use Rattle.rv_cube.proofs.Steps.{finds_first, finds_if}
+use Rattle.rv_cube.proofs.Searches.{finds_first, finds_if}
 use Rattle.rv_cube.proofs.Symbols.{matches-same}
 use Rattle.rv_cube.proofs.Sums.{value-set, value-remove}
 
@@ -121,28 +122,15 @@ drop_right pla cubes new d right word len k lt =
 
 -- ---- the terms
 
+xor_one_none : (a j line : ℕ) → has a j ≡ true → has (bit_and (bit_xor a (2 ^ j)) (2 ^ j)) line ≡ has 0 line
+xor_one_none a j line h = grind (arith, has-and, has-xor, has-line, has-none, eqb-true)
+
+xor_one_all : (a j line : ℕ) → has a j ≡ true → has (bit_or (bit_xor a (2 ^ j)) (2 ^ j)) line ≡ has a line
+xor_one_all a j line h = grind (arith, has-or, has-xor, has-line, eqb-true)
+
 xor_one : (a j : ℕ) → has a j ≡ true → bit_xor a (2 ^ j) + 2 ^ j ≡ a
 xor_one a j h =
-    let b : ℕ = bit_xor a (2 ^ j) in
-    let on : bit_at a j ≡ 1 = eqb-true _ _ h in
-    let none : bit_and b (2 ^ j) ≡ 0 = same_from_bits _ _ (λ i.
-    let s = bit_at_and b (2 ^ j) i in
-    let t = bit_at_xor a (2 ^ j) i in
-    let z = bit_at-zero i in
-    let l = bit_at-lt a i in
-    elim (cases_eq i j) [
-      | inl same ↦ (let p = bit_at-pow_same j in let q : bit_at (2 ^ j) i ≡ bit_at (2 ^ j) j = ap (bit_at (2 ^ j)) same in let r : bit_at a i ≡ bit_at a j = ap (bit_at a) same in omega arith)
-      | inr other ↦ (let p = bit_at-pow_other j i other in omega arith)
-    ]) in
-    let all : bit_or b (2 ^ j) ≡ a = same_from_bits _ _ (λ i.
-    let s = bit_at_or b (2 ^ j) i in
-    let t = bit_at_xor a (2 ^ j) i in
-    let l = bit_at-lt a i in
-    elim (cases_eq i j) [
-      | inl same ↦ (let p = bit_at-pow_same j in let q : bit_at (2 ^ j) i ≡ bit_at (2 ^ j) j = ap (bit_at (2 ^ j)) same in let r : bit_at a i ≡ bit_at a j = ap (bit_at a) same in omega arith)
-      | inr other ↦ (let p = bit_at-pow_other j i other in omega arith)
-    ]) in
-    sym (or_disjoint b (2 ^ j) none) ∙ all
+    sym (or_disjoint (bit_xor a (2 ^ j)) (2 ^ j) (same_lines _ _ (λ line. xor_one_none a j line h))) ∙ same_lines _ _ (λ line. xor_one_all a j line h)
 
 -- the set gets smaller
 pub output_dropped-lt : (cube : Cube) (j : ℕ) → has cube.outs j ≡ true → bit_xor cube.outs (2 ^ j) < cube.outs

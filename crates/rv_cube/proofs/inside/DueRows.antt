@@ -7,6 +7,7 @@ use Rattle.rv_cube.specs.inside.Slots.{is_due}
 use Rattle.rv_cube.specs.inside.Due.{due_count}
 use Rattle.rv_cube.specs.inside.Watching.{Marks, lower}
 use Rattle.std.specs.Prelude.{◌⊎◌, nat_lt}
+use Rattle.std.proofs.lemmas.Grind.{common_steps}
 
 due_within : (rows : List Bool) (row : ℕ) → is_due rows row ≡ true → row < length rows
 due_within rows row h =
@@ -26,11 +27,7 @@ pub marks_nothing : (P : ℕ → Type 0) (rows : List Bool) → ((row : ℕ) →
 marks_nothing P rows h = record { as_many = refl; stays = λ a e. e; gets = λ row p. absurd (h row p) }
 
 pub marks_then : (P Q R : ℕ → Type 0) (old mid new : List Bool) → ((row : ℕ) → R row → P row ⊎ Q row) → Marks P old mid → Marks Q mid new → Marks R old new
-marks_then P Q R old mid new f h k = record {
-  as_many = k.as_many ∙ h.as_many;
-  stays = λ a e. k.stays a (h.stays a e);
-  gets = λ row r. elim (f row r) [ inl p ↦ k.stays row (h.gets row p) | inr q ↦ k.gets row q ];
-}
+marks_then P Q R old mid new f h k = grind (arith, common_steps)
 
 pub marks_as : (P Q : ℕ → Type 0) (old new : List Bool) → ((row : ℕ) → Q row → P row) → Marks P old new → Marks Q old new
 marks_as P Q old new f h = record { as_many = h.as_many; stays = h.stays; gets = λ row q. h.gets row (f row q) }

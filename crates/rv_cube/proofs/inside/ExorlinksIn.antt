@@ -1,23 +1,24 @@
 -- What an exorlink of two slots is.
-use Rattle.std.proofs.Common.{◌≡◌, ◌≢◌, ℕ, ◌<◌, Bool, true, false, not, cond, eqb, List, length, refl, sym, ◌∙◌, ap, inl, inr, arith, ◌∷◌, []}
+use Rattle.std.proofs.Common.{◌≡◌, ◌≢◌, ℕ, ◌<◌, Bool, true, false, cond, eqb, List, length, refl, sym, ◌∙◌, inl, inr, arith, ◌∷◌, []}
 use Rattle.std.specs.Prelude.{None, Some, ◌⊎◌, bit_xor}
-use Rattle.std.proofs.lemmas.Bool.{cases_eq, eqb-true, false≢true, not-true}
+use Rattle.std.proofs.lemmas.Bool.{cases_eq, eqb-true, not-true}
 use Rattle.rv_pla.specs.Cube.{Symbol, symbol}
 use Rattle.rv_pla.specs.declared.cube.Cube.{Cube}
 use Rattle.rv_pla.specs.declared.cube.TheConstants.{MOST_OUTPUTS}
-use Rattle.rv_cube.specs.Distance.{is_same, differs, differing, third, with_third}
+use Rattle.rv_cube.specs.Distance.{is_same, differing, third, with_third}
 use Rattle.rv_cube.specs.Reduction.{at, merge_by, partner_at}
 use Rattle.rv_cube.specs.inside.Slots.{carries, full, is_alike, or_empty, merge_in, IsPartner, partner_in_at, partner_in, form_in, exorlink_in_by, exorlink_in}
 use Rattle.rv_cube.specs.inside.Reducing.{DifferAt}
 use Rattle.rv_cube.specs.declared.step.Step.{Step}
 use Rattle.rv_cube.specs.declared.step.Step.TheVariants.{Merge, Exorlink}
 use Rattle.rv_cube.proofs.Symbols.{symbol_with-same, symbol_with-other}
-use Rattle.rv_cube.proofs.inside.Differing.{differs-comm, IsDiffering, differing_is, differs-same, is_same-comm}
+use Rattle.rv_cube.proofs.inside.Differing.{differs-comm, IsDiffering, differing_is, differ_not, is_same-comm}
 use Rattle.rv_cube.proofs.inside.Merges.{Mergeable}
 use Rattle.rv_cube.proofs.Exorlinks.{IsForm, form_1, form_2}
-use Rattle.rv_cube.proofs.Steps.{Finds, finds_else, finds_first, finds_none, finds_if, finds_cond}
+use Rattle.rv_cube.proofs.Searches.{Finds, finds_else, finds_first, finds_none, finds_if, finds_cond}
 use Rattle.rv_cube.proofs.inside.Keys.{alike_symbols}
 use Rattle.rv_cube.proofs.inside.PartnerSearches.{test_partner}
+use Rattle.std.proofs.lemmas.Grind.{common_steps}
 
 -- the slots a and b are exorlinked as f and s, and the one of these at `place`, which is `cube`, has a partner
 pub record IsExorlinkIn (n : ℕ) (slots : List Cube) (a b : ℕ) (f s : Cube) (place : ℕ) (cube : Cube) (c : ℕ) : Type 0 where
@@ -65,18 +66,12 @@ form_far n x y p q is =
       p_in = omega arith;
       q_in = qn;
       two = np;
-      at_p =
-          ap (λ s. not (is_same s (symbol (with_third y x q) p))) (symbol_with-same x p (third (symbol x p) (symbol y p)))
-          ∙ ap (λ s. not (is_same (third (symbol x p) (symbol y p)) s)) (symbol_with-other y q p (third (symbol y q) (symbol x q)) np)
-          ∙ ap not (third-left (symbol x p) (symbol y p) dp);
-      at_q =
-          ap (λ s. not (is_same s (symbol (with_third y x q) q))) (symbol_with-other x p q (third (symbol x p) (symbol y p)) qp)
-          ∙ ap (λ s. not (is_same (symbol x q) s)) (symbol_with-same y q (third (symbol y q) (symbol x q)))
-          ∙ ap not (third-right (symbol x q) (symbol y q) dq);
+      at_p = grind (arith, common_steps, symbol_with-same, symbol_with-other, third-left);
+      at_q = grind (arith, common_steps, symbol_with-other, symbol_with-same, third-right);
     }
 
 exorlinked_in_by : (n : ℕ) (slots : List Cube) (a b : ℕ) (x : List ℕ) → (at slots a).outs ≡ (at slots b).outs → IsDiffering (at slots a) (at slots b) n x
-    → Finds (ExorlinksIn n slots a b) (exorlink_in_by x n slots a b)
+    → Finds (ExorlinksIn n slots a b) (exorlink_in_by x n slots a b (at slots a) (at slots b))
 exorlinked_in_by n slots a b (p ∷ q ∷ []) o is =
     let x : Cube = at slots a in
     let y : Cube = at slots b in
@@ -92,9 +87,6 @@ exorlink_in_is n slots a b =
     (λ e. exorlinked_in_by n slots a b (differing n (at slots a) (at slots b)) (eqb-true _ _ e) (differing_is n (at slots a) (at slots b)))
 
 -- ---- what a cube and its partner become has other inputs than a cube that differs from it in two
-
-differ_not : (x y : Cube) (i : ℕ) → differs x y i ≡ true → symbol x i ≡ symbol y i → ⊥
-differ_not x y i d e = false≢true (sym (differs-same x y i e) ∙ d)
 
 -- at one of p and q it has the cube's symbol
 far_from : (n : ℕ) (x other z : Cube) (p q r : ℕ) → DifferAt n x other p q → ((i : ℕ) → i < n → i ≢ r → symbol z i ≡ symbol x i) → is_alike z other ≡ true → ⊥

@@ -12,6 +12,7 @@ use Rattle.rv_pla.specs.Cube.{IsCube}
 use Rattle.rv_pla.specs.declared.cube.TheConstants.{MOST_OUTPUTS}
 use Rattle.rv_cube.specs.Reduction.{no_cube, at}
 use Rattle.rv_cube.specs.inside.Slots.{carries, full}
+use Rattle.std.proofs.lemmas.Grind.{common_steps}
 
 pub carries_some : (cube : Cube) → 0 < cube.outs → carries cube ≡ true
 carries_some cube l = ap not (ne_eqb cube.outs 0 (λ e. omega arith))
@@ -40,11 +41,7 @@ apart_from slots i j e f s = false≢true (sym e ∙ ap (full slots) (sym s) ∙
 -- ---- each slot has a cube
 
 pub no_cube_valid : (n outputs : ℕ) → IsCube n outputs no_cube
-no_cube_valid n outputs = record {
-  asked = pow_pos n;
-  wanted = λ line on. absurd (let o = has_one 0 line on in let z = bit_at-zero line in omega arith);
-  carried = pow_pos outputs;
-}
+no_cube_valid n outputs = grind (arith, common_steps, pow_pos, has_one, bit_at-zero)
 
 pub at_valid : (n outputs : ℕ) (slots : List Cube) (i : ℕ) → All (IsCube n outputs) slots → IsCube n outputs (at slots i)
 at_valid n outputs slots i all =

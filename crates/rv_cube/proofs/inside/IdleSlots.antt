@@ -1,5 +1,5 @@
 -- An output that a slot's cube loses is dropped from the list.
-use Rattle.std.proofs.Common.{◌≡◌, ◌≢◌, ℕ, ◌-◌, ◌^◌, ◌<◌, Bool, true, false, cond, List, length, set, refl, sym, ◌∙◌, ap, subst, inl, inr, arith, get_or-set_other, replicate, ne_eqb}
+use Rattle.std.proofs.Common.{◌≡◌, ◌≢◌, ℕ, ◌^◌, ◌<◌, Bool, true, false, cond, List, length, set, refl, sym, ◌∙◌, ap, subst, inl, inr, arith, get_or-set_other, replicate, ne_eqb}
 use Rattle.std.specs.Prelude.{Option, None, Some, All, bit_xor}
 use Rattle.std.specs.List.{remove}
 use Rattle.std.proofs.lemmas.Bool.{cases_eq}
@@ -18,10 +18,11 @@ use Rattle.rv_cube.proofs.ReducedFor.{goes, once_for, end_for, drop_step, is_thr
 use Rattle.rv_cube.specs.inside.Slots.{full, is_alike, list_place, or_empty, IsKeyed, slot_of, settled, settled_by}
 use Rattle.rv_cube.specs.inside.Idle.{HasNoIdle, IsLeastIdle, IsFirstIdle}
 use Rattle.rv_cube.proofs.inside.Dropping.{idle_carried, output_dropped-lt}
-use Rattle.rv_cube.proofs.inside.Full.{carries_some, full_set-other, full_cleared, apart_from}
+use Rattle.rv_cube.proofs.inside.Full.{full_within, carries_some, full_set-other, full_cleared, apart_from}
 use Rattle.rv_cube.proofs.inside.Keys.{slot_of-some}
-use Rattle.rv_cube.proofs.inside.Ranks.{at-rank, terms_of-set, terms_of-remove, by_rank, first-rank_all, by_rank-full, by_rank-none}
-use Rattle.rv_cube.proofs.Searches.{first_found, first_none}
+use Rattle.rv_cube.proofs.inside.Ranks.{at-rank, terms_of-set, terms_of-remove, rank_found, rank_none}
+use Rattle.rv_gate.proofs.FirstAnswer.{none_first}
+use Rattle.rv_cube.proofs.Searches.{first_found}
 
 -- a slot with an idle output is full
 pub idle_full : (pla : TwoLevel) (slots : List Cube) (a j : ℕ) → is_idle pla (at slots a) j ≡ true → full slots a ≡ true
@@ -36,38 +37,24 @@ at_slot pla slots a j t fa h = grind (arith, terms_of, list_place, is_idle, at-r
 row_found : (pla : TwoLevel) (slots : List Cube) (a j : ℕ) → full slots a ≡ true → IsLeastIdle pla (at slots a) j
     → first (dropping pla (terms_of slots) (list_place slots a)) 0 pla.outputs ≡ Some (dropped (terms_of slots) (list_place slots a) j)
 row_found pla slots a j fa l =
-    let f : ℕ → Option (List Cube) = dropping pla (terms_of slots) (list_place slots a) in
-    let z : pla.outputs ≡ pla.outputs - 0 = omega arith in
-    ap (first f 0) z
-    ∙ first_found f 0 pla.outputs j (dropped (terms_of slots) (list_place slots a) j) (omega arith) l.within (at_slot pla slots a j true fa l.idle)
+    first_found (dropping pla (terms_of slots) (list_place slots a)) 0 pla.outputs j (dropped (terms_of slots) (list_place slots a) j) (omega arith) (let w = l.within in omega arith) (at_slot pla slots a j true fa l.idle)
     (λ k lk uk. at_slot pla slots a k false fa (l.before k uk))
 
 row_none : (pla : TwoLevel) (slots : List Cube) (a : ℕ) → full slots a ≡ true → HasNoIdle pla (at slots a)
     → first (dropping pla (terms_of slots) (list_place slots a)) 0 pla.outputs ≡ None
 row_none pla slots a fa none =
-    let f : ℕ → Option (List Cube) = dropping pla (terms_of slots) (list_place slots a) in
-    let z : pla.outputs ≡ pla.outputs - 0 = omega arith in
-    ap (first f 0) z ∙ first_none f 0 pla.outputs (λ k lk uk. at_slot pla slots a k false fa (none k uk))
+    none_first (dropping pla (terms_of slots) (list_place slots a)) 0 pla.outputs (λ k lk uk. at_slot pla slots a k false fa (none k (omega arith)))
 
 pub idle_first : (pla : TwoLevel) (slots : List Cube) (a j : ℕ) → IsFirstIdle pla slots a j
     → first_drop pla (terms_of slots) ≡ Some (dropped (terms_of slots) (list_place slots a) j)
 idle_first pla slots a j h =
-    let f : ℕ → Option (List Cube) = λ p. first (dropping pla (terms_of slots) p) 0 pla.outputs in
-    let z : length slots ≡ length slots - 0 = omega arith in
     let fa = idle_full pla slots a j h.least.idle in
-    first-rank_all f slots
-    ∙ ap (first (by_rank f slots) 0) z
-    ∙ first_found (by_rank f slots) 0 (length slots) a (dropped (terms_of slots) (list_place slots a) j) (omega arith) h.within
-    (by_rank-full f slots a fa ∙ row_found pla slots a j fa h.least)
-    (λ i l u. by_rank-none f slots i (λ fi. row_none pla slots i fi (h.before i u)))
+    rank_found (λ p. first (dropping pla (terms_of slots) p) 0 pla.outputs) slots a (dropped (terms_of slots) (list_place slots a) j) fa
+    (row_found pla slots a j fa h.least) (λ i u fi. row_none pla slots i fi (h.before i u))
 
 pub idle_none : (pla : TwoLevel) (slots : List Cube) → ((a : ℕ) → a < length slots → HasNoIdle pla (at slots a)) → first_drop pla (terms_of slots) ≡ None
 idle_none pla slots none =
-    let f : ℕ → Option (List Cube) = λ p. first (dropping pla (terms_of slots) p) 0 pla.outputs in
-    let z : length slots ≡ length slots - 0 = omega arith in
-    first-rank_all f slots
-    ∙ ap (first (by_rank f slots) 0) z
-    ∙ first_none (by_rank f slots) 0 (length slots) (λ i l u. by_rank-none f slots i (λ fi. row_none pla slots i fi (none i u)))
+    rank_none (λ p. first (dropping pla (terms_of slots) p) 0 pla.outputs) slots (λ i fi. row_none pla slots i fi (none i (full_within slots i fi)))
 
 -- ---- the slots after it
 

@@ -13,7 +13,7 @@ use Rattle.rv_cube.specs.inside.Reducing.{IsReduction}
 use Rattle.rv_cube.proofs.inside.Full.{full_within, no_cube_valid, valid_set}
 use Rattle.rv_cube.proofs.inside.Watched.{watched_clear, watched_settled}
 use Rattle.rv_cube.proofs.inside.Watching.{pairs_due}
-use Rattle.rv_cube.proofs.inside.SettledSlots.{settled_length, keyed_clear, settled_keyed, settled_valid}
+use Rattle.rv_cube.proofs.inside.MergesIn.{settled_length, keyed_clear, settled_keyed, settled_valid}
 
 pub clear_keeps : (old new : Slotted) (i : ℕ) (merges exorlinks : List Bool) → IsReduction old.inputs old.cubes merges exorlinks
     → new ≡ record old { cubes = set old.cubes i no_cube } → IsReduction new.inputs new.cubes merges exorlinks
@@ -61,7 +61,7 @@ put_keeps old new i cube near merges exorlinks new_merges new_exorlinks h p m e 
       keyed = keyed;
       as_many_merges = x.merging.as_many ∙ h.as_many_merges ∙ sym l;
       as_many_exorlinks = x.exorlinking.as_many ∙ h.as_many_exorlinks ∙ sym l;
-      watched = watched_settled old.inputs old.cubes i cube merges exorlinks new_merges new_exorlinks h.valid p.own p.some p.within p.empty h.watched
+      watched = watched_settled old.inputs old.cubes i cube merges exorlinks new_merges new_exorlinks p.within p.empty h.watched
           x.merging.stays x.exorlinking.stays
           (pairs_due old.inputs cube old.cubes (settled old.inputs old.cubes i cube) near merges exorlinks new_merges new_exorlinks valid keyed
           (h.as_many_exorlinks ∙ sym l) m x.merging x.exorlinking);

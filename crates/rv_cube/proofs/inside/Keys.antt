@@ -1,18 +1,19 @@
 -- Cubes with the same inputs, and the slot that has some inputs.
-use Rattle.std.proofs.Common.{◌≡◌, ℕ, zero, suc, ◌<◌, ◌≤◌, Bool, true, false, not, cond, refl, sym, ◌∙◌, ap, inl, inr, arith, eq-eqb, ne_eqb, ◌+◌, ◌&&◌, List, length, subst, [], ◌∷◌, ◌++◌, eqb}
+use Rattle.std.proofs.Common.{◌≡◌, ℕ, zero, suc, ◌<◌, ◌≤◌, Bool, true, false, not, cond, refl, sym, ◌∙◌, ap, inl, inr, arith, eq-eqb, ne_eqb, ◌&&◌, List, length, [], ◌∷◌, ◌++◌, eqb}
 use Rattle.std.specs.Cmp.{both_ways}
-use Rattle.std.specs.Prelude.{Option, None, Some, ◌⊎◌, IfSome}
-use Rattle.std.proofs.lemmas.Bool.{cases_lt, eqb-true, false≢true, and_parts, and_from, cases_eq}
+use Rattle.std.specs.Prelude.{Option, None, Some, IfSome}
+use Rattle.std.proofs.lemmas.Bool.{cases_lt, eqb-true, false≢true, and_parts, and_from}
 use Rattle.std.proofs.lemmas.Nat.Bits.{same_from_bits, bit_at_above}
-use Rattle.std.proofs.lemmas.Option.{none-some}
 use Rattle.rv_gate.specs.Word.{has}
 use Rattle.rv_gate.proofs.LineSets.{bits_from_has}
 use Rattle.rv_pla.specs.Cube.{symbol_of, symbol, IsCube}
 use Rattle.rv_pla.specs.declared.cube.Cube.{Cube}
 use Rattle.rv_cube.specs.Distance.{is_same, differs, differing, cares, wants_one}
 use Rattle.rv_cube.specs.Reduction.{at, have_same_inputs}
-use Rattle.rv_cube.specs.inside.Slots.{is_alike, full, IsKeyed, slot_from, slot_of}
-use Rattle.rv_cube.proofs.inside.Differing.{IsDiffering, differing_is, differing-none, differing-suc, differs-same}
+use Rattle.rv_cube.specs.inside.Slots.{is_alike, full, IsKeyed, slot_of}
+use Rattle.rv_cube.proofs.inside.Differing.{IsDiffering, differing_is, differing_only, differing-none, differing-suc}
+use Rattle.rv_gate.proofs.FirstAnswer.{none_at}
+use Rattle.rv_cube.proofs.Searches.{finds_first, finds_if, passes_none}
 use Rattle.rv_cube.proofs.inside.Full.{full_within}
 
 -- ---- the sets of a cube
@@ -41,14 +42,8 @@ pub alike_symbols : (x y : Cube) (i : ℕ) → is_alike x y ≡ true → symbol 
 alike_symbols x y i h =
     ap (λ s. symbol_of (has s i) (has x.want i)) (alike_care x y h) ∙ ap (λ s. symbol_of (has y.care i) (has s i)) (alike_want x y h)
 
-pub none_differing : (n : ℕ) (x y : Cube) → ((i : ℕ) → i < n → symbol x i ≡ symbol y i) → differing n x y ≡ []
-none_differing zero x y h = differing-none x y
-none_differing (suc n) x y h =
-    let d = differs-same x y n (h n (omega arith)) in
-    differing-suc n x y ∙ ap (λ t. cond t (differing n x y ++ n ∷ []) (differing n x y)) d ∙ none_differing n x y (λ i l. h i (omega arith))
-
 pub alike_differing : (n : ℕ) (x y : Cube) → is_alike x y ≡ true → differing n x y ≡ []
-alike_differing n x y h = none_differing n x y (λ i l. alike_symbols x y i h)
+alike_differing n x y h = differing_only n x y [] (λ i l. alike_symbols x y i h) (omega arith)
 
 -- cubes with the same inputs differ from another in the same inputs
 pub alike_from_another : (n : ℕ) (x y z : Cube) → is_alike x y ≡ true → differing n x z ≡ differing n y z
@@ -105,43 +100,19 @@ is_alike-same_inputs n outputs x y vx vy = both_ways _ _ (alike_same_inputs n x 
 
 -- ---- the slot with some inputs
 
--- the choice of one slot
-choice_none : (t : Bool) (k : ℕ) (o : Option ℕ) → cond t (Some k) o ≡ None → (t ≡ false) × (o ≡ None)
-choice_none true k o e = absurd (none-some k (sym e))
-choice_none false k o e = (refl, e)
-
-none_from : (slots : List Cube) (cube : Cube) (k m : ℕ) → slot_from slots cube k m ≡ None → (i : ℕ) → k ≤ i → i < k + m
-    → full slots i ≡ true → is_alike (at slots i) cube ≡ true → ⊥
-unfolding slot_from
-none_from slots cube k zero e i l u f a = omega arith
-none_from slots cube k (suc m) e i l u f a =
-    let c = choice_none (full slots k && is_alike (at slots k) cube) k (slot_from slots cube (k + 1) m) e in
-    elim (cases_eq i k) [
-      | inl s ↦
-          let P : ℕ → Type 0 = λ x. (full slots x && is_alike (at slots x) cube) ≡ true in
-          false≢true (sym c.0 ∙ subst P s (and_from _ _ f a))
-      | inr ne ↦ none_from slots cube (k + 1) m c.1 i (omega arith) (omega arith) f a
-    ]
-
-choice_some : (t : Bool) (k j : ℕ) (o : Option ℕ) → cond t (Some k) o ≡ Some j → ((t ≡ true) × (k ≡ j)) ⊎ (o ≡ Some j)
-choice_some t k j o h = grind arith
-
-some_from : (slots : List Cube) (cube : Cube) (k m j : ℕ) → slot_from slots cube k m ≡ Some j → (full slots j ≡ true) × (is_alike (at slots j) cube ≡ true)
-unfolding slot_from
-some_from slots cube k zero j e = absurd (none-some j e)
-some_from slots cube k (suc m) j e =
-    elim (choice_some (full slots k && is_alike (at slots k) cube) k j (slot_from slots cube (k + 1) m) e) [
-      | inl h ↦
-          let P : ℕ → Type 0 = λ x. (full slots x ≡ true) × (is_alike (at slots x) cube ≡ true) in
-          subst P h.1 (and_parts _ _ h.0)
-      | inr r ↦ some_from slots cube (k + 1) m j r
-    ]
-
 pub slot_of-none : (slots : List Cube) (cube : Cube) → slot_of slots cube ≡ None → (i : ℕ) → full slots i ≡ true → is_alike (at slots i) cube ≡ true → ⊥
-slot_of-none slots cube e i f a = none_from slots cube 0 (length slots) e i (omega arith) (let l = full_within slots i f in omega arith) f a
+unfolding slot_of
+slot_of-none slots cube e i f a =
+    let l = full_within slots i f in
+    let t = passes_none _ i (none_at (λ k. cond (full slots k && is_alike (at slots k) cube) (Some k) None) 0 (length slots) i e (omega arith) (omega arith)) in
+    false≢true (sym t ∙ and_from _ _ f a)
 
 pub slot_of-some : (slots : List Cube) (cube : Cube) (j : ℕ) → slot_of slots cube ≡ Some j → (full slots j ≡ true) × (is_alike (at slots j) cube ≡ true)
-slot_of-some slots cube j e = some_from slots cube 0 (length slots) j e
+unfolding slot_of
+slot_of-some slots cube =
+    let Found : ℕ → Type 0 = λ k. (full slots k ≡ true) × (is_alike (at slots k) cube ≡ true) in
+    finds_first Found (λ k. cond (full slots k && is_alike (at slots k) cube) (Some k) None) 0 (length slots)
+    (λ k l u. finds_if Found (full slots k && is_alike (at slots k) cube) k (λ t. and_parts _ _ t))
 
 -- a full slot with the inputs of the cube is found
 pub slot_of-alike : (slots : List Cube) (cube : Cube) (c : ℕ) (o : Option ℕ) → slot_of slots cube ≡ o → IsKeyed slots → full slots c ≡ true → is_alike (at slots c) cube ≡ true → o ≡ Some c

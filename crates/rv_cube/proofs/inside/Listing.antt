@@ -14,10 +14,12 @@ use Rattle.rv_cube.specs.inside.Slots.{full, key_of}
 use Rattle.rv_cube.specs.inside.Slotted.{turn, Noted, Lists, Gains, IsAlike, IsBeside, IsTwoApart, IsTwoApartFrom, IsTwoApartBelow}
 use Rattle.rv_cube.specs.inside.Watching.{IsNearList}
 use Rattle.rv_cube.proofs.Symbols.{symbol_with-same, symbol_with-other}
-use Rattle.rv_cube.proofs.inside.Differing.{IsDiffering, differing_as, DifferInBoth, both_from}
+use Rattle.rv_cube.specs.Settled.{DifferInTwo}
+use Rattle.rv_cube.proofs.inside.Differing.{IsDiffering, differing_as, both_from, differs-true}
 use Rattle.rv_cube.proofs.inside.Merges.{with_cube}
 use Rattle.rv_cube.proofs.inside.Full.{at_valid}
 use Rattle.rv_cube.proofs.inside.Neighbours.{two_others, third_turn, beside_either, same_but, partner_key}
+use Rattle.std.proofs.lemmas.Grind.{common_steps}
 
 -- ---- what a list gains
 
@@ -47,9 +49,7 @@ gains_some find slots cube b found h e =
     let long = length-append found (b ∷ []) in
     let new : Lists (found ++ b ∷ []) b = (length found, omega arith, get_or_push found b 0 (length found) refl) in
     record {
-      stays = λ d l.
-          let k : l.0 < length found = l.1 in
-          (l.0, omega arith, get_or_append_left found (b ∷ []) 0 l.0 k ∙ l.2);
+      stays = grind (arith, common_steps, get_or_append_left);
       holds = λ a. All-append Full found (b ∷ []) a (All-cons Full b [] s.0 (All-nil Full));
       gets = λ d f k. subst (Lists (found ++ b ∷ [])) (same_Some b d (sym e ∙ ap find (sym k) ∙ h.complete d f)) new;
     }
@@ -109,15 +109,15 @@ below_more slots cube q old mid new h k =
     ]) h k
 
 pub two_at : (n : ℕ) (slots : List Cube) (cube : Cube) (b p q : ℕ) → All (IsCube n MOST_OUTPUTS) slots → IsCube n MOST_OUTPUTS cube
-    → DifferInBoth n cube (at slots b) p q → IsTwoApart slots cube p q b
+    → DifferInTwo n cube (at slots b) p q → IsTwoApart slots cube p q b
 two_at n slots cube b p q all own d =
     let y : Cube = at slots b in
     let m : Cube = with_symbol cube p (symbol y p) in
-    let there : symbol m q ≡ symbol cube q = symbol_with-other cube p q (symbol y p) d.two in (
-      d.at_p,
+    let there : symbol m q ≡ symbol cube q = symbol_with-other cube p q (symbol y p) (λ e. d.two (sym e)) in (
+      differs-true cube y p d.differ_first,
       (
-        ap (λ s. not (is_same s (symbol y q))) there ∙ d.at_q,
-        same_but n MOST_OUTPUTS m y q d.q_in (with_cube n MOST_OUTPUTS cube p (symbol y p) d.p_in own) (at_valid n MOST_OUTPUTS slots b all)
+        ap (λ s. not (is_same s (symbol y q))) there ∙ differs-true cube y q d.differ_second,
+        same_but n MOST_OUTPUTS m y q d.second (with_cube n MOST_OUTPUTS cube p (symbol y p) d.first own) (at_valid n MOST_OUTPUTS slots b all)
             (λ i l ne. elim (cases_eq i p) [
               | inl e ↦ rw e (symbol_with-same cube p (symbol y p))
               | inr np ↦ symbol_with-other cube p i (symbol y p) np ∙ d.others i l np ne

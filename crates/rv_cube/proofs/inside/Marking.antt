@@ -6,6 +6,7 @@ use Rattle.std.proofs.lemmas.Option.{none-some}
 use Rattle.rv_cube.specs.inside.Slots.{key_eq}
 use Rattle.rv_cube.specs.inside.Filter.{filter_place, count_at, one_more, one_less, IsFiltered}
 use Rattle.rv_cube.proofs.inside.Noting.{key_eq-true, key_eq-same}
+use Rattle.std.proofs.lemmas.Grind.{common_steps}
 
 -- ---- one count is changed
 
@@ -47,11 +48,8 @@ pub filtered_noted : (old new : List ℕ) (find then : ℕ × ℕ → Option ℕ
     → ((place : ℕ) → count_at new place ≡ cond (eqb place (filter_place own)) (one_more (count_at old place)) (count_at old place))
     → ((key : ℕ × ℕ) → then key ≡ cond (key_eq own key) (Some i) (find key)) → IsFiltered new then
 filtered_noted old new find then own i h c e = record {
-  none = λ key zero.
-      let z = sym (c (filter_place key)) ∙ zero in
-      e key ∙ noted_none find own key i (count_at old (filter_place key)) (key_eq own key) refl z (h.none key (none_before _ _ z));
-  one = λ key other a b same one x y.
-      noted_one old find then own key other i a b (eqb (filter_place key) (filter_place own)) h e refl same (sym (c (filter_place key)) ∙ one) x y;
+  none = grind (arith, common_steps, noted_none, none_before);
+  one = grind (arith, common_steps, noted_one);
 }
 
 -- ---- one key less
@@ -86,12 +84,4 @@ less_elsewhere n false h = h
 pub filtered_forgotten : (old new : List ℕ) (find then : ℕ × ℕ → Option ℕ) (own : ℕ × ℕ) (i : ℕ) → IsFiltered old find → find own ≡ Some i
     → ((place : ℕ) → count_at new place ≡ cond (eqb place (filter_place own)) (one_less (count_at old place)) (count_at old place))
     → ((key : ℕ × ℕ) → then key ≡ cond (key_eq own key) None (find key)) → IsFiltered new then
-filtered_forgotten old new find then own i h f c e = record {
-  none = λ key zero.
-      e key ∙ forgotten_none find own key (key_eq own key) refl (λ apart.
-      less_none old find own key i (count_at old (filter_place key)) (eqb (filter_place key) (filter_place own)) (eqb (count_at old (filter_place key)) 1) h f refl refl refl (sym (c (filter_place key)) ∙ zero)
-      (λ same. false≢true (sym apart ∙ key_eq-same own key (sym same))));
-  one = λ key other a b same one x y.
-      h.one key other a b same (less_elsewhere _ _ (sym (c (filter_place key)) ∙ one))
-      (still_found a (find key) (key_eq own key) (sym (e key) ∙ x)) (still_found b (find other) (key_eq own other) (sym (e other) ∙ y));
-}
+filtered_forgotten old new find then own i h f c e = grind (arith, common_steps, forgotten_none, less_none, false≢true, key_eq-same, less_elsewhere, still_found)

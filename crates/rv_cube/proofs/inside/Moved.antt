@@ -11,11 +11,12 @@ use Rattle.rv_cube.specs.inside.Slots.{full}
 use Rattle.rv_cube.specs.inside.Slotted.{turn, Gains, AsksWithin, IsAlike, IsBeside, IsTwoApart, IsTwoApartFrom, IsTwoApartBelow}
 use Rattle.rv_cube.specs.inside.Moved.{moved_as, IsMovedEither}
 use Rattle.rv_cube.proofs.inside.Listing.{gains_nothing, gains_then, gains_pair, from_more, below_more}
-use Rattle.rv_cube.proofs.inside.Neighbours.{beside_either}
+use Rattle.rv_cube.proofs.inside.Neighbours.{beside_either, third_turn}
 use Rattle.rv_cube.proofs.inside.Full.{full_within}
 use Rattle.std.proofs.lemmas.Bool.{false≢true}
 use Rattle.std.proofs.lemmas.List.Elements.{All-get_or}
-use Rattle.rv_cube.proofs.Symbols.{has_put-other, symbol_with-same, symbol_with-other}
+use Rattle.rv_cube.proofs.Symbols.{has_put-other, symbol_with-other}
+use Rattle.std.proofs.lemmas.Grind.{common_steps}
 
 -- ---- sets
 
@@ -36,11 +37,6 @@ moved_symbol cube p q s t ne = grind (arith, bit_xor, wants_one, put_moved)
 abbrev turned_third : Cube → ℕ → Symbol
 turned_third cube q = third (symbol cube q) (turn (symbol cube q))
 
-third_of : (cube one : Cube) (q : ℕ) → one ≡ with_symbol cube q (turn (symbol cube q)) → with_third cube one q ≡ with_symbol cube q (turned_third cube q)
-unfolding with_third
-third_of cube one q e =
-    ap (λ s. with_symbol cube q (third (symbol cube q) s)) (ap (λ c. symbol c q) e ∙ symbol_with-same cube q (turn (symbol cube q)))
-
 -- the slots beside a cube that differs from the first one in p
 beside_moved : (slots : List Cube) (cube x one other : Cube) (p q b : ℕ) (s : Symbol) → q ≢ p → x ≡ with_symbol cube p s
     → one ≡ with_symbol cube q (turn (symbol cube q)) → other ≡ with_third cube one q → IsBeside slots x q b → IsMovedEither slots x cube one other b
@@ -51,19 +47,15 @@ beside_moved slots cube x one other p q b s ne ex eo et h =
     ap (λ c. moved_as c cube one) ex ∙ ap (moved_as (with_symbol cube p s) cube) eo ∙ moved_symbol cube p q s (turn (symbol cube q)) ne
     ∙ ap (λ c. with_symbol c q (turn (symbol cube q))) (sym ex) ∙ ap (λ v. with_symbol x q (turn v)) (sym there) in
     let second : moved_as x cube other ≡ with_third x (moved_as x cube one) q =
-    ap (λ c. moved_as c cube other) ex ∙ ap (moved_as (with_symbol cube p s) cube) (et ∙ third_of cube one q eo) ∙ moved_symbol cube p q s (turned_third cube q) ne
+    ap (λ c. moved_as c cube other) ex ∙ ap (moved_as (with_symbol cube p s) cube) (et ∙ third_turn cube one q eo) ∙ moved_symbol cube p q s (turned_third cube q) ne
     ∙ ap (λ c. with_symbol c q (turned_third cube q)) (sym ex) ∙ ap (λ v. with_symbol x q (third v (turn v))) (sym there)
-    ∙ sym (third_of x (moved_as x cube one) q first) in
+    ∙ sym (third_turn x (moved_as x cube one) q first) in
     beside_either x (at slots b) (moved_as x cube one) (moved_as x cube other) q first second h.0 h.1
 
 beside_gains : (slots : List Cube) (cube x one other : Cube) (p q : ℕ) (s : Symbol) (old new : List ℕ) → q ≢ p → x ≡ with_symbol cube p s
     → one ≡ with_symbol cube q (turn (symbol cube q)) → other ≡ with_third cube one q
     → Gains slots (IsMovedEither slots x cube one other) old new → Gains slots (IsBeside slots x q) old new
-beside_gains slots cube x one other p q s old new ne ex eo et g = record {
-  stays = g.stays;
-  holds = g.holds;
-  gets = λ b f h. g.gets b f (beside_moved slots cube x one other p q b s ne ex eo et h);
-}
+beside_gains slots cube x one other p q s old new ne ex eo et g = grind (arith, common_steps, beside_moved)
 
 pub gains_moved : (slots : List Cube) (cube first second one other : Cube) (p q : ℕ) (old mid new : List ℕ) → q ≢ p
     → first ≡ with_symbol cube p (turn (symbol cube p)) → second ≡ with_third cube first p
@@ -73,7 +65,7 @@ pub gains_moved : (slots : List Cube) (cube first second one other : Cube) (p q 
 gains_moved slots cube first second one other p q old mid new ne ef es eo et g h =
     gains_pair slots cube first second p q old mid new ef es
     (beside_gains slots cube first one other p q (turn (symbol cube p)) old mid ne ef eo et g)
-    (beside_gains slots cube second one other p q (turned_third cube p) mid new ne (es ∙ third_of cube first p ef) eo et h)
+    (beside_gains slots cube second one other p q (turned_third cube p) mid new ne (es ∙ third_turn cube first p ef) eo et h)
 
 pub gains_either : (slots : List Cube) (cube from one other : Cube) (old mid new : List ℕ)
     → Gains slots (IsAlike slots (moved_as cube from one)) old mid → Gains slots (IsAlike slots (moved_as cube from other)) mid new

@@ -1,5 +1,5 @@
 -- The inputs of a cube with another symbol at one input.
-use Rattle.std.proofs.Common.{◌≡◌, ◌≢◌, ℕ, zero, suc, ◌<◌, true, false, cond, not, sym, ◌∙◌, ap, inl, inr, arith, ◌∷◌, [], ◌++◌}
+use Rattle.std.proofs.Common.{◌≡◌, ◌≢◌, ℕ, ◌<◌, true, false, not, sym, ◌∙◌, ap, inl, inr, arith, ◌∷◌, []}
 use Rattle.std.specs.Prelude.{◌⊎◌}
 use Rattle.std.proofs.lemmas.Bool.{cases_eq, not-true}
 use Rattle.rv_pla.specs.Cube.{Symbol, symbol, IsCube}
@@ -8,9 +8,9 @@ use Rattle.rv_cube.specs.Distance.{is_same, differs, differing, third, with_symb
 use Rattle.rv_cube.specs.inside.Slots.{key_of}
 use Rattle.rv_cube.specs.inside.Slotted.{turn}
 use Rattle.rv_cube.proofs.Symbols.{symbol_with-same, symbol_with-other}
-use Rattle.rv_cube.proofs.inside.Differing.{differs-same, differing_as, differing-suc}
+use Rattle.rv_cube.proofs.inside.Differing.{differing_as, differing_only}
 use Rattle.rv_cube.proofs.inside.Merges.{with_cube}
-use Rattle.rv_cube.proofs.inside.Keys.{alike_symbols, none_differing, symbols_alike}
+use Rattle.rv_cube.proofs.inside.Keys.{alike_symbols, symbols_alike}
 use Rattle.rv_cube.proofs.inside.Noting.{alike_key, key_alike}
 
 key_symbol : (x y : Cube) (i : ℕ) → key_of x ≡ key_of y → symbol x i ≡ symbol y i
@@ -35,24 +35,12 @@ third_turn cube one p e =
 
 -- ---- one input
 
-pub one_differing : (n p : ℕ) (x y : Cube) → p < n → differs x y p ≡ true → ((i : ℕ) → i < n → i ≢ p → symbol x i ≡ symbol y i) → differing n x y ≡ p ∷ []
-one_differing zero p x y l d h = absurd (omega arith)
-one_differing (suc n) p x y l d h =
-    elim (cases_eq n p) [
-      | inl e ↦
-          differing-suc n x y ∙ ap (λ t. cond t (differing n x y ++ n ∷ []) (differing n x y)) (ap (differs x y) e ∙ d)
-          ∙ ap (λ a. a ++ n ∷ []) (none_differing n x y (λ i u. let ne : i ≢ p = omega arith in h i (omega arith) ne)) ∙ ap (λ k. k ∷ []) e
-      | inr ne ↦
-          differing-suc n x y ∙ ap (λ t. cond t (differing n x y ++ n ∷ []) (differing n x y)) (differs-same x y n (h n (omega arith) ne))
-          ∙ one_differing n p x y (omega arith) d (λ i u. h i (omega arith))
-    ]
-
 -- a cube with the inputs of a neighbour
 pub neighbour_differing : (n p : ℕ) (x y : Cube) (s : Symbol) → p < n → is_same (symbol x p) s ≡ false → key_of y ≡ key_of (with_symbol x p s) → differing n x y ≡ p ∷ []
 neighbour_differing n p x y s l d e =
     let there : symbol y p ≡ s = key_symbol y (with_symbol x p s) p e ∙ symbol_with-same x p s in
-    one_differing n p x y l (ap (λ t. not (is_same (symbol x p) t)) there ∙ ap not d)
-    (λ i u ne. sym (key_symbol y (with_symbol x p s) i e ∙ symbol_with-other x p i s ne))
+    differing_only n x y (p ∷ [])
+    (l, ap (λ t. not (is_same (symbol x p) t)) there ∙ ap not d, λ i u ne. sym (key_symbol y (with_symbol x p s) i e ∙ symbol_with-other x p i s ne)) (omega arith)
 
 pub same_but : (n outputs : ℕ) (x y : Cube) (p : ℕ) → p < n → IsCube n outputs x → IsCube n outputs y → ((i : ℕ) → i < n → i ≢ p → symbol x i ≡ symbol y i)
     → key_of y ≡ key_of (with_symbol x p (symbol y p))

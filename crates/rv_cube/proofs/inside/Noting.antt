@@ -1,9 +1,9 @@
 -- What is found by its inputs, after a slot has changed.
-use Rattle.std.proofs.Common.{◌≡◌, ◌≢◌, ℕ, ◌<◌, Bool, true, false, cond, ◌&&◌, List, [], ◌∷◌, ◌++◌, length, set, refl, sym, ◌∙◌, ap, subst, inl, inr, arith, eq-eqb, ne_eqb, get_or-set_same, get_or-set_other, length-set}
+use Rattle.std.proofs.Common.{◌≡◌, ◌≢◌, ℕ, ◌<◌, true, false, cond, ◌&&◌, List, [], ◌∷◌, ◌++◌, length, set, refl, sym, ◌∙◌, ap, inl, inr, arith, eq-eqb, ne_eqb, get_or-set_same, get_or-set_other, length-set}
 use Rattle.std.specs.Prelude.{Option, None, Some, All, bit_or}
 use Rattle.std.proofs.lemmas.Bool.{cases_eq, eqb-true, false≢true, and_parts, and_from}
 use Rattle.std.proofs.lemmas.List.Elements.{All-set, All-push, All-weaker}
-use Rattle.std.proofs.lemmas.Option.{none-some, same_Some}
+use Rattle.std.proofs.lemmas.Option.{same_Some}
 use Rattle.rv_pla.specs.declared.cube.Cube.{Cube}
 use Rattle.rv_pla.specs.Cube.{IsCube}
 use Rattle.rv_pla.specs.declared.cube.TheConstants.{MOST_OUTPUTS}
@@ -12,8 +12,9 @@ use Rattle.rv_cube.specs.inside.Slots.{carries, full, is_alike, slot_of, key_of,
 use Rattle.rv_cube.specs.inside.Slotted.{Noted, IsReplaced, AsksWithin, IsSlotted}
 use Rattle.std.specs.Int.{bit_at}
 use Rattle.std.proofs.lemmas.Nat.Bits.{bit_at-lt, bit_at-zero, bit_at_or}
-use Rattle.rv_cube.proofs.inside.Full.{apart_from, full_cleared, no_cube_valid, at_open}
+use Rattle.rv_cube.proofs.inside.Full.{full_cleared, no_cube_valid, at_open}
 use Rattle.rv_cube.proofs.inside.Keys.{alike_care, alike_want, alike_from, slot_of-none, slot_of-some}
+use Rattle.std.proofs.lemmas.Grind.{common_steps}
 
 -- ---- keys
 
@@ -47,85 +48,33 @@ noted_slot find slots cube (Some j) h e =
 pub slot_of_noted : (find : ℕ × ℕ → Option ℕ) (slots : List Cube) (cube : Cube) → Noted find slots → find (key_of cube) ≡ slot_of slots cube
 slot_of_noted find slots cube h = noted_slot find slots cube (slot_of slots cube) h refl
 
--- ---- one key leads elsewhere
-
-record Change (old new : List Cube) (key : ℕ × ℕ) (o : Option ℕ) : Type 0 where
-  comes : (i : ℕ) → o ≡ Some i → (full new i ≡ true) × (key_of (at new i) ≡ key)
-  kept : (i : ℕ) → full old i ≡ true → (key_of (at old i) ≡ key → ⊥) → at new i ≡ at old i
-  stood : (i : ℕ) → full new i ≡ true → (key_of (at new i) ≡ key → ⊥) → at new i ≡ at old i
-  alone : (i : ℕ) → full new i ≡ true → key_of (at new i) ≡ key → o ≡ Some i
-
-sound_choice : (find : ℕ × ℕ → Option ℕ) (old new : List Cube) (key : ℕ × ℕ) (o : Option ℕ) → Noted find old → Change old new key o
-    → (q : ℕ × ℕ) (i : ℕ) (t : Bool) → key_eq key q ≡ t → cond t o (find q) ≡ Some i → (full new i ≡ true) × (key_of (at new i) ≡ q)
-sound_choice find old new key o h h1 q i t h2 h3 = grind arith
-
-complete_choice : (find : ℕ × ℕ → Option ℕ) (old new : List Cube) (key : ℕ × ℕ) (o : Option ℕ) → Noted find old → Change old new key o
-    → (i : ℕ) (t : Bool) → key_eq key (key_of (at new i)) ≡ t → full new i ≡ true → cond t o (find (key_of (at new i))) ≡ Some i
-complete_choice find old new key o h h1 i t h2 h3 = grind arith
-
-noted_change : (find then : ℕ × ℕ → Option ℕ) (old new : List Cube) (key : ℕ × ℕ) (o : Option ℕ) → Noted find old → Change old new key o
-    → ((q : ℕ × ℕ) → then q ≡ cond (key_eq key q) o (find q)) → Noted then new
-noted_change find then old new key o h d e = record {
-  sound = λ q i x. sound_choice find old new key o h d q i (key_eq key q) refl (sym (e q) ∙ x);
-  complete = λ i f. e (key_of (at new i)) ∙ complete_choice find old new key o h d i (key_eq key (key_of (at new i))) refl f;
-}
+-- ---- after a change a key leads to the slot with it, and to no other
 
 -- a cube that carries an output is put into an empty slot
+put_sound : (find : ℕ × ℕ → Option ℕ) (slots : List Cube) (k : ℕ) (cube : Cube) → Noted find slots → k < length slots → full slots k ≡ false → carries cube ≡ true
+    → (q : ℕ × ℕ) (i : ℕ) → cond (key_eq (key_of cube) q) (Some k) (find q) ≡ Some i → (full (set slots k cube) i ≡ true) × (key_of (at (set slots k cube) i) ≡ q)
+put_sound find slots k cube h l empty some q i e = grind (arith, cases_eq, key_eq-true, get_or-set_same, get_or-set_other, no_cube)
+
+put_complete : (find : ℕ × ℕ → Option ℕ) (slots : List Cube) (k : ℕ) (cube : Cube) → Noted find slots → k < length slots → full slots k ≡ false → carries cube ≡ true
+    → find (key_of cube) ≡ None → (i : ℕ) → full (set slots k cube) i ≡ true → cond (key_eq (key_of cube) (key_of (at (set slots k cube) i))) (Some k) (find (key_of (at (set slots k cube) i))) ≡ Some i
+put_complete find slots k cube h l empty some none i f = grind (arith, cases_eq, key_eq-true, key_eq-same, get_or-set_same, get_or-set_other, no_cube)
+
 noted_put : (find then : ℕ × ℕ → Option ℕ) (slots : List Cube) (i : ℕ) (cube : Cube) → Noted find slots → i < length slots → full slots i ≡ false
     → carries cube ≡ true → find (key_of cube) ≡ None → ((q : ℕ × ℕ) → then q ≡ cond (key_eq (key_of cube) q) (Some i) (find q)) → Noted then (set slots i cube)
-noted_put find then slots i cube h l empty some none e =
-    let here = get_or-set_same slots i cube no_cube l in
-    let other : (j : ℕ) → j ≢ i → at (set slots i cube) j ≡ at slots j = λ j ne. get_or-set_other slots i j cube no_cube ne in
-    let New : ℕ → Type 0 = λ j. key_of (at (set slots i cube) j) ≡ key_of cube in
-    noted_change find then slots (set slots i cube) (key_of cube) (Some i) h
-    (record {
-      comes = λ j x. subst (λ k. (full (set slots i cube) k ≡ true) × New k) (same_Some i j x) (ap carries here ∙ some, ap key_of here);
-      kept = λ j f ne. other j (apart_from slots i j empty f);
-      stood = λ j f ne. other j (λ x. ne (subst New (sym x) (ap key_of here)));
-      alone = λ j f k. elim (cases_eq j i) [
-        | inl x ↦ ap Some (sym x)
-        | inr x ↦ absurd (none-some j (sym none ∙ ap find (sym k) ∙ ap (λ (c : Cube). find (key_of c)) (other j x) ∙ h.complete j (ap carries (sym (other j x)) ∙ f)))
-      ];
-    }) e
+noted_put find then slots i cube h l empty some none e = grind (arith, common_steps, put_sound, put_complete)
 
 -- a slot is emptied
-clear_full : (find then : ℕ × ℕ → Option ℕ) (slots : List Cube) (i : ℕ) → Noted find slots → i < length slots → full slots i ≡ true
-    → ((q : ℕ × ℕ) → then q ≡ cond (key_eq (key_of (at slots i)) q) None (find q)) → Noted then (set slots i no_cube)
-clear_full find then slots i h l f e =
-    let other : (j : ℕ) → j ≢ i → at (set slots i no_cube) j ≡ at slots j = λ j ne. get_or-set_other slots i j no_cube no_cube ne in
-    let differing : (j : ℕ) → full (set slots i no_cube) j ≡ true → j ≢ i =
-    λ j g. apart_from (set slots i no_cube) i j (full_cleared slots i) g in
-    noted_change find then slots (set slots i no_cube) (key_of (at slots i)) None h
-    (record {
-      comes = λ j x. absurd (none-some j x);
-      kept = λ j g ne. other j (λ x. ne (ap (λ k. key_of (at slots k)) x));
-      stood = λ j g ne. other j (differing j g);
-      alone = λ j g k. absurd (differing j g (same_Some j i (sym (h.complete j (ap carries (sym (other j (differing j g))) ∙ g))
-          ∙ ap (λ (c : Cube). find (key_of c)) (sym (other j (differing j g))) ∙ ap find k ∙ h.complete i f)));
-    }) e
+clear_sound : (find : ℕ × ℕ → Option ℕ) (slots : List Cube) (k : ℕ) → Noted find slots
+    → (q : ℕ × ℕ) (i : ℕ) → cond (full slots k && key_eq (key_of (at slots k)) q) None (find q) ≡ Some i → (full (set slots k no_cube) i ≡ true) × (key_of (at (set slots k no_cube) i) ≡ q)
+clear_sound find slots k h q i e = grind (arith, cases_eq, key_eq-same, get_or-set_other, no_cube)
 
-clear_empty : (find then : ℕ × ℕ → Option ℕ) (slots : List Cube) (i : ℕ) → Noted find slots → i < length slots → full slots i ≡ false
-    → ((q : ℕ × ℕ) → then q ≡ find q) → Noted then (set slots i no_cube)
-clear_empty find then slots i h l empty e =
-    let other : (j : ℕ) → j ≢ i → at (set slots i no_cube) j ≡ at slots j = λ j ne. get_or-set_other slots i j no_cube no_cube ne in
-    record {
-      sound = λ q j x.
-          let s = h.sound q j (sym (e q) ∙ x) in
-          let same = other j (apart_from slots i j empty s.0) in
-          (ap carries same ∙ s.0, ap key_of same ∙ s.1);
-      complete = λ j f.
-          let same = other j (apart_from (set slots i no_cube) i j (full_cleared slots i) f) in
-          e _ ∙ ap (λ (c : Cube). find (key_of c)) same ∙ h.complete j (ap carries (sym same) ∙ f);
-    }
+clear_complete : (find : ℕ × ℕ → Option ℕ) (slots : List Cube) (k : ℕ) → Noted find slots
+    → (i : ℕ) → full (set slots k no_cube) i ≡ true → cond (full slots k && key_eq (key_of (at slots k)) (key_of (at (set slots k no_cube) i))) None (find (key_of (at (set slots k no_cube) i))) ≡ Some i
+clear_complete find slots k h i f = grind (arith, cases_eq, full_cleared, and_parts, key_eq-true, get_or-set_other, no_cube)
 
-clear_choice : (find then : ℕ × ℕ → Option ℕ) (slots : List Cube) (i : ℕ) (t : Bool) → full slots i ≡ t → Noted find slots → i < length slots
-    → ((q : ℕ × ℕ) → then q ≡ cond (t && key_eq (key_of (at slots i)) q) None (find q)) → Noted then (set slots i no_cube)
-clear_choice find then slots i true f h l e = clear_full find then slots i h l f e
-clear_choice find then slots i false f h l e = clear_empty find then slots i h l f e
-
-noted_clear : (find then : ℕ × ℕ → Option ℕ) (slots : List Cube) (i : ℕ) → Noted find slots → i < length slots
+noted_clear : (find then : ℕ × ℕ → Option ℕ) (slots : List Cube) (i : ℕ) → Noted find slots
     → ((q : ℕ × ℕ) → then q ≡ cond (full slots i && key_eq (key_of (at slots i)) q) None (find q)) → Noted then (set slots i no_cube)
-noted_clear find then slots i h l e = clear_choice find then slots i (full slots i) refl h l e
+noted_clear find then slots i h e = grind (arith, common_steps, clear_sound, clear_complete)
 
 -- a cube comes into slot a, and slot b is emptied
 replaced_only : (find : ℕ × ℕ → Option ℕ) (slots : List Cube) (a b : ℕ) (cube : Cube) → Noted find slots → IsReplaced slots a b cube
@@ -139,34 +88,21 @@ replaced_a slots a b cube h h2 = grind arith
 replaced_b : (slots : List Cube) (a b : ℕ) (cube : Cube) → IsReplaced slots a b cube → full slots b ≡ true → key_of (at slots b) ≡ key_of cube
 replaced_b slots a b cube h h2 = grind arith
 
-noted_replace : (find then : ℕ × ℕ → Option ℕ) (slots : List Cube) (a b : ℕ) (cube : Cube) → Noted find slots → a < b → b < length slots
+replace_sound : (find : ℕ × ℕ → Option ℕ) (slots : List Cube) (a b : ℕ) (cube : Cube) → Noted find slots → a < length slots → b ≢ a → carries cube ≡ true → IsReplaced slots a b cube
+    → (q : ℕ × ℕ) (i : ℕ) → cond (key_eq (key_of cube) q) (Some a) (find q) ≡ Some i
+    → (full (set (set slots b no_cube) a cube) i ≡ true) × (key_of (at (set (set slots b no_cube) a cube) i) ≡ q)
+replace_sound find slots a b cube h l ne some is q i e = grind (arith, cases_eq, key_eq-true, key_eq-same, replaced_a, replaced_b, get_or-set_same, get_or-set_other, length-set, no_cube)
+
+replace_complete : (find : ℕ × ℕ → Option ℕ) (slots : List Cube) (a b : ℕ) (cube : Cube) → Noted find slots → a < length slots → b ≢ a → IsReplaced slots a b cube
+    → (i : ℕ) → full (set (set slots b no_cube) a cube) i ≡ true
+    → cond (key_eq (key_of cube) (key_of (at (set (set slots b no_cube) a cube) i))) (Some a) (find (key_of (at (set (set slots b no_cube) a cube) i))) ≡ Some i
+replace_complete find slots a b cube h l ne is i f =
+    grind (arith, cases_eq, full_cleared, key_eq-true, key_eq-same, replaced_only, get_or-set_same, get_or-set_other, length-set, no_cube)
+
+noted_replace : (find then : ℕ × ℕ → Option ℕ) (slots : List Cube) (a b : ℕ) (cube : Cube) → Noted find slots → a < length slots → b ≢ a
     → carries cube ≡ true → IsReplaced slots a b cube → ((q : ℕ × ℕ) → then q ≡ cond (key_eq (key_of cube) q) (Some a) (find q))
     → Noted then (set (set slots b no_cube) a cube)
-noted_replace find then slots a b cube h ab bl some is e =
-    let new : List Cube = set (set slots b no_cube) a cube in
-    let la = length-set slots b no_cube in
-    let here : at new a ≡ cube = get_or-set_same (set slots b no_cube) a cube no_cube (omega arith) in
-    let ba : b ≢ a = omega arith in
-    let gone : at new b ≡ no_cube = get_or-set_other (set slots b no_cube) a b cube no_cube ba ∙ get_or-set_same slots b no_cube no_cube bl in
-    let other : (j : ℕ) → j ≢ a → j ≢ b → at new j ≡ at slots j =
-    λ j na nb. get_or-set_other (set slots b no_cube) a j cube no_cube na ∙ get_or-set_other slots b j no_cube no_cube nb in
-    let differing : (j : ℕ) → full new j ≡ true → j ≢ b =
-    λ j g. apart_from new b j (ap carries gone) g in
-    let New : ℕ → Type 0 = λ j. key_of (at new j) ≡ key_of cube in
-    let Old : ℕ → Type 0 = λ j. key_of (at slots j) ≡ key_of cube in
-    noted_change find then slots new (key_of cube) (Some a) h
-    (record {
-      comes = λ j x. subst (λ k. (full new k ≡ true) × New k) (same_Some a j x) (ap carries here ∙ some, ap key_of here);
-      kept = λ j g ne. other j (λ x. ne (subst Old (sym x) (replaced_a slots a b cube is (ap (full slots) (sym x) ∙ g))))
-          (λ x. ne (subst Old (sym x) (replaced_b slots a b cube is (ap (full slots) (sym x) ∙ g))));
-      stood = λ j g ne. other j (λ x. ne (subst New (sym x) (ap key_of here))) (differing j g);
-      alone = λ j g k. elim (cases_eq j a) [
-        | inl x ↦ ap Some (sym x)
-        | inr x ↦
-            (let same = other j x (differing j g) in
-            absurd (replaced_only find slots a b cube h is j x (differing j g) (ap carries (sym same) ∙ g) (ap key_of (sym same) ∙ k)))
-      ];
-    }) e
+noted_replace find then slots a b cube h l ne some is e = grind (arith, common_steps, replace_sound, replace_complete)
 
 -- ---- what every `Slots` keeps
 
@@ -190,16 +126,7 @@ more_asked asked cube slots all =
     eq-eqb _ 1 (omega arith)) slots all
 
 pub slotted_open : (find : ℕ × ℕ → Option ℕ) (asked n : ℕ) (slots : List Cube) → IsSlotted find asked n slots → IsSlotted find asked n (slots ++ no_cube ∷ [])
-slotted_open find asked n slots h = record {
-  some_inputs = h.some_inputs;
-  few_inputs = h.few_inputs;
-  valid = All-push (IsCube n MOST_OUTPUTS) slots no_cube h.valid (no_cube_valid n MOST_OUTPUTS);
-  noted = record {
-    sound = λ q i e. let s = h.noted.sound q i e in (ap carries (at_open slots i) ∙ s.0, ap key_of (at_open slots i) ∙ s.1);
-    complete = λ i f. ap (λ (c : Cube). find (key_of c)) (at_open slots i) ∙ h.noted.complete i (ap carries (sym (at_open slots i)) ∙ f);
-  };
-  asks = All-push (AsksWithin asked) slots no_cube h.asks (no_cube_asks asked);
-}
+slotted_open find asked n slots h = grind (arith, common_steps, All-push, no_cube_valid, at_open, no_cube_asks)
 
 pub slotted_put : (find then : ℕ × ℕ → Option ℕ) (asked n : ℕ) (slots : List Cube) (i : ℕ) (cube : Cube) → IsSlotted find asked n slots → i < length slots → full slots i ≡ false
     → carries cube ≡ true → IsCube n MOST_OUTPUTS cube → slot_of slots cube ≡ None
@@ -214,13 +141,7 @@ slotted_put find then asked n slots i cube h l empty some own none e = record {
 
 pub slotted_clear : (find then : ℕ × ℕ → Option ℕ) (asked n : ℕ) (slots : List Cube) (i : ℕ) (cube : Cube) → IsSlotted find asked n slots → i < length slots → cube ≡ at slots i
     → ((q : ℕ × ℕ) → then q ≡ cond (carries cube && key_eq (key_of cube) q) None (find q)) → IsSlotted then asked n (set slots i no_cube)
-slotted_clear find then asked n slots i cube h l is e = record {
-  some_inputs = h.some_inputs;
-  few_inputs = h.few_inputs;
-  valid = All-set (IsCube n MOST_OUTPUTS) slots i no_cube (no_cube_valid n MOST_OUTPUTS) h.valid;
-  noted = noted_clear find then slots i h.noted l (λ q. e q ∙ ap (λ c. cond (carries c && key_eq (key_of c) q) None (find q)) is);
-  asks = All-set (AsksWithin asked) slots i no_cube (no_cube_asks asked) h.asks;
-}
+slotted_clear find then asked n slots i cube h l is e = grind (arith, common_steps, All-set, no_cube_valid, noted_clear, no_cube_asks)
 
 pub slotted_replace : (find then : ℕ × ℕ → Option ℕ) (asked n : ℕ) (slots : List Cube) (a b : ℕ) (cube : Cube) → IsSlotted find asked n slots → a < b → b < length slots
     → carries cube ≡ true → IsCube n MOST_OUTPUTS cube → IsReplaced slots a b cube
@@ -229,7 +150,7 @@ slotted_replace find then asked n slots a b cube h ab bl some own is e = record 
   some_inputs = h.some_inputs;
   few_inputs = h.few_inputs;
   valid = All-set (IsCube n MOST_OUTPUTS) (set slots b no_cube) a cube own (All-set (IsCube n MOST_OUTPUTS) slots b no_cube (no_cube_valid n MOST_OUTPUTS) h.valid);
-  noted = noted_replace find then slots a b cube h.noted ab bl some is e;
+  noted = noted_replace find then slots a b cube h.noted (omega arith) (λ e. omega arith) some is e;
   asks =
       let all = more_asked asked cube slots h.asks in
       All-set (AsksWithin (bit_or asked cube.care)) (set slots b no_cube) a cube (own_asked asked cube)

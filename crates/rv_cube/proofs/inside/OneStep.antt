@@ -1,25 +1,28 @@
--- What a merge and an exorlink of slots leave.
+-- What a merge and an exorlink of slots leave, and of the list.
 use Rattle.std.proofs.Common.{◌≡◌, ◌≢◌, ℕ, ◌+◌, ◌<◌, ◌≤◌, Bool, true, false, cond, List, length, set, refl, sym, ◌∙◌, ap, subst, inl, inr, arith, length-set, get_or-set_same, get_or-set_other}
 use Rattle.std.specs.Prelude.{Option, None, Some, All, IfSome, ◌⊎◌, nat_lt}
 use Rattle.std.proofs.lemmas.List.{set-get_or, set-set, set_comm}
 use Rattle.rv_pla.specs.Cube.{IsCube}
 use Rattle.rv_pla.specs.declared.cube.Cube.{Cube}
 use Rattle.rv_pla.specs.declared.cube.TheConstants.{MOST_OUTPUTS}
-use Rattle.rv_cube.specs.Esop.{terms_of}
+use Rattle.rv_cube.specs.Esop.{terms_of, IsTerm}
 use Rattle.rv_cube.specs.Distance.{differing}
-use Rattle.rv_cube.specs.Reduction.{no_cube, at, merge, merge_by, reduced}
-use Rattle.rv_cube.specs.inside.Slots.{carries, full, list_place, is_alike, IsKeyed, or_empty, merge_in, merged_in, merged_in_any, settled, IsFirstMerge}
-use Rattle.rv_cube.specs.inside.Reducing.{settled_any, IsExorlinked, Steps}
-use Rattle.rv_cube.specs.declared.step.Step.TheVariants.{Merge}
+use Rattle.rv_cube.specs.Reduction.{no_cube, at, merge, merge_by, reduced, found_step}
+use Rattle.rv_cube.specs.inside.Slots.{carries, full, list_place, is_alike, IsKeyed, or_empty, merge_in, merged_in, merged_in_any, settled, IsFirstMerge, ranked, IsPartner}
+use Rattle.rv_cube.specs.inside.Reducing.{settled_any, emptied, IsExorlinked, Steps, DifferAt, ComesIn, IsNext}
+use Rattle.rv_cube.specs.declared.step.Step.TheVariants.{Merge, Exorlink}
 use Rattle.rv_cube.proofs.inside.Merges.{Mergeable, Mergeable-comm-at, can_merge_Mergeable}
 use Rattle.rv_cube.proofs.Reduced.{reduced_once}
-use Rattle.rv_cube.proofs.inside.Full.{full_within, full_set-other, no_cube_valid, at_valid, full_cleared, valid_set}
-use Rattle.rv_cube.proofs.inside.SlotSteps.{merge_carries, merged_in_list}
-use Rattle.rv_cube.proofs.inside.MergesIn.{merge_in_valid}
+use Rattle.rv_cube.proofs.inside.Full.{full_within, full_set-other, no_cube_valid, at_valid, full_cleared, valid_set, carries_some, some_carries}
+use Rattle.rv_cube.proofs.inside.SlotSteps.{merge_carries, merged_in_list, moved_list, merge_is_next, exorlink_is_next}
+use Rattle.rv_cube.proofs.inside.MergesIn.{merge_in_valid, count, count_clear, settled_count, settled_length, settled_empty, keyed_clear, settled_keyed, settled_valid}
 use Rattle.rv_cube.proofs.inside.SettledList.{settled_kept, settled_beside}
-use Rattle.rv_cube.proofs.inside.ExorlinksIn.{merge_in_far, merge_in_far-other}
-use Rattle.rv_cube.proofs.inside.NextSteps.{merge_is_next}
-use Rattle.rv_cube.proofs.inside.SettledSlots.{count, count_clear, settled_count, settled_length, settled_empty, keyed_clear, settled_keyed, settled_valid}
+use Rattle.rv_cube.proofs.inside.ExorlinksIn.{merge_in_far, merge_in_far-other, IsExorlinkIn, exorlink_in_is}
+use Rattle.rv_cube.specs.inside.Slotted.{Slotted}
+use Rattle.rv_cube.specs.declared.step.Step.{Step}
+use Rattle.rv_cube.proofs.inside.Differing.{differs-comm}
+use Rattle.std.proofs.lemmas.Result.{on_ok_weaker}
+use Rattle.std.proofs.lemmas.Grind.{common_steps}
 
 -- ---- a merge
 
@@ -87,19 +90,15 @@ merge_steps n slots a b x y o valid keyed h ex ey eo =
 
 -- ---- an exorlink, in any order of its edits
 
--- slots p, o and c are emptied
-abbrev pub emptied : List Cube → ℕ → ℕ → ℕ → Cube → List Cube
-emptied s p o c e = set (set (set s p e) o e) c e
-
 -- a cube x comes to p and y to o, and c is emptied
-shuffle_first : (s : List Cube) (p o c : ℕ) (own y x e : Cube) → p ≢ o → p ≢ c → o ≢ c
-    → set (set (set (set s p own) o y) c e) p x ≡ set (set (emptied s p o c e) p x) o y
-shuffle_first s p o c own y x e po pc oc = grind (arith, set_comm, set-set)
+shuffle_first : (s : List Cube) (p o c : ℕ) (own y x : Cube) → p ≢ o → p ≢ c → o ≢ c
+    → set (set (set (set s p own) o y) c no_cube) p x ≡ set (set (emptied s p o c) p x) o y
+shuffle_first s p o c own y x po pc oc = grind (arith, set_comm, set-set)
 
 -- a cube x comes to c and y to o, and p is emptied
-shuffle_second : (s : List Cube) (p o c : ℕ) (own y x e : Cube) → p ≢ o → p ≢ c → o ≢ c
-    → set (set (set (set s p own) o y) p e) c x ≡ set (set (emptied s p o c e) c x) o y
-shuffle_second s p o c own y x e po pc oc = grind (arith, set_comm, set-set)
+shuffle_second : (s : List Cube) (p o c : ℕ) (own y x : Cube) → p ≢ o → p ≢ c → o ≢ c
+    → set (set (set (set s p own) o y) p no_cube) c x ≡ set (set (emptied s p o c) c x) o y
+shuffle_second s p o c own y x po pc oc = grind (arith, set_comm, set-set)
 
 -- ---- what it leaves
 
@@ -110,9 +109,9 @@ formed s p o own rest = set (set s p own) o rest
 -- the cubes at low and high become one, which stands at low
 low_at : (n : ℕ) (s : List Cube) (p o c : ℕ) (own rest x y : Cube) (low high : ℕ) (lower : ℕ) (one : Option Cube)
     → at (formed s p o own rest) low ≡ x → at (formed s p o own rest) high ≡ y
-    → ((z : Cube) → set (set (formed s p o own rest) high no_cube) low z ≡ set (set (emptied s p o c no_cube) low z) o rest)
+    → ((z : Cube) → set (set (formed s p o own rest) high no_cube) low z ≡ set (set (emptied s p o c) low z) o rest)
     → ◌≡◌ {A = ℕ × Option Cube} (lower, one) (low, merge n x y)
-    → merged_in n (formed s p o own rest) low high ≡ set (set (emptied s p o c no_cube) lower (or_empty one)) o rest
+    → merged_in n (formed s p o own rest) low high ≡ set (set (emptied s p o c) lower (or_empty one)) o rest
 low_at n s p o c own rest x y low high lower one at_low at_high shuffle is = grind arith
 
 formed_own : (s : List Cube) (p o : ℕ) (own rest : Cube) → p ≢ o → p < length s → at (formed s p o own rest) p ≡ own
@@ -125,7 +124,7 @@ formed_third s p o c own rest third cp co e = get_or-set_other (set s p own) o c
 low_is : (n : ℕ) (s : List Cube) (p o c : ℕ) (own rest third : Cube) (low : ℕ) (one : Option Cube) (t : Bool) → p ≢ o → c ≢ p → c ≢ o
     → p < length s → third ≡ at s c
     → ◌≡◌ {A = ℕ × Option Cube} (low, one) (cond t (p, merge n own third) (c, merge n third own))
-    → cond t (merged_in n (formed s p o own rest) p c) (merged_in n (formed s p o own rest) c p) ≡ set (set (emptied s p o c no_cube) low (or_empty one)) o rest
+    → cond t (merged_in n (formed s p o own rest) p c) (merged_in n (formed s p o own rest) c p) ≡ set (set (emptied s p o c) low (or_empty one)) o rest
 low_is n s p o c own rest third low one t h h1 h2 h3 h4 h5 =
     grind (arith, low_at, formed_own, formed_third, shuffle_first, no_cube, shuffle_second)
 
@@ -182,13 +181,13 @@ lower n s p o c own rest third low one h =
 
 -- the emptied slots
 pub record Bare (n : ℕ) (s : List Cube) (p o c : ℕ) : Type 0 where
-  pub valid : All (IsCube n MOST_OUTPUTS) (emptied s p o c no_cube)
-  pub keyed : IsKeyed (emptied s p o c no_cube)
-  pub as_long : length (emptied s p o c no_cube) ≡ length s
-  pub at_p : at (emptied s p o c no_cube) p ≡ no_cube
-  pub at_o : at (emptied s p o c no_cube) o ≡ no_cube
-  pub at_c : at (emptied s p o c no_cube) c ≡ no_cube
-  pub fewer : count (emptied s p o c no_cube) + 3 ≡ count s
+  pub valid : All (IsCube n MOST_OUTPUTS) (emptied s p o c)
+  pub keyed : IsKeyed (emptied s p o c)
+  pub as_long : length (emptied s p o c) ≡ length s
+  pub at_p : at (emptied s p o c) p ≡ no_cube
+  pub at_o : at (emptied s p o c) o ≡ no_cube
+  pub at_c : at (emptied s p o c) c ≡ no_cube
+  pub fewer : count (emptied s p o c) + 3 ≡ count s
 
 pub bare : (n : ℕ) (s : List Cube) (p o c : ℕ) (own rest : Cube) → All (IsCube n MOST_OUTPUTS) s → IsKeyed s → IsExorlinked n s p o c own rest → Bare n s p o c
 bare n s p o c own rest valid keyed h =
@@ -217,9 +216,9 @@ bare n s p o c own rest valid keyed h =
       fewer = omega arith;
     }
 
-pub bare_low : (n : ℕ) (s : List Cube) (p o c low : ℕ) → Bare n s p o c → (low ≡ p) ⊎ (low ≡ c) → at (emptied s p o c no_cube) low ≡ no_cube
+pub bare_low : (n : ℕ) (s : List Cube) (p o c low : ℕ) → Bare n s p o c → (low ≡ p) ⊎ (low ≡ c) → at (emptied s p o c) low ≡ no_cube
 bare_low n s p o c low b which =
-    elim which [ inl e ↦ ap (at (emptied s p o c no_cube)) e ∙ b.at_p | inr e ↦ ap (at (emptied s p o c no_cube)) e ∙ b.at_c ]
+    elim which [ inl e ↦ ap (at (emptied s p o c)) e ∙ b.at_p | inr e ↦ ap (at (emptied s p o c)) e ∙ b.at_c ]
 
 -- a cube comes into the lower slot, and then the other one
 any_beside : (n : ℕ) (slots : List Cube) (i k : ℕ) (o : Option Cube) (rest : Cube) → All (IsCube n MOST_OUTPUTS) slots → IsKeyed slots → i < length slots → k < length slots
@@ -254,7 +253,7 @@ pub low_other : (s : List Cube) (p o c low : ℕ) → p ≢ o → c ≢ o → (l
 low_other s p o c low po co which = elim which [ inl e ↦ (λ q. po (sym (q ∙ e))) | inr e ↦ (λ q. co (sym (q ∙ e))) ]
 
 pub exorlink_steps : (n : ℕ) (s : List Cube) (p o c : ℕ) (own rest third : Cube) (low : ℕ) (one : Option Cube) → Exorlinking n s p o c own rest third low one
-    → Steps n s (merged_in_any n (set (set s p own) o rest) p c) (settled n (settled_any n (emptied s p o c no_cube) low one) o rest)
+    → Steps n s (merged_in_any n (set (set s p own) o rest) p c) (settled n (settled_any n (emptied s p o c) low one) o rest)
 exorlink_steps n s p o c own rest third low one h =
     let r = h.exorlinked in
     let b = bare n s p o c own rest h.valid h.keyed r in
@@ -264,18 +263,209 @@ exorlink_steps n s p o c own rest third low one h =
     let lp = full_within s p r.full_place in
     let lo = full_within s o r.full_other in
     let lc = full_within s c r.is_partner.other.stands in
-    let low_in : low < length (emptied s p o c no_cube) = elim k.place [ inl e ↦ omega arith | inr e ↦ omega arith ] in
+    let low_in : low < length (emptied s p o c) = elim k.place [ inl e ↦ omega arith | inr e ↦ omega arith ] in
     let ol : o ≢ low = low_other s p o c low r.two r.is_partner.other.other_b k.place in
     let bare_at = bare_low n s p o c low b k.place in
-    let empty_low : full (emptied s p o c no_cube) low ≡ false = ap carries bare_at in
-    let empty_o : full (emptied s p o c no_cube) o ≡ false = ap carries b.at_o in
-    let any : List Cube = settled_any n (emptied s p o c no_cube) low one in
-    let la = length_any n (emptied s p o c no_cube) low one in
-    let more = count_any n (emptied s p o c no_cube) low one k.some low_in empty_low in
-    let most = settled_count n any o rest r.rest_carries (omega arith) (empty_any n (emptied s p o c no_cube) low o one ol empty_o) in
+    let empty_low : full (emptied s p o c) low ≡ false = ap carries bare_at in
+    let empty_o : full (emptied s p o c) o ≡ false = ap carries b.at_o in
+    let any : List Cube = settled_any n (emptied s p o c) low one in
+    let la = length_any n (emptied s p o c) low one in
+    let more = count_any n (emptied s p o c) low one k.some low_in empty_low in
+    let most = settled_count n any o rest r.rest_carries (omega arith) (empty_any n (emptied s p o c) low o one ol empty_o) in
     record {
       kept =
-          any_beside n (emptied s p o c no_cube) low o one rest b.valid b.keyed low_in (omega arith) ol empty_low empty_o bare_at r.rest_carries r.rest_valid k.some k.own k.apart_from_rest
+          any_beside n (emptied s p o c) low o one rest b.valid b.keyed low_in (omega arith) ol empty_low empty_o bare_at r.rest_carries r.rest_valid k.some k.own k.apart_from_rest
           ∙ ap (λ x. reduced n (terms_of x)) (sym (low_is n s p o c own rest third low one (nat_lt p c) r.two r.is_partner.other.other_a r.is_partner.other.other_b lp h.third_is h.low_one));
       fewer = omega arith;
     }
+
+-- ---- a merge
+
+some_both : (n : ℕ) (o : Option Cube) → IfSome o (λ c. carries c ≡ true) → IfSome o (IsCube n MOST_OUTPUTS)
+    → IfSome o (λ c. (carries c ≡ true) × IsCube n MOST_OUTPUTS c)
+some_both n o h h2 = grind arith
+
+-- slots a and b were emptied, whose cubes become one
+pub merge_valid : (old one two : Slotted) (a b n : ℕ) (x y : Cube) (o : Option Cube) → All (IsCube old.inputs MOST_OUTPUTS) old.cubes
+    → IsFirstMerge old.inputs old.cubes a b → x ≡ at old.cubes a → y ≡ at old.cubes b → n ≡ old.inputs → o ≡ merge_by (differing n x y) x y
+    → one ≡ record old { cubes = set old.cubes b no_cube } → two ≡ record one { cubes = set one.cubes a no_cube }
+    → IfSome o (λ c. (carries c ≡ true) × IsCube two.inputs MOST_OUTPUTS c)
+merge_valid old one two a b n x y o valid first ex ey en eo e1 e2 =
+    let m : ℕ = old.inputs in
+    let same : m ≡ two.inputs = sym (ap (λ (v : Slotted). v.inputs) e2 ∙ ap (λ (v : Slotted). v.inputs) e1) in
+    let v = one_valid m x y o (eo ∙ ap (λ k. merge_by (differing k x y) x y) en) (ap carries ex ∙ first.full_a)
+    (subst (IsCube m MOST_OUTPUTS) (sym ex) (at_valid m MOST_OUTPUTS old.cubes a valid))
+    (subst (IsCube m MOST_OUTPUTS) (sym ey) (at_valid m MOST_OUTPUTS old.cubes b valid)) in
+    subst (λ k. IfSome o (λ c. (carries c ≡ true) × IsCube k MOST_OUTPUTS c)) same (some_both m o v.0 v.1)
+
+pub merged_steps : (old one two new : Slotted) (a b n : ℕ) (x y : Cube) (o : Option Cube) → All (IsCube old.inputs MOST_OUTPUTS) old.cubes → IsKeyed old.cubes
+    → IsFirstMerge old.inputs old.cubes a b → x ≡ at old.cubes a → y ≡ at old.cubes b → n ≡ old.inputs → o ≡ merge_by (differing n x y) x y
+    → one ≡ record old { cubes = set old.cubes b no_cube } → two ≡ record one { cubes = set one.cubes a no_cube }
+    → new ≡ record two { cubes = settled_any two.inputs two.cubes a o } → Steps old.inputs old.cubes old.cubes new.cubes
+merged_steps old one two new a b n x y o valid keyed first ex ey en eo e1 e2 e =
+    let P : Slotted → Type 0 = λ v. Steps old.inputs old.cubes old.cubes v.cubes in
+    let Q : Slotted → Type 0 = λ v. Steps old.inputs old.cubes old.cubes (settled_any v.inputs v.cubes a o) in
+    let R : Slotted → Type 0 = λ v. Q (record v { cubes = set v.cubes a no_cube }) in
+    subst P (sym e) (subst Q (sym e2) (subst R (sym e1)
+    (merge_steps old.inputs old.cubes a b x y o valid keyed first ex ey (eo ∙ ap (λ k. merge_by (differing k x y) x y) en))))
+
+-- ---- an exorlink
+
+pub exorlinking : (old : Slotted) (p o c n : ℕ) (own rest third : Cube) (r : ℕ × Option Cube) → All (IsCube old.inputs MOST_OUTPUTS) old.cubes → IsKeyed old.cubes
+    → IsExorlinked old.inputs old.cubes p o c own rest → third ≡ at old.cubes c → n ≡ old.inputs
+    → ◌≡◌ {A = ℕ × Option Cube} r (cond (nat_lt p c) (p, merge_by (differing n own third) own third) (c, merge_by (differing n third own) third own))
+    → Exorlinking old.inputs old.cubes p o c own rest third r.0 r.1
+exorlinking old p o c n own rest third r valid keyed given et en er =
+    let R : ℕ → Type 0 = λ m.
+    ◌≡◌ {A = ℕ × Option Cube} r (cond (nat_lt p c) (p, merge_by (differing m own third) own third) (c, merge_by (differing m third own) third own)) in
+    record { valid = valid; keyed = keyed; exorlinked = given; third_is = et; low_one = subst R en er }
+
+-- what is asked where the cubes come in
+pub comes_in : (old bare : Slotted) (p o c : ℕ) (own rest third : Cube) (low : ℕ) (x : Option Cube) → Exorlinking old.inputs old.cubes p o c own rest third low x
+    → bare ≡ record old { cubes = emptied old.cubes p o c } → ComesIn bare low x o rest
+comes_in old three p o c own rest third low x g e =
+    let n : ℕ = old.inputs in
+    let s : List Cube = old.cubes in
+    let r = g.exorlinked in
+    let b = bare n s p o c own rest g.valid g.keyed r in
+    let k = lower n s p o c own rest third low x g in
+    let l = b.as_long in
+    let lp = full_within s p r.full_place in
+    let lo = full_within s o r.full_other in
+    let lc = full_within s c r.is_partner.other.stands in
+    let la = length_any n (emptied s p o c) low x in
+    let P : Slotted → Type 0 = λ v. ComesIn v low x o rest in
+    subst P (sym e) (record {
+      low_within = elim k.place [ inl e ↦ omega arith | inr e ↦ omega arith ];
+      low_empty = ap carries (bare_low n s p o c low b k.place);
+      own = some_both n x k.some k.own;
+      other_within = omega arith;
+      other_empty = empty_any n (emptied s p o c) low o x (low_other s p o c low r.two r.is_partner.other.other_b k.place) (ap carries b.at_o);
+      other_carries = r.rest_carries;
+      other_valid = r.rest_valid;
+    })
+
+pub exorlinked_steps : (old bare : Slotted) (new : List Cube) (p o c : ℕ) (own rest third : Cube) (low : ℕ) (x : Option Cube)
+    → Exorlinking old.inputs old.cubes p o c own rest third low x → bare ≡ record old { cubes = emptied old.cubes p o c }
+    → new ≡ settled bare.inputs (settled_any bare.inputs bare.cubes low x) o rest
+    → Steps old.inputs old.cubes (merged_in_any old.inputs (set (set old.cubes p own) o rest) p c) new
+exorlinked_steps old three new p o c own rest third low x h eb e =
+    let P : List Cube → Type 0 = Steps old.inputs old.cubes (merged_in_any old.inputs (set (set old.cubes p own) o rest) p c) in
+    let Q : Slotted → Type 0 = λ v. P (settled v.inputs (settled_any v.inputs v.cubes low x) o rest) in
+    subst P (sym e) (subst Q (sym eb) (exorlink_steps old.inputs old.cubes p o c own rest third low x h))
+
+-- ---- the next step is made
+
+slot_term : (n : ℕ) (slots : List Cube) (i : ℕ) → All (IsCube n MOST_OUTPUTS) slots → full slots i ≡ true → IsTerm n MOST_OUTPUTS (at slots i)
+slot_term n slots i valid f = record { is_cube = at_valid n MOST_OUTPUTS slots i valid; some = some_carries (at slots i) f }
+
+differ-comm : (n : ℕ) (x y : Cube) (p q : ℕ) → DifferAt n x y p q → DifferAt n y x p q
+differ-comm n x y p q h = grind (arith, common_steps, differs-comm)
+
+-- the first of two cubes has the partner
+exorlinked_by : (n : ℕ) (slots : List Cube) (a b : ℕ) (f s : Cube) (c : ℕ) → a ≢ b → full slots a ≡ true → full slots b ≡ true → IsTerm n MOST_OUTPUTS f → IsTerm n MOST_OUTPUTS s
+    → (p : ℕ) × (q : ℕ) × DifferAt n f s p q → IsPartner n slots a b f c → IsExorlinked n slots a b c f s
+exorlinked_by n slots a b f s c ne fa fb vf vs far partner = record {
+  full_place = fa;
+  full_other = fb;
+  two = ne;
+  is_partner = partner;
+  own_valid = vf.is_cube;
+  rest_valid = vs.is_cube;
+  own_carries = carries_some f vf.some;
+  rest_carries = carries_some s vs.some;
+  far = far;
+}
+
+-- what an exorlink says of its slots
+pub record ExorlinkedIn (n : ℕ) (slots : List Cube) (a b : ℕ) (f s : Cube) (place c : ℕ) : Type 0 where
+  pub order : a < b
+  pub full_a : full slots a ≡ true
+  pub full_b : full slots b ≡ true
+  pub cube : Cube
+  pub is : IsExorlinkIn n slots a b f s place cube c
+  pub first : found_step n (terms_of slots) ≡ Some (ranked slots (Exorlink a b f s place c))
+
+exorlinked_in : (n : ℕ) (slots : List Cube) (a b : ℕ) (f s : Cube) (place c : ℕ) → All (IsCube n MOST_OUTPUTS) slots → IsKeyed slots
+    → IsNext n slots (Exorlink a b f s place c) → ExorlinkedIn n slots a b f s place c
+exorlinked_in n slots a b f s place c valid keyed h =
+    let i : ℕ = h.1.0 in
+    let j : ℕ = h.1.1 in
+    let r = h.1.2 in
+    let e = exorlink_in_is n slots i j (Exorlink a b f s place c) r.is in
+    let first = exorlink_is_next n slots i j (Exorlink a b f s place c) valid keyed h.0 r in
+    let P : ℕ → ℕ → Type 0 = λ x y. ExorlinkedIn n slots x y f s place c in
+    let Q : ℕ → Type 0 = λ x. found_step n (terms_of slots) ≡ Some (ranked slots (Exorlink x b f s place c)) in
+    let R : ℕ → Type 0 = λ y. found_step n (terms_of slots) ≡ Some (ranked slots (Exorlink i y f s place c)) in
+    subst (λ x. P x b) (sym e.0) (subst (P i) (sym e.1) (record {
+      order = r.order;
+      full_a = r.full_a;
+      full_b = r.full_b;
+      cube = e.2;
+      is = e.3;
+      first = subst R e.1 (subst Q e.0 first);
+    }))
+
+-- the list that is left is reduced to the same
+moved_kept : (n : ℕ) (slots : List Cube) (a b : ℕ) (f s : Cube) (place c : ℕ) → All (IsCube n MOST_OUTPUTS) slots → ExorlinkedIn n slots a b f s place c
+    → reduced n (terms_of (merged_in_any n (set (set slots a f) b s) place c)) ≡ reduced n (terms_of slots)
+moved_kept n slots a b f s place c valid h =
+    let v = h.is.form.valid (slot_term n slots a valid h.full_a) (slot_term n slots b valid h.full_b) in
+    let p = h.is.partner in
+    let which : (place ≡ a) ⊎ (place ≡ b) = elim h.is.which [ inl w ↦ inl w.0 | inr w ↦ inr w.0 ] in
+    ap (reduced n) (moved_list n slots a b f s place c h.order h.full_a h.full_b (carries_some f v.0.some) (carries_some s v.1.some) which p.other.stands p.other.other_a p.other.other_b)
+    ∙ reduced_once n (terms_of slots) (ranked slots (Exorlink a b f s place c)) h.first
+
+-- an exorlink is the next step: its first cube merges, or the second
+module _ {n a b place c : ℕ} {slots : List Cube} {f s : Cube} {step : Step} (is : step ≡ Exorlink a b f s place c) (valid : All (IsCube n MOST_OUTPUTS) slots)
+    (keyed : IsKeyed slots) (next : IsNext n slots step) where
+  given : ExorlinkedIn n slots a b f s place c
+  given = exorlinked_in n slots a b f s place c valid keyed (subst (IsNext n slots) is next)
+
+  pub exorlinks_own : place ≡ a → IsExorlinked n slots a b c f s
+  exorlinks_own e =
+      let h = given in
+      let order = h.order in
+      let v = h.is.form.valid (slot_term n slots a valid h.full_a) (slot_term n slots b valid h.full_b) in
+      elim h.is.which [
+        | inl w ↦
+            (let P : Cube → Type 0 = λ x. IsPartner n slots a b x c in
+            exorlinked_by n slots a b f s c (omega arith) h.full_a h.full_b v.0 v.1 h.is.far (subst P w.1 h.is.partner))
+        | inr w ↦ absurd (let pb = w.0 in omega arith)
+      ]
+
+  pub exorlinks_rest : place ≢ a → IsExorlinked n slots b a c s f
+  exorlinks_rest ne =
+      let h = given in
+      let order = h.order in
+      let v = h.is.form.valid (slot_term n slots a valid h.full_a) (slot_term n slots b valid h.full_b) in
+      elim h.is.which [
+        | inl w ↦ absurd (ne w.0)
+        | inr w ↦
+            (let P : Cube → Type 0 = λ x. IsPartner n slots a b x c in
+            let p = subst P w.1 h.is.partner in
+            exorlinked_by n slots b a s f c (omega arith) h.full_b h.full_a v.1 v.0 (h.is.far.0, h.is.far.1, differ-comm n f s h.is.far.0 h.is.far.1 h.is.far.2)
+            (record { other = record { stands = p.other.stands; other_a = p.other.other_b; other_b = p.other.other_a }; one = p.one }))
+      ]
+
+  pub own_steps : (new : List Cube) → place ≡ a → Steps n slots (merged_in_any n (set (set slots a f) b s) a c) new → Steps n slots slots new
+  own_steps new e h = record {
+    kept = h.kept ∙ ap (λ p. reduced n (terms_of (merged_in_any n (set (set slots a f) b s) p c))) (sym e) ∙ moved_kept n slots a b f s place c valid given;
+    fewer = h.fewer;
+  }
+
+  pub rest_steps : (new : List Cube) → place ≢ a → Steps n slots (merged_in_any n (set (set slots b s) a f) b c) new → Steps n slots slots new
+  rest_steps new ne h =
+      let g = given in
+      let order = g.order in
+      let ba : b ≢ a = omega arith in
+      let pb : b ≡ place = elim g.is.which [ inl w ↦ absurd (ne w.0) | inr w ↦ sym w.0 ] in
+      record {
+        kept = h.kept ∙ ap (λ l. reduced n (terms_of (merged_in_any n l b c))) (set_comm slots b a s f ba)
+            ∙ ap (λ p. reduced n (terms_of (merged_in_any n (set (set slots a f) b s) p c))) pb
+            ∙ moved_kept n slots a b f s place c valid given;
+        fewer = h.fewer;
+      }
+
+-- two cubes became one
+pub ruleset joined = (on_ok_weaker, merged_steps, merge_valid)

@@ -15,6 +15,7 @@ use Rattle.rv_cube.proofs.inside.Full.{at_valid}
 use Rattle.rv_cube.proofs.inside.Keys.{alike_same_inputs, same_inputs_alike}
 use Rattle.rv_cube.proofs.inside.Noting.{alike_key, key_alike}
 use Rattle.rv_cube.proofs.inside.Neighbours.{turn_other, third_other, third_turn, neighbour_differing, partner_key, beside_either}
+use Rattle.std.proofs.lemmas.Grind.{common_steps}
 
 -- ---- the least of two
 
@@ -116,16 +117,12 @@ one_is (p ∷ q ∷ r ∷ rest) h = absurd (omega (arith, eqb-true (length (p �
 one_is o h = absurd (false≢true h)
 
 below_partner : (n : ℕ) (slots : List Cube) (a b : ℕ) (cube : Cube) (c : ℕ) → IsPartnerBelow n slots a b cube n c → IsPartner n slots a b cube c
-below_partner n slots a b cube c (inl t) = record {
-  other = t.0;
-  one = or_left (have_same_inputs n cube (at slots c)) (are_adjacent n cube (at slots c)) (alike_same_inputs n cube (at slots c) (key_alike cube (at slots c) (sym t.1)));
-}
+below_partner n slots a b cube c (inl t) = grind (arith, common_steps, or_left, alike_same_inputs, key_alike)
 below_partner n slots a b cube c (inr y) =
     let x = y.2 in
     record {
       other = x.0;
-      one = or_right (have_same_inputs n cube (at slots c)) (are_adjacent n cube (at slots c))
-          (and_from _ _ (eq-eqb cube.outs (at slots c).outs (sym x.1)) (ap (λ l. eqb (length l) 1) x.2));
+      one = grind (arith, common_steps, or_right, and_from, eq-eqb);
     }
 
 partner_below : (n : ℕ) (slots : List Cube) (a b : ℕ) (cube : Cube) (c : ℕ) → All (IsCube n MOST_OUTPUTS) slots → IsCube n MOST_OUTPUTS cube

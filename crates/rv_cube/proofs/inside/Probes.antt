@@ -9,6 +9,7 @@ use Rattle.rv_pla.specs.declared.cube.Cube.{Cube}
 use Rattle.rv_cube.specs.inside.Slots.{key_of}
 use Rattle.rv_cube.specs.inside.Filter.{filter_place, ones_place}
 use Rattle.rv_cube.specs.inside.Moved.{moved_as, IsStep}
+use Rattle.std.proofs.lemmas.Grind.{common_steps}
 
 -- ---- exclusive or
 
@@ -49,10 +50,7 @@ pub step_within : (x y : ℕ) → x < 2 ^ 19 → y < 2 ^ 19 → bit_xor x y < 2 
 step_within x y l k = xor_lt 19 x y l k
 
 pub step_is : (cube to : Cube) (x y : ℕ) → x ≡ filter_place (key_of cube) → y ≡ filter_place (key_of to) → x < 2 ^ 19 → y < 2 ^ 19 → IsStep cube to (bit_xor x y)
-step_is cube to x y e f l k = record {
-  is = ap (λ n. bit_xor n y) e ∙ ap (bit_xor (filter_place (key_of cube))) f;
-  within = step_within x y l k;
-}
+step_is cube to x y e f l k = grind (arith, common_steps, step_within)
 
 -- ---- the place of one cube from that of another
 

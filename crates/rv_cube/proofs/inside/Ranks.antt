@@ -2,7 +2,7 @@
 use Rattle.std.proofs.lemmas.Grind.{common_steps}
 use Rattle.std.proofs.Common.{◌≡◌, ◌≢◌, ℕ, zero, suc, ◌+◌, ◌-◌, ◌<◌, ◌≤◌, Bool, true, false, cond, eqb, List, ◌∷◌, ◌++◌, length, set, take, drop, refl, sym, ◌∙◌, ap, inl, inr, arith, eq-eqb, ne_eqb, length-set}
 use Rattle.std.specs.Option.{option_or}
-use Rattle.std.specs.Prelude.{Option, None, nat_lt}
+use Rattle.std.specs.Prelude.{Option, None, Some, nat_lt}
 use Rattle.std.specs.List.{remove}
 use Rattle.std.proofs.lemmas.Bool.{cases_eq, cases_lt, lt-ltb, le-ltb}
 use Rattle.std.proofs.lemmas.List.{get_or_past, set-get_or, set_split, take_all, take-set-le, get_or-take}
@@ -15,8 +15,8 @@ use Rattle.rv_cube.specs.Esop.{terms_of}
 use Rattle.rv_gate.specs.FirstAnswer.{first}
 use Rattle.rv_cube.specs.Reduction.{no_cube, at}
 use Rattle.rv_cube.specs.inside.Slots.{carries, full, list_place}
-use Rattle.rv_gate.proofs.FirstAnswer.{first_more, first_end}
-use Rattle.rv_cube.proofs.Searches.{cond_none}
+use Rattle.rv_gate.proofs.FirstAnswer.{first_more, first_end, none_first}
+use Rattle.rv_cube.proofs.Searches.{cond_none, first_found}
 use Rattle.rv_cube.proofs.inside.Full.{full_within}
 
 -- ---- the list around a slot
@@ -179,3 +179,15 @@ by_rank-full f slots i h = ap (λ t. cond t (f (list_place slots i)) None) h
 
 pub by_rank-none : {A : Type 0} (f : ℕ → Option A) (slots : List Cube) (i : ℕ) → (full slots i ≡ true → f (list_place slots i) ≡ None) → by_rank f slots i ≡ None
 by_rank-none f slots i h = cond_none (full slots i) (f (list_place slots i)) h
+
+-- the first slot with an answer, and none
+pub rank_found : {A : Type 0} (f : ℕ → Option A) (slots : List Cube) (a : ℕ) (x : A) → full slots a ≡ true → f (list_place slots a) ≡ Some x
+    → ((i : ℕ) → i < a → full slots i ≡ true → f (list_place slots i) ≡ None) → first f 0 (length (terms_of slots)) ≡ Some x
+rank_found f slots a x fa is before =
+    first-rank_all f slots
+    ∙ first_found (by_rank f slots) 0 (length slots) a x (omega arith) (let w = full_within slots a fa in omega arith) (by_rank-full f slots a fa ∙ is)
+    (λ i l u. by_rank-none f slots i (before i u))
+
+pub rank_none : {A : Type 0} (f : ℕ → Option A) (slots : List Cube) → ((i : ℕ) → full slots i ≡ true → f (list_place slots i) ≡ None)
+    → first f 0 (length (terms_of slots)) ≡ None
+rank_none f slots none = first-rank_all f slots ∙ none_first (by_rank f slots) 0 (length slots) (λ i l u. by_rank-none f slots i (none i))

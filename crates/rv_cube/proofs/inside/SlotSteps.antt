@@ -1,20 +1,26 @@
--- A step on slots is the step on the list of their cubes.
+-- A step on slots is the step on the list of their cubes, and what is found on the slots is the first step of the list.
 use Rattle.std.proofs.Common.{◌≡◌, ◌≢◌, ℕ, ◌+◌, ◌-◌, ◌<◌, Bool, true, false, cond, not, eqb, List, length, set, refl, sym, ◌∙◌, ap, inl, inr, arith}
 use Rattle.std.specs.Option.{option_or}
-use Rattle.std.specs.Prelude.{Option, None, Some, ◌⊎◌, nat_lt, option_map}
-use Rattle.std.proofs.lemmas.Bool.{ltb-true, ltb-false}
+use Rattle.std.specs.Prelude.{Option, None, Some, ◌⊎◌, nat_lt, option_map, All, Result, Ok, Err, IfOk, MatchOption}
+use Rattle.std.proofs.lemmas.Bool.{ltb-true, ltb-false, cases_Bool}
 use Rattle.std.proofs.lemmas.Option.{same_Some}
 use Rattle.rv_pla.specs.declared.cube.Cube.{Cube}
 use Rattle.rv_cube.specs.Esop.{terms_of}
 use Rattle.rv_cube.specs.Distance.{with_third}
 use Rattle.rv_gate.specs.FirstAnswer.{first}
-use Rattle.rv_cube.specs.Reduction.{no_cube, at, merge_by, standing, merged, merged_any, changed, exorlink_at, exorlink_at_by, first_exorlink, first_merge, form, merge_at, partner_at, with_partner}
-use Rattle.rv_cube.specs.inside.Slots.{carries, full, list_place, or_empty, merged_in, merged_in_any, moved, ranked, partner_in_at, partner_in, form_in, exorlink_in_by, exorlink_in, ExorlinksNone, IsFirstExorlink}
+use Rattle.rv_cube.specs.Reduction.{no_cube, at, merge_by, standing, merged, merged_any, changed, exorlink_at, exorlink_at_by, first_exorlink, first_merge, form, merge_at, partner_at, with_partner, IsSettled, are_adjacent, found_step, have_same_inputs}
+use Rattle.rv_cube.specs.inside.Slots.{carries, full, list_place, or_empty, merged_in, merged_in_any, moved, ranked, partner_in_at, partner_in, form_in, exorlink_in_by, exorlink_in, ExorlinksNone, IsFirstExorlink, IsKeyed, MergesNone, IsFirstMerge}
 use Rattle.rv_cube.specs.declared.step.Step.{Step}
 use Rattle.rv_cube.specs.declared.step.Step.TheVariants.{Merge, Exorlink}
-use Rattle.rv_cube.proofs.Searches.{first_found, first_none, first_same, option_or-map, first-map}
-use Rattle.rv_cube.proofs.inside.Full.{full_within, full_set-other, full_set}
-use Rattle.rv_cube.proofs.inside.Ranks.{at-rank, terms_of-set, terms_of-remove, eqb-rank, lt-rank, rank_set, rank_set-before, by_rank, by_rank-full, by_rank-none, first-rank_all, first-rank_after}
+use Rattle.rv_gate.proofs.FirstAnswer.{none_first}
+use Rattle.rv_cube.proofs.Searches.{first_found, first_same, option_or-map, first-map}
+use Rattle.rv_cube.proofs.inside.Full.{full_within, full_set-other, full_set, at_valid}
+use Rattle.rv_cube.proofs.inside.Ranks.{at-rank, terms_of-set, terms_of-remove, eqb-rank, lt-rank, rank_set, rank_set-before, by_rank, by_rank-full, by_rank-none, first-rank_all, first-rank_after, rank_found, rank_none}
+use Rattle.rv_pla.specs.Cube.{IsCube}
+use Rattle.rv_pla.specs.declared.cube.TheConstants.{MOST_OUTPUTS}
+use Rattle.rv_cube.specs.inside.Reducing.{IsNext}
+use Rattle.rv_cube.proofs.inside.Keys.{same_inputs_alike}
+use Rattle.rv_cube.proofs.inside.ExorlinksIn.{exorlink_in_is}
 
 -- ---- a search over pairs of places is one over pairs of full slots
 
@@ -27,14 +33,17 @@ row_found : (f : ℕ → ℕ → Option Step) (slots : List Cube) (a b : ℕ) (x
     → row f (length (terms_of slots)) (list_place slots a) ≡ Some x
 row_found f slots a b x ab fa fb is between =
     let g : ℕ → Option Step = f (list_place slots a) in
+    let w = full_within slots b fb in
     first-rank_after g slots a fa
-    ∙ first_found (by_rank g slots) (a + 1) (length slots) b x (omega arith) (full_within slots b fb) (by_rank-full g slots b fb ∙ is)
+    ∙ first_found (by_rank g slots) (a + 1) (length slots - (a + 1)) b x (omega arith) (omega arith) (by_rank-full g slots b fb ∙ is)
     (λ j l u. by_rank-none g slots j (between j (omega arith) u))
 
 row_none : (f : ℕ → ℕ → Option Step) (slots : List Cube) (a : ℕ) → full slots a ≡ true
     → ((j : ℕ) → a < j → full slots j ≡ true → f (list_place slots a) (list_place slots j) ≡ None)
     → row f (length (terms_of slots)) (list_place slots a) ≡ None
-row_none f slots a fa none = grind (arith, list_place, first-rank_after, first_none, by_rank, by_rank-none)
+row_none f slots a fa none =
+    let g : ℕ → Option Step = f (list_place slots a) in
+    first-rank_after g slots a fa ∙ none_first (by_rank g slots) (a + 1) (length slots - (a + 1)) (λ j l u. by_rank-none g slots j (none j (omega arith)))
 
 pairs_found : (f : ℕ → ℕ → Option Step) (slots : List Cube) (a b : ℕ) (x : Step) → a < b → full slots a ≡ true → full slots b ≡ true
     → f (list_place slots a) (list_place slots b) ≡ Some x
@@ -42,24 +51,14 @@ pairs_found : (f : ℕ → ℕ → Option Step) (slots : List Cube) (a b : ℕ) 
     → ((j : ℕ) → a < j → j < b → full slots j ≡ true → f (list_place slots a) (list_place slots j) ≡ None)
     → first (row f (length (terms_of slots))) 0 (length (terms_of slots)) ≡ Some x
 pairs_found f slots a b x ab fa fb is before between =
-    let g : ℕ → Option Step = row f (length (terms_of slots)) in
-    let z : length slots ≡ length slots - 0 = omega arith in
-    first-rank_all g slots
-    ∙ ap (first (by_rank g slots) 0) z
-    ∙ first_found (by_rank g slots) 0 (length slots) a x (omega arith) (full_within slots a fa)
-    (by_rank-full g slots a fa ∙ row_found f slots a b x ab fa fb is between)
-    (λ i l u. by_rank-none g slots i (λ fi. row_none f slots i fi (λ j ij fj. before i j u ij fi fj)))
+    rank_found (row f (length (terms_of slots))) slots a x fa (row_found f slots a b x ab fa fb is between)
+    (λ i u fi. row_none f slots i fi (λ j ij fj. before i j u ij fi fj))
 
 pairs_none : (f : ℕ → ℕ → Option Step) (slots : List Cube)
     → ((i j : ℕ) → i < j → full slots i ≡ true → full slots j ≡ true → f (list_place slots i) (list_place slots j) ≡ None)
     → first (row f (length (terms_of slots))) 0 (length (terms_of slots)) ≡ None
 pairs_none f slots none =
-    let g : ℕ → Option Step = row f (length (terms_of slots)) in
-    let z : length slots ≡ length slots - 0 = omega arith in
-    first-rank_all g slots
-    ∙ ap (first (by_rank g slots) 0) z
-    ∙ first_none (by_rank g slots) 0 (length slots)
-    (λ i l u. by_rank-none g slots i (λ fi. row_none f slots i fi (λ j ij fj. none i j ij fi fj)))
+    rank_none (row f (length (terms_of slots))) slots (λ i fi. row_none f slots i fi (λ j ij fj. none i j ij fi fj))
 
 -- ---- merges
 
@@ -122,7 +121,7 @@ forms_ranks n slots a b f s g t fa fb =
     grind (arith, option_or, terms_of, list_place, form_ranks, option_map, form_in, option_or-map)
 
 exorlink_by_ranks : (d : List ℕ) (n : ℕ) (slots : List Cube) (a b : ℕ) → full slots a ≡ true → full slots b ≡ true
-    → exorlink_at_by d n (terms_of slots) (list_place slots a) (list_place slots b) ≡ option_map (ranked slots) (exorlink_in_by d n slots a b)
+    → exorlink_at_by d n (terms_of slots) (list_place slots a) (list_place slots b) ≡ option_map (ranked slots) (exorlink_in_by d n slots a b (at slots a) (at slots b))
 exorlink_by_ranks d n slots a b h h2 = grind (arith, at-rank, forms_ranks)
 
 map-cond : (h : Step → Step) (t : Bool) (o : Option Step) → cond t (option_map h o) None ≡ option_map h (cond t o None)
@@ -212,3 +211,50 @@ moved_list n slots a b f s place partner ab fa fb cf cs which fp na nb =
     ∙ ap (λ l. merged_any n l (list_place both place) (list_place both partner)) list
     ∙ ap (λ r. merged_any n (set (set (terms_of slots) (list_place slots a) f) (list_place slots b) s) r (list_place both partner)) (same_rank place)
     ∙ ap (merged_any n (set (set (terms_of slots) (list_place slots a) f) (list_place slots b) s) (list_place slots place)) (same_rank partner)
+
+keyed_none : (n : ℕ) (slots : List Cube) → All (IsCube n MOST_OUTPUTS) slots → IsKeyed slots → first_merge (have_same_inputs n) (terms_of slots) ≡ None
+keyed_none n slots all keyed =
+    merge_none (have_same_inputs n) slots (λ i j lt fi fj. elim (cases_Bool (have_same_inputs n (at slots i) (at slots j))) [
+      | inl on ↦
+          (let e : i ≡ j = keyed i j fi fj (same_inputs_alike n MOST_OUTPUTS (at slots i) (at slots j) (at_valid n MOST_OUTPUTS slots i all) (at_valid n MOST_OUTPUTS slots j all) on) in
+          absurd (omega arith))
+      | inr off ↦ off
+    ])
+
+merges_none : (n : ℕ) (slots : List Cube) → ((a : ℕ) → MergesNone n slots a) → first_merge (are_adjacent n) (terms_of slots) ≡ None
+merges_none n slots h = merge_none (are_adjacent n) slots (λ i j lt fi fj. h i j lt fi fj)
+
+first_step_by : (n : ℕ) (cubes : List Cube) (x y : Option Step) → first_merge (have_same_inputs n) cubes ≡ None → first_merge (are_adjacent n) cubes ≡ x
+    → first_exorlink n cubes ≡ y → found_step n cubes ≡ option_or x y
+unfolding found_step
+first_step_by n cubes x y e f g = grind arith
+
+pub merge_is_next : (n : ℕ) (slots : List Cube) (a b : ℕ) → All (IsCube n MOST_OUTPUTS) slots → IsKeyed slots → IsFirstMerge n slots a b
+    → found_step n (terms_of slots) ≡ Some (Merge (list_place slots a) (list_place slots b))
+merge_is_next n slots a b all keyed h =
+    grind (arith, first_step_by, terms_of, list_place, first_exorlink, keyed_none, merge_first, are_adjacent)
+
+pub exorlink_is_next : (n : ℕ) (slots : List Cube) (a b : ℕ) (step : Step) → All (IsCube n MOST_OUTPUTS) slots → IsKeyed slots
+    → ((i : ℕ) → MergesNone n slots i) → IsFirstExorlink n slots a b step → found_step n (terms_of slots) ≡ Some (ranked slots step)
+exorlink_is_next n slots a b step all keyed none h =
+    grind (arith, first_step_by, terms_of, keyed_none, merges_none, exorlink_first)
+
+none_is_next : (n : ℕ) (slots : List Cube) → All (IsCube n MOST_OUTPUTS) slots → IsKeyed slots
+    → ((i : ℕ) → MergesNone n slots i) → ((i : ℕ) → ExorlinksNone n slots i) → found_step n (terms_of slots) ≡ None
+none_is_next n slots all keyed merges exorlinks =
+    first_step_by n (terms_of slots) None None (keyed_none n slots all keyed) (merges_none n slots merges) (exorlink_none n slots exorlinks)
+
+-- what was found is the next step
+found_next : (n : ℕ) (slots : List Cube) (o : Option Step) → All (IsCube n MOST_OUTPUTS) slots → IsKeyed slots → ((i : ℕ) → MergesNone n slots i)
+    → MatchOption o ((a : ℕ) → ExorlinksNone n slots a) (λ step. (a : ℕ) × (b : ℕ) × IsFirstExorlink n slots a b step)
+    → MatchOption o (IsSettled n (terms_of slots)) (IsNext n slots)
+found_next n slots None all keyed none h = ap (option_map (changed n (terms_of slots))) (none_is_next n slots all keyed none h)
+found_next n slots (Some (Merge i j)) all keyed none h = absurd (exorlink_in_is n slots h.0 h.1 (Merge i j) h.2.is)
+found_next n slots (Some (Exorlink i j f s place c)) all keyed none h = (none, h)
+
+pub exorlink_next : {E : Type 0} (n : ℕ) (slots : List Cube) (r : Result (Option Step) E) → All (IsCube n MOST_OUTPUTS) slots → IsKeyed slots
+    → ((i : ℕ) → MergesNone n slots i)
+    → IfOk r (λ o. MatchOption o ((a : ℕ) → ExorlinksNone n slots a) (λ step. (a : ℕ) × (b : ℕ) × IsFirstExorlink n slots a b step))
+    → IfOk r (λ o. MatchOption o (IsSettled n (terms_of slots)) (IsNext n slots))
+exorlink_next n slots (Ok o) all keyed none h = found_next n slots o all keyed none h
+exorlink_next n slots (Err e) all keyed none h = h

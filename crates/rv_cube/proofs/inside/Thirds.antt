@@ -1,7 +1,7 @@
 -- The pairs to which a third cube may bring an exorlink.
-use Rattle.std.proofs.Common.{◌≡◌, ◌≢◌, ℕ, ◌<◌, ◌≤◌, true, false, List, [], ◌∷◌, length, refl, sym, ◌∙◌, ap, subst, inl, inr, arith}
+use Rattle.std.proofs.Common.{◌≡◌, ◌≢◌, ℕ, ◌<◌, true, false, List, [], ◌∷◌, refl, sym, ◌∙◌, ap, subst, inl, inr, arith}
 use Rattle.std.specs.Prelude.{◌⊎◌, All}
-use Rattle.std.proofs.lemmas.Bool.{cases_eq, cases_Bool, false≢true, not-true}
+use Rattle.std.proofs.lemmas.Bool.{cases_eq, cases_Bool, not-true}
 use Rattle.rv_pla.specs.Cube.{Symbol, symbol, IsCube}
 use Rattle.rv_pla.specs.declared.cube.Cube.{Cube}
 use Rattle.rv_pla.specs.declared.cube.TheConstants.{MOST_OUTPUTS}
@@ -11,7 +11,8 @@ use Rattle.rv_cube.specs.inside.Slots.{full, is_alike, IsKeyed}
 use Rattle.rv_cube.specs.inside.Slotted.{IsBeside, IsTwoApart}
 use Rattle.rv_cube.specs.inside.Watching.{lower, IsLinkAcross, IsLinkFrom, IsThirdBy, IsThird}
 use Rattle.rv_cube.proofs.Symbols.{symbol_with-same, symbol_with-other}
-use Rattle.rv_cube.proofs.inside.Differing.{is_same-self, differs-same, differs-not, IsDiffering, differing_is, distance_two, DifferInBoth}
+use Rattle.rv_cube.specs.Settled.{DifferInTwo}
+use Rattle.rv_cube.proofs.inside.Differing.{is_same-self, differs-not, IsDiffering, differing_is, differ_not, not_three, differs-true}
 use Rattle.rv_cube.proofs.inside.Merges.{Mergeable, can_merge_Mergeable, with_third-outs}
 use Rattle.rv_cube.proofs.inside.Full.{at_valid}
 use Rattle.rv_cube.proofs.inside.Keys.{symbols_alike}
@@ -30,9 +31,6 @@ with_third-same x y p = symbol_with-same x p (third (symbol x p) (symbol y p))
 with_third-other : (x y : Cube) (p i : ℕ) → i ≢ p → symbol (with_third x y p) i ≡ symbol x i
 unfolding with_third
 with_third-other x y p i ne = symbol_with-other x p i (third (symbol x p) (symbol y p)) ne
-
-differ_not : (x y : Cube) (i : ℕ) → differs x y i ≡ true → symbol x i ≡ symbol y i → ⊥
-differ_not x y i d e = false≢true (sym (differs-same x y i e) ∙ d)
 
 -- ---- a form that can merge with a cube
 
@@ -97,15 +95,15 @@ unfolding with_third
 form_turned s e g u d h = ap (with_symbol e u) (ap (third (symbol e u)) h ∙ third_third (symbol e u) (symbol g u) (not-true _ d))
 
 third_by : (n : ℕ) (slots : List Cube) (k e g u w : ℕ) (r : List ℕ) → MeetsForm n (at slots k) (at slots e) (at slots g) u
-    → IsDiffering (at slots k) (at slots e) n r → length r ≤ 2 → differs (at slots k) (at slots e) u ≡ true
+    → IsDiffering (at slots k) (at slots e) n r → differs (at slots k) (at slots e) u ≡ true
     → w < n → full slots g ≡ true → IsTwoApart slots (at slots e) u w g → (at slots e).outs ≡ (at slots g).outs → IsThirdBy r n slots k e (lower e g)
-third_by n slots k e g u w [] m is l d wn fg x o = differ_not (at slots k) (at slots e) u d (is u m.u_in)
-third_by n slots k e g u w (p ∷ []) m is l d wn fg x o =
+third_by n slots k e g u w [] m is d wn fg x o = differ_not (at slots k) (at slots e) u d (is u m.u_in)
+third_by n slots k e g u w (p ∷ []) m is d wn fg x o =
     elim (cases_eq u p) [
       | inl same ↦ subst (λ i. IsLinkFrom slots e i n (lower e g)) same (w, wn, (g, fg, x, (o, refl)))
       | inr ne ↦ absurd (differ_not (at slots k) (at slots e) u d (is.2 u m.u_in ne))
     ]
-third_by n slots k e g u w (p ∷ q ∷ []) m is l d wn fg x o =
+third_by n slots k e g u w (p ∷ q ∷ []) m is d wn fg x o =
     let s : Cube = at slots k in
     let y : Cube = at slots e in
     let f = form_two n s y (at slots g) u p q m is in
@@ -118,19 +116,19 @@ third_by n slots k e g u w (p ∷ q ∷ []) m is l d wn fg x o =
         | inr np ↦ (elim (cases_eq u q) [ inl same ↦ inr (subst A same link) | inr nq ↦ absurd (differ_not s y u d (is.4 u m.u_in np nq)) ])
       ],
     )
-third_by n slots k e g u w (p ∷ q ∷ r ∷ rest) m is l d wn fg x o = absurd (omega arith)
+third_by n slots k e g u w (p ∷ q ∷ r ∷ rest) m is d wn fg x o =
+    absurd (not_three n (at slots k) (at slots e) u m.by.input p q r rest (form_same n (at slots k) (at slots e) (at slots g) u m) is)
 
 pub third_linked : (n : ℕ) (slots : List Cube) (k e g u w : ℕ) → All (IsCube n MOST_OUTPUTS) slots → IsKeyed slots → e ≢ k
     → full slots k ≡ true → full slots e ≡ true → full slots g ≡ true → (at slots e).outs ≡ (at slots g).outs
-    → DifferInBoth n (at slots e) (at slots g) u w → can_merge n (with_third (at slots e) (at slots g) u) (at slots k) ≡ true
+    → DifferInTwo n (at slots e) (at slots g) u w → can_merge n (with_third (at slots e) (at slots g) u) (at slots k) ≡ true
     → IsThird n slots k e (lower e g)
 third_linked n slots k e g u w all keyed ne fk fe fg o d h =
     let s : Cube = at slots k in
     let x : Cube = at slots e in
     let y : Cube = at slots g in
-    let m : MeetsForm n s x y u = record { u_in = d.p_in; turned = d.at_p; by = meets n u (with_third x y u) s h } in
+    let m : MeetsForm n s x y u = record { u_in = d.first; turned = differs-true x y u d.differ_first; by = meets n u (with_third x y u) s h } in
     let far : differs s x u ≡ true =
     form_apart n s x y u (at_valid n MOST_OUTPUTS slots k all) (at_valid n MOST_OUTPUTS slots e all) m (λ a. ne (sym (keyed k e fk fe a))) in
-    let few : length (differing n s x) ≤ 2 = distance_two n s x u m.by.input (form_same n s x y u m) in
-    third_by n slots k e g u w (differing n s x) m (differing_is n s x) few far d.q_in fg
+    third_by n slots k e g u w (differing n s x) m (differing_is n s x) far d.second fg
     (two_at n slots x g u w all (at_valid n MOST_OUTPUTS slots e all) d) o

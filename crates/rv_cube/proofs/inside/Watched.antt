@@ -1,24 +1,23 @@
 -- Which slots have to be looked at again after a cube was put into a slot.
 use Rattle.std.proofs.Common.{◌≡◌, ◌≢◌, ℕ, ◌<◌, Bool, true, false, cond, eqb, List, length, set, refl, subst, sym, ◌∙◌, ap, inl, inr, arith, length-set, get_or-set_same, get_or-set_other, ◌∷◌, []}
 use Rattle.std.specs.Option.{option_or}
-use Rattle.std.specs.Prelude.{Option, None, Some, All}
+use Rattle.std.specs.Prelude.{Option, None}
 use Rattle.std.proofs.lemmas.Bool.{cases_eq, eqb-true, false≢true, false_from_ne_true}
-use Rattle.rv_pla.specs.Cube.{IsCube}
 use Rattle.rv_pla.specs.declared.cube.Cube.{Cube}
-use Rattle.rv_pla.specs.declared.cube.TheConstants.{MOST_OUTPUTS}
 use Rattle.rv_cube.specs.Distance.{differing, with_third}
 use Rattle.rv_cube.specs.Reduction.{no_cube, at, can_merge, are_adjacent}
-use Rattle.rv_cube.specs.inside.Slots.{carries, full, is_alike, slot_of, merge_in, merged_in, settled_by, settled, partner_in, form_in, exorlink_in, is_due, IsWatched, StaysDue, IsPartner, merged_in_any}
+use Rattle.rv_cube.specs.inside.Slots.{carries, full, is_alike, merge_in, merged_in, settled, partner_in, form_in, exorlink_in_by, exorlink_in, is_due, IsWatched, StaysDue, IsPartner}
 use Rattle.rv_cube.specs.declared.step.Step.{Step}
-use Rattle.rv_cube.proofs.inside.Differing.{IsDiffering, differing_is, differing-comm, DifferInBoth, both_from, both_back, both_other}
+use Rattle.rv_cube.specs.Settled.{DifferInTwo}
+use Rattle.rv_cube.proofs.inside.Differing.{IsDiffering, differing_is, differing-comm, both_from, both_back, both_other}
 use Rattle.rv_cube.specs.inside.Watching.{lower}
 use Rattle.rv_cube.proofs.inside.DueRows.{lower_less, lower_more}
-use Rattle.rv_cube.proofs.inside.Finding.{outputs-comm}
+use Rattle.rv_cube.proofs.inside.PartnerSearches.{outputs-comm, partner_in-none, none_partner}
 use Rattle.rv_gate.proofs.FirstAnswer.{or_none}
 use Rattle.rv_cube.proofs.inside.Full.{full_within, full_cleared, apart_from}
-use Rattle.rv_cube.proofs.inside.Keys.{is_alike-self, is_alike-comm, is_alike-trans, slot_of-some}
-use Rattle.rv_cube.proofs.inside.PartnerSearches.{partner_in-none, none_partner}
-use Rattle.rv_cube.proofs.inside.MergesIn.{merge_in_alike, merged_in_first, merged_in_other, either_way, merged_in_gone}
+use Rattle.rv_cube.proofs.inside.Keys.{is_alike-self, is_alike-comm, is_alike-trans}
+use Rattle.rv_cube.proofs.inside.MergesIn.{merge_in_alike, merged_in_first, merged_in_other, merged_in_gone, settled_case}
+use Rattle.std.proofs.lemmas.Grind.{common_steps}
 
 none_or : (o p : Option Step) → o ≡ None → p ≡ None → option_or o p ≡ None
 none_or o p h i = ap (λ x. option_or x p) h ∙ i
@@ -28,20 +27,7 @@ none_or o p h i = ap (λ x. option_or x p) h ∙ i
 abbrev Lonely : ℕ → List Cube → ℕ → ℕ → Cube → Type 0
 Lonely n slots a b cube = (c : ℕ) → IsPartner n slots a b cube c → ⊥
 
--- ---- the exorlink of two cubes that are named
-
-abbrev exorlinked_in_by : List ℕ → ℕ → List Cube → ℕ → ℕ → Cube → Cube → Option Step
-exorlinked_in_by (p ∷ q ∷ []) n slots a b x y =
-    option_or (form_in n slots a b (with_third x y p) (with_third y x q)) (form_in n slots a b (with_third y x p) (with_third x y q))
-exorlinked_in_by [] n slots a b x y = None
-exorlinked_in_by (p ∷ []) n slots a b x y = None
-exorlinked_in_by (p ∷ q ∷ r ∷ rest) n slots a b x y = None
-
-abbrev exorlinked_in : ℕ → List Cube → ℕ → ℕ → Cube → Cube → Option Step
-exorlinked_in n slots a b x y = cond (eqb x.outs y.outs) (exorlinked_in_by (differing n x y) n slots a b x y) None
-
-exorlink_in_as : (n : ℕ) (slots : List Cube) (a b : ℕ) (x y : Cube) → at slots a ≡ x → at slots b ≡ y → exorlink_in n slots a b ≡ exorlinked_in n slots a b x y
-exorlink_in_as n slots a b x y ex ey = grind arith
+-- ---- the exorlink of two cubes
 
 cond_kept : (t : Bool) (o p : Option Step) → (t ≡ true → o ≡ None → p ≡ None) → cond t o None ≡ None → cond t p None ≡ None
 cond_kept t o p h h2 = grind arith
@@ -54,10 +40,10 @@ form_kept : (n : ℕ) (old new : List Cube) (a b : ℕ) (f s : Cube) → StaysLo
     → form_in n old a b f s ≡ None → form_in n new a b f s ≡ None
 form_kept n old new a b f s hf hs e = grind (arith, or_none, partner_in, none_or, partner_in-none, none_partner)
 
-exorlinked_in_by_kept : (r : List ℕ) (n : ℕ) (old new : List Cube) (a b : ℕ) (x y : Cube) → IsDiffering x y n r
-    → ((u w : ℕ) → DifferInBoth n x y u w → StaysLonely n old new a b (with_third x y u) × StaysLonely n old new a b (with_third y x u))
-    → exorlinked_in_by r n old a b x y ≡ None → exorlinked_in_by r n new a b x y ≡ None
-exorlinked_in_by_kept (p ∷ q ∷ []) n old new a b x y is h e =
+exorlink_in_by_kept : (r : List ℕ) (n : ℕ) (old new : List Cube) (a b : ℕ) (x y : Cube) → IsDiffering x y n r
+    → ((u w : ℕ) → DifferInTwo n x y u w → StaysLonely n old new a b (with_third x y u) × StaysLonely n old new a b (with_third y x u))
+    → exorlink_in_by r n old a b x y ≡ None → exorlink_in_by r n new a b x y ≡ None
+exorlink_in_by_kept (p ∷ q ∷ []) n old new a b x y is h e =
     let o = or_none (form_in n old a b (with_third x y p) (with_third y x q)) (form_in n old a b (with_third y x p) (with_third x y q)) e in
     let d = both_from n x y p q is in
     let at_p = h p q d in
@@ -65,7 +51,7 @@ exorlinked_in_by_kept (p ∷ q ∷ []) n old new a b x y is h e =
     none_or (form_in n new a b (with_third x y p) (with_third y x q)) (form_in n new a b (with_third y x p) (with_third x y q))
     (form_kept n old new a b (with_third x y p) (with_third y x q) at_p.0 at_q.1 o.0)
     (form_kept n old new a b (with_third y x p) (with_third x y q) at_p.1 at_q.0 o.1)
-exorlinked_in_by_kept o n old new a b x y is h e = refl
+exorlink_in_by_kept o n old new a b x y is h e = refl
 
 -- ---- a cube is put into slot k
 
@@ -77,7 +63,7 @@ record IsPut (n : ℕ) (old new : List Cube) (k : ℕ) (merging exorlinking : Li
   pair_due : (c : ℕ) → c ≡ k → full new c ≡ true → (g p q : ℕ) → g ≢ c → full new g ≡ true → (at new c).outs ≡ (at new g).outs
       → differing n (at new c) (at new g) ≡ p ∷ q ∷ [] → is_due exorlinking (lower c g) ≡ true
   third_due : (c : ℕ) → c ≡ k → full new c ≡ true → (e g u w : ℕ) → e ≢ c → full new e ≡ true → full new g ≡ true → (at new e).outs ≡ (at new g).outs
-      → DifferInBoth n (at new e) (at new g) u w → can_merge n (with_third (at new e) (at new g) u) (at new c) ≡ true
+      → DifferInTwo n (at new e) (at new g) u w → can_merge n (with_third (at new e) (at new g) u) (at new c) ≡ true
       → is_due exorlinking (lower e g) ≡ true
 
 not_due : (old new : List Bool) (a : ℕ) → StaysDue old new → is_due new a ≡ false → is_due old a ≡ false
@@ -140,17 +126,17 @@ put_exorlinks n old new k merging exorlinking p a b ab fa fb nd h =
         | inl e ↦ pair_none n new a b (λ i j o d. not_lower exorlinking a b a high nd
             (p.pair_due b e fb a i j (λ s. ba (sym s)) fa (sym o) (differing-comm n y x ∙ d)))
         | inr nb ↦
+            let Was : Cube → Cube → Type 0 = λ s t. cond (eqb s.outs t.outs) (exorlink_in_by (differing n s t) n old a b s t) None ≡ None in
             let was : exorlink_in n old a b ≡ None = h (full_other n old new k merging exorlinking p a fa na) (full_other n old new k merging exorlinking p b fb nb) in
-            exorlink_in_as n new a b x y refl refl
-            ∙ cond_kept (eqb x.outs y.outs) (exorlinked_in_by (differing n x y) n old a b x y) (exorlinked_in_by (differing n x y) n new a b x y)
-            (λ o. exorlinked_in_by_kept (differing n x y) n old new a b x y (differing_is n x y)
+            cond_kept (eqb x.outs y.outs) (exorlink_in_by (differing n x y) n old a b x y) (exorlink_in_by (differing n x y) n new a b x y)
+            (λ o. exorlink_in_by_kept (differing n x y) n old new a b x y (differing_is n x y)
             (λ u w d. (
               stays_lonely n old new k merging exorlinking p a b (with_third x y u) (λ c e fc m. not_lower exorlinking a a b low nd
                   (p.third_due c e fc a b u w (λ s. na (s ∙ e)) fa fb (eqb-true _ _ o) d m)),
               stays_lonely n old new k merging exorlinking p a b (with_third y x u) (λ c e fc m. not_lower exorlinking a b a high nd
                   (p.third_due c e fc b a u w (λ s. nb (s ∙ e)) fb fa (sym (eqb-true _ _ o)) (both_other n x y u w d) m)),
             )))
-            (sym (exorlink_in_as n old a b x y (sym (p.others a fa na)) (sym (p.others b fb nb))) ∙ was)
+            (subst (λ s. Was s y) (sym (p.others a fa na)) (subst (Was (at old a)) (sym (p.others b fb nb)) was))
       ]
     ]
 
@@ -188,7 +174,7 @@ pub record PairsDue (n : ℕ) (cube : Cube) (old new : List Cube) (merging exorl
   pub pair_due : (c : ℕ) → full new c ≡ true → is_alike (at new c) cube ≡ true → (g p q : ℕ) → at new g ≡ at old g → full new g ≡ true
       → (at new c).outs ≡ (at new g).outs → differing n (at new c) (at new g) ≡ p ∷ q ∷ [] → is_due exorlinking (lower c g) ≡ true
   pub third_due : (c : ℕ) → full new c ≡ true → is_alike (at new c) cube ≡ true → (e g u w : ℕ) → e ≢ c → at new e ≡ at old e
-      → full new e ≡ true → full new g ≡ true → (at new e).outs ≡ (at new g).outs → DifferInBoth n (at new e) (at new g) u w
+      → full new e ≡ true → full new g ≡ true → (at new e).outs ≡ (at new g).outs → DifferInTwo n (at new e) (at new g) u w
       → can_merge n (with_third (at new e) (at new g) u) (at new c) ≡ true → is_due exorlinking (lower e g) ≡ true
 
 -- the cube, or one with its inputs, stands at k
@@ -223,68 +209,28 @@ merged_in_put n old slots a b cube merging exorlinking ba la lb others ea eb d =
     let t : is_alike (merge_in n (at slots a) (at slots b)) (at slots a) ≡ true = merge_in_alike n (at slots a) (at slots b) both (sym (ap carries e) ∙ f) in
     ap (λ x. is_alike x cube) e ∙ is_alike-trans (merge_in n (at slots a) (at slots b)) (at slots a) cube t ea)
 
--- where a cube may be put, and the rows that are due before and after
-record IsSettling (n : ℕ) (slots : List Cube) (i : ℕ) (cube : Cube) (merges exorlinks new_merges new_exorlinks : List Bool) : Type 0 where
-  within : i < length slots
-  empty : full slots i ≡ false
-  watched : IsWatched n slots merges exorlinks
-  merges_stay : StaysDue merges new_merges
-  exorlinks_stay : StaysDue exorlinks new_exorlinks
-
-settled_watched : (n : ℕ) (slots : List Cube) (i : ℕ) (cube : Cube) (merges exorlinks new_merges new_exorlinks : List Bool) (new : List Cube) (k : ℕ)
-    → IsSettling n slots i cube merges exorlinks new_merges new_exorlinks → IsPut n slots new k new_merges new_exorlinks
-    → IsWatched n new new_merges new_exorlinks
-settled_watched n slots i cube merges exorlinks new_merges new_exorlinks new k s p =
-    watched_put n slots new k merges exorlinks new_merges new_exorlinks s.watched s.merges_stay s.exorlinks_stay p
-
-merged_in_watched : (n : ℕ) (slots : List Cube) (i : ℕ) (cube : Cube) (merges exorlinks new_merges new_exorlinks : List Bool) (j : ℕ)
-    → IsSettling n slots i cube merges exorlinks new_merges new_exorlinks → full slots j ≡ true → is_alike (at slots j) cube ≡ true
-    → PairsDue n cube slots (merged_in_any n (set slots i cube) i j) new_merges new_exorlinks
-    → IsWatched n (merged_in_any n (set slots i cube) i j) new_merges new_exorlinks
-merged_in_watched n slots i cube merges exorlinks new_merges new_exorlinks j s fj ej =
-    let within : i < length slots = s.within in
-    let both : List Cube = set slots i cube in
-    let len = length-set slots i cube in
-    let lj = full_within slots j fj in
-    let ne : j ≢ i = apart_from slots i j s.empty fj in
-    let li : i < length both = omega arith in
-    let mj : j < length both = omega arith in
-    let at_i : at both i ≡ cube = get_or-set_same slots i cube no_cube within in
-    let at_j : at both j ≡ at slots j = get_or-set_other slots i j cube no_cube ne in
-    let ei : is_alike (at both i) cube ≡ true = ap (λ x. is_alike x cube) at_i ∙ is_alike-self cube in
-    let fe : is_alike (at both j) cube ≡ true = ap (λ x. is_alike x cube) at_j ∙ ej in
-    let others : (c : ℕ) → c ≢ i → at both c ≡ at slots c = λ c nc. get_or-set_other slots i c cube no_cube nc in
-    let P : List Cube → Type 0 = λ l. PairsDue n cube slots l new_merges new_exorlinks → IsWatched n l new_merges new_exorlinks in
-    either_way P n both i j
-    (λ d. settled_watched n slots i cube merges exorlinks new_merges new_exorlinks (merged_in n both i j) i s
-    (merged_in_put n slots both i j cube new_merges new_exorlinks ne li mj (λ c ni nj. others c ni) ei fe d))
-    (λ d. settled_watched n slots i cube merges exorlinks new_merges new_exorlinks (merged_in n both j i) j s
-    (merged_in_put n slots both j i cube new_merges new_exorlinks (λ e. ne (sym e)) mj li (λ c nj ni. others c ni) fe ei d))
-
-settled_by_watched : (n : ℕ) (slots : List Cube) (i : ℕ) (cube : Cube) (merges exorlinks new_merges new_exorlinks : List Bool) (o : Option ℕ)
-    → IsSettling n slots i cube merges exorlinks new_merges new_exorlinks → slot_of slots cube ≡ o
-    → PairsDue n cube slots (settled_by o n slots i cube) new_merges new_exorlinks → IsWatched n (settled_by o n slots i cube) new_merges new_exorlinks
-settled_by_watched n slots i cube merges exorlinks new_merges new_exorlinks None s e d =
-    settled_watched n slots i cube merges exorlinks new_merges new_exorlinks (set slots i cube) i s
-    (near_put n slots (set slots i cube) i cube new_merges new_exorlinks d
-    (λ c f nc. get_or-set_other slots i c cube no_cube nc)
-    (λ f. ap (λ x. is_alike x cube) (get_or-set_same slots i cube no_cube s.within) ∙ is_alike-self cube))
-settled_by_watched n slots i cube merges exorlinks new_merges new_exorlinks (Some j) s e d =
-    let f = slot_of-some slots cube j e in
-    merged_in_watched n slots i cube merges exorlinks new_merges new_exorlinks j s f.0 f.1 d
-
 pub watched_settled : (n : ℕ) (slots : List Cube) (i : ℕ) (cube : Cube) (merges exorlinks new_merges new_exorlinks : List Bool)
-    → All (IsCube n MOST_OUTPUTS) slots → IsCube n MOST_OUTPUTS cube → carries cube ≡ true → i < length slots → full slots i ≡ false
-    → IsWatched n slots merges exorlinks → StaysDue merges new_merges → StaysDue exorlinks new_exorlinks
-    → PairsDue n cube slots (settled n slots i cube) new_merges new_exorlinks
-    → IsWatched n (settled n slots i cube) new_merges new_exorlinks
-watched_settled n slots i cube merges exorlinks new_merges new_exorlinks valid own some within empty h sm sr d =
-    settled_by_watched n slots i cube merges exorlinks new_merges new_exorlinks (slot_of slots cube)
-    (record { within = within; empty = empty; watched = h; merges_stay = sm; exorlinks_stay = sr }) refl d
+    → i < length slots → full slots i ≡ false → IsWatched n slots merges exorlinks → StaysDue merges new_merges → StaysDue exorlinks new_exorlinks
+    → PairsDue n cube slots (settled n slots i cube) new_merges new_exorlinks → IsWatched n (settled n slots i cube) new_merges new_exorlinks
+watched_settled n slots i cube merges exorlinks new_merges new_exorlinks within empty h sm sr =
+    let t : List Cube = set slots i cube in
+    let len = length-set slots i cube in
+    let others : (c : ℕ) → c ≢ i → at (set slots i cube) c ≡ at slots c = λ c nc. get_or-set_other slots i c cube no_cube nc in
+    let ei : is_alike (at (set slots i cube) i) cube ≡ true = ap (λ x. is_alike x cube) (get_or-set_same slots i cube no_cube within) ∙ is_alike-self cube in
+    let watched = λ (new : List Cube) (k : ℕ) (p : IsPut n slots new k new_merges new_exorlinks).
+    watched_put n slots new k merges exorlinks new_merges new_exorlinks h sm sr p in
+    settled_case (λ l. PairsDue n cube slots l new_merges new_exorlinks → IsWatched n l new_merges new_exorlinks) n slots i cube
+    (λ e d. watched t i (near_put n slots t i cube new_merges new_exorlinks d (λ c f nc. others c nc) (λ f. ei)))
+    (λ j fj aj.
+    let ne : j ≢ i = apart_from slots i j empty fj in
+    let lj = full_within slots j fj in
+    let li : i < length (set slots i cube) = omega arith in
+    let mj : j < length (set slots i cube) = omega arith in
+    let ej : is_alike (at (set slots i cube) j) cube ≡ true = ap (λ x. is_alike x cube) (others j ne) ∙ aj in (
+      λ d. watched (merged_in n t i j) i (merged_in_put n slots t i j cube new_merges new_exorlinks ne li mj (λ c ni nj. others c ni) ei ej d),
+      λ d. watched (merged_in n t j i) j (merged_in_put n slots t j i cube new_merges new_exorlinks (λ e. ne (sym e)) mj li (λ c nj ni. others c ni) ej ei d),
+    ))
 
 pub watched_all : (n : ℕ) (slots : List Cube) (merges exorlinks : List Bool) → ((a : ℕ) → a < length slots → is_due merges a ≡ true)
     → ((a : ℕ) → a < length slots → is_due exorlinks a ≡ true) → IsWatched n slots merges exorlinks
-watched_all n slots merges exorlinks m r = record {
-  merges = λ a nd b ab fa fb. absurd (false≢true (sym nd ∙ m a (full_within slots a fa)));
-  exorlinks = λ a nd b ab fa fb. absurd (false≢true (sym nd ∙ r a (full_within slots a fa)));
-}
+watched_all n slots merges exorlinks m r = grind (arith, common_steps, false≢true, full_within)

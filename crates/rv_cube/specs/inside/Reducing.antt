@@ -1,12 +1,13 @@
 -- What is asked of slots while their list is reduced.
-use Rattle.std.specs.Prelude.{ℕ, ◌<◌, ◌≢◌, ◌≡◌, true, Bool, List, length, Option, None, Some, All, MatchOption}
+use Rattle.std.specs.Prelude.{ℕ, ◌<◌, ◌≢◌, ◌≡◌, true, false, Bool, List, length, Option, None, Some, All, IfSome, MatchOption, slice_set}
 use Rattle.rv_pla.specs.declared.cube.Cube.{Cube}
 use Rattle.rv_pla.specs.Cube.{IsCube}
 use Rattle.rv_pla.specs.declared.cube.TheConstants.{MOST_OUTPUTS}
 use Rattle.rv_cube.specs.Distance.{differs}
 use Rattle.rv_cube.specs.Esop.{terms_of}
-use Rattle.rv_cube.specs.Reduction.{reduced}
+use Rattle.rv_cube.specs.Reduction.{no_cube, reduced}
 use Rattle.rv_cube.specs.inside.Slots.{carries, full, IsKeyed, settled, exorlink_in, MergesNone, ExorlinksNone, IsFirstMerge, IsFirstExorlink, IsPartner, IsWatched}
+use Rattle.rv_cube.specs.inside.Slotted.{Slotted}
 use Rattle.rv_cube.specs.declared.step.Step.{Step}
 use Rattle.rv_cube.specs.declared.step.Step.TheVariants.{Merge, Exorlink}
 
@@ -61,6 +62,20 @@ pub record IsExorlinked (n : ℕ) (slots : List Cube) (place other partner : ℕ
 abbrev pub settled_any : ℕ → List Cube → ℕ → Option Cube → List Cube
 settled_any n slots i None = slots
 settled_any n slots i (Some cube) = settled n slots i cube
+
+-- slots p, o and c are emptied
+abbrev pub emptied : List Cube → ℕ → ℕ → ℕ → List Cube
+emptied s p o c = slice_set (slice_set (slice_set s p no_cube) o no_cube) c no_cube
+
+-- what is asked where two cubes come into empty slots
+pub record ComesIn (s : Slotted) (low : ℕ) (one : Option Cube) (o : ℕ) (rest : Cube) : Type 0 where
+  pub low_within : low < length s.cubes
+  pub low_empty : full s.cubes low ≡ false
+  pub own : IfSome one (λ c. (carries c ≡ true) × IsCube s.inputs MOST_OUTPUTS c)
+  pub other_within : o < length (settled_any s.inputs s.cubes low one)
+  pub other_empty : full (settled_any s.inputs s.cubes low one) o ≡ false
+  pub other_carries : carries rest ≡ true
+  pub other_valid : IsCube s.inputs MOST_OUTPUTS rest
 
 -- what a step leaves: the list is reduced to the same as `made`, and shorter than the old one
 pub record Steps (n : ℕ) (old made new : List Cube) : Type 0 where

@@ -2,7 +2,7 @@
 --
 -- A slot whose cube carries no output is empty. The list is the cubes of the full slots, in their order
 -- (`terms_of`), so a slot has a place in the list, its list_place. A step on slots is a step on the list.
-use Rattle.std.specs.Prelude.{ℕ, zero, suc, ◌+◌, ◌<◌, ◌≢◌, ◌≡◌, ◌&&◌, ◌==◌, Bool, true, false, not, List, [], ◌∷◌, length, if◌then◌else◌, Option, None, Some, take, slice_set, slice_index_or, nat_lt}
+use Rattle.std.specs.Prelude.{ℕ, ◌<◌, ◌≢◌, ◌≡◌, ◌&&◌, ◌==◌, Bool, true, false, not, List, [], ◌∷◌, length, if◌then◌else◌, Option, None, Some, take, slice_set, slice_index_or, nat_lt}
 use Rattle.std.specs.Option.{option_or}
 use Rattle.std.specs.Map.{lookup}
 use Rattle.rv_pla.specs.declared.cube.Cube.{Cube}
@@ -45,14 +45,10 @@ abbrev pub IsKeyed : List Cube → Type 0
 IsKeyed slots =
     (i j : ℕ) → full slots i ≡ true → full slots j ≡ true → is_alike (at slots i) (at slots j) ≡ true → i ≡ j
 
--- the first of m slots from k on that is full and has the inputs of the cube
-unfoldable pub slot_from : List Cube → Cube → ℕ → ℕ → Option ℕ
-slot_from slots cube k zero = None
-slot_from slots cube k (suc m) =
-    if full slots k && is_alike (at slots k) cube then Some k else slot_from slots cube (k + 1) m
-
-abbrev pub slot_of : List Cube → Cube → Option ℕ
-slot_of slots cube = slot_from slots cube 0 (length slots)
+-- the first full slot with the inputs of the cube
+unfoldable pub slot_of : List Cube → Cube → Option ℕ
+slot_of slots cube =
+    first (λ k. if full slots k && is_alike (at slots k) cube then Some k else None) 0 (length slots)
 
 -- ---- what a step does
 
@@ -113,16 +109,16 @@ partner_in n slots a b f s place cube = first (partner_in_at n slots a b f s pla
 abbrev pub form_in : ℕ → List Cube → ℕ → ℕ → Cube → Cube → Option Step
 form_in n slots a b f s = option_or (partner_in n slots a b f s a f) (partner_in n slots a b f s b s)
 
-abbrev pub exorlink_in_by : List ℕ → ℕ → List Cube → ℕ → ℕ → Option Step
-exorlink_in_by (p ∷ q ∷ []) n slots a b =
-    option_or (form_in n slots a b (with_third (at slots a) (at slots b) p) (with_third (at slots b) (at slots a) q))
-    (form_in n slots a b (with_third (at slots b) (at slots a) p) (with_third (at slots a) (at slots b) q))
-exorlink_in_by _ n slots a b = None
+abbrev pub exorlink_in_by : List ℕ → ℕ → List Cube → ℕ → ℕ → Cube → Cube → Option Step
+exorlink_in_by (p ∷ q ∷ []) n slots a b x y =
+    option_or (form_in n slots a b (with_third x y p) (with_third y x q))
+    (form_in n slots a b (with_third y x p) (with_third x y q))
+exorlink_in_by _ n slots a b x y = None
 
 abbrev pub exorlink_in : ℕ → List Cube → ℕ → ℕ → Option Step
 exorlink_in n slots a b =
-    if (at slots a).outs == (at slots b).outs then exorlink_in_by (differing n (at slots a) (at slots b)) n slots a b
-    else None
+    if (at slots a).outs == (at slots b).outs
+    then exorlink_in_by (differing n (at slots a) (at slots b)) n slots a b (at slots a) (at slots b) else None
 
 -- no later slot becomes one with slot a by its outputs
 abbrev pub MergesNone : ℕ → List Cube → ℕ → Type 0

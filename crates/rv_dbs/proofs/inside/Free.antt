@@ -90,15 +90,12 @@ record Sparse (n k : ℕ) (ys : List ℕ) : Type 0 where
 top_bit : (m s : ℕ) → has s m ≡ true → 2 ^ m ≤ s
 top_bit m s on = grind (arith, cases_lt, bit_at_above, ne_eqb)
 
-later : (m s : ℕ) (a b : List ℕ) → length a ≡ 2 ^ m → 2 ^ m ≤ s → s < 2 ^ suc m → length b ≡ 2 ^ m → get_or (a ++ b) s 0 ≡ get_or b (s - 2 ^ m) 0
-later m s a b la low high lb = get_or-append_right a b (2 ^ m) s 0 la low
-
 sparse_top : (m : ℕ) (a b : List ℕ) → length a ≡ 2 ^ m → length b ≡ 2 ^ m → ((i : ℕ) → i < 2 ^ m → get_or b i 0 ≡ 0) → Sparse (suc m) m (a ++ b)
 sparse_top m a b la lb zeros = record {
   none = λ s l on.
       let high = top_bit m s on in
       let two = pow-suc 2 m in
-      later m s a b la high l lb ∙ zeros (s - 2 ^ m) (omega arith);
+      get_or-append_right a b (2 ^ m) s 0 la high ∙ zeros (s - 2 ^ m) (omega arith);
   few =
       let n0 = needed_none b (λ i l. zeros i (omega arith)) in
       let f = needed_few a in
@@ -116,7 +113,7 @@ sparse_low m k a b h la lb sa sb = record {
         | inr high ↦
             let whole : s ≡ 1 * 2 ^ m + (s - 2 ^ m) = omega arith in
             let bit : has (s - 2 ^ m) k ≡ true = ap (λ v. eqb v 1) (sym (bit_at_cat_low 1 m (s - 2 ^ m) k h)) ∙ ap (λ v. has v k) (sym whole) ∙ on in
-            later m s a b la high l lb ∙ sb.none (s - 2 ^ m) (omega arith) bit
+            get_or-append_right a b (2 ^ m) s 0 la high ∙ sb.none (s - 2 ^ m) (omega arith) bit
       ];
   few =
       let fa = sa.few in
@@ -149,28 +146,22 @@ other_high m k x hk h =
     let z : bit_xor 1 0 * 2 ^ m + other k x ≡ 2 ^ m + other k x = omega arith in
     ap (λ v. bit_xor v (2 ^ k)) a ∙ ap (bit_xor (1 * 2 ^ m + x)) b ∙ xor_block m 1 0 x (2 ^ k) h (pow_below k m hk) ∙ z
 
-low_at : (m x : ℕ) (t : List ℕ) → x < 2 ^ m → get_or (take (2 ^ m) t) x 0 ≡ get_or t x 0
-low_at m x t h = get_or-take (2 ^ m) t x 0 h
-
-high_at : (m x : ℕ) (t : List ℕ) → get_or (drop (2 ^ m) t) x 0 ≡ get_or t (2 ^ m + x) 0
-high_at m x t = get_or-drop (2 ^ m) t x 0
-
 -- without the bit that halves it, the halves are the same
 same_halves : (m : ℕ) (t : List ℕ) → length t ≡ 2 ^ suc m → IsFreeTable (suc m) m t → (x : ℕ) → x < 2 ^ m
     → get_or (xor_each (take (2 ^ m) t) (drop (2 ^ m) t)) x 0 ≡ 0
 same_halves m t len free x h =
-    grind (arith, pow-suc, low_half, high_half, get_or-xor_each, bit_xor, low_at, high_at, other_low, xor_self)
+    grind (arith, pow-suc, low_half, high_half, get_or-xor_each, bit_xor, get_or-take, get_or-drop, other_low, xor_self)
 
 -- without a lower bit, both halves are without it
 free_low : (m k : ℕ) (t : List ℕ) → k < m → IsFreeTable (suc m) k t → IsFreeTable m k (take (2 ^ m) t)
 free_low m k t hk free x h =
     let two = pow-suc 2 m in
-    low_at m (other k x) t (other_within m k x hk h) ∙ free x (omega arith) ∙ sym (low_at m x t h)
+    get_or-take (2 ^ m) t (other k x) 0 (other_within m k x hk h) ∙ free x (omega arith) ∙ sym (get_or-take (2 ^ m) t x 0 h)
 
 free_high : (m k : ℕ) (t : List ℕ) → k < m → IsFreeTable (suc m) k t → IsFreeTable m k (drop (2 ^ m) t)
 free_high m k t hk free x h =
     let two = pow-suc 2 m in
-    high_at m (other k x) t ∙ ap (λ v. get_or t v 0) (sym (other_high m k x hk h)) ∙ free (2 ^ m + x) (omega arith) ∙ sym (high_at m x t)
+    get_or-drop (2 ^ m) t (other k x) 0 ∙ ap (λ v. get_or t v 0) (sym (other_high m k x hk h)) ∙ free (2 ^ m + x) (omega arith) ∙ sym (get_or-drop (2 ^ m) t x 0)
 
 free_each : (m k : ℕ) (a b : List ℕ) → k < m → length a ≡ 2 ^ m → length b ≡ 2 ^ m → IsFreeTable m k a → IsFreeTable m k b → IsFreeTable m k (xor_each a b)
 free_each m k a b hk la lb fa fb x h =

@@ -2,7 +2,7 @@ use Rattle.std.proofs.Common.{◌≤◌, length, ap, ◌∙◌, arith}
 use Rattle.rv_pla.specs.declared.cube.Cube.{Cube}
 use Rattle.rv_cube.specs.Distance.{differing}
 use Rattle.rv_cube.specs.Reduction.{at}
-use Rattle.rv_cube.proofs.inside.Finding.{searched_end}
+use Rattle.rv_cube.proofs.inside.PartnerSearches.{searched_end}
 use Rattle.rv_cube.proofs.exorlink.first_exorlink_in.Goals as goal
 
 pub returns : goal.returns

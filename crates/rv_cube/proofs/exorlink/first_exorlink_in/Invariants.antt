@@ -1,4 +1,4 @@
-use Rattle.rv_cube.proofs.inside.Finding.{Searched}
+use Rattle.rv_cube.proofs.inside.PartnerSearches.{Searched}
 use Rattle.rv_cube.proofs.exorlink.first_exorlink_in.Given as goal
 
 abbrev pub invariant-loop-i : goal.invariant-loop-i

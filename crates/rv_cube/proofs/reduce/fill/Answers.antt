@@ -1,6 +1,6 @@
 use Rattle.std.proofs.Common.{◌<◌, length, refl, arith}
 use Rattle.rv_cube.specs.Reduction.{at}
-use Rattle.rv_cube.proofs.inside.Filling.{fills_more}
+use Rattle.rv_cube.proofs.inside.SettledList.{fills_more}
 use Rattle.rv_cube.proofs.reduce.fill.Goals as goal
 
 pub loop-i-preserved : goal.loop-i-preserved

@@ -1,4 +1,4 @@
-use Rattle.rv_cube.proofs.inside.Filling.{Fills}
+use Rattle.rv_cube.proofs.inside.SettledList.{Fills}
 use Rattle.rv_cube.proofs.reduce.fill.Given as goal
 
 abbrev pub invariant-loop-i : goal.invariant-loop-i

@@ -1,4 +1,4 @@
-use Rattle.rv_cube.proofs.inside.Finding.{merge_found}
+use Rattle.rv_cube.proofs.inside.PartnerSearches.{merge_found}
 use Rattle.rv_cube.proofs.reduction.merge_with.Goals as goal
 
 pub returns : goal.returns

@@ -1,8 +1,7 @@
-use Rattle.rv_cube.proofs.inside.MadeSteps.{merge_valid, merging}
+use Rattle.rv_cube.proofs.inside.OneStep.{merge_valid}
 use Rattle.rv_cube.proofs.reduction.Reduction.merge.Goals as goal
 
 pub put_any-requires-clause-valid : goal.put_any-requires-clause-valid
 put_any-requires-clause-valid c =
-    merge_valid c.args.self.now c.clear.new.self c.clear-2.new.self c.args.a c.args.b c.cube-x.result c.cube-y.result c.merge-one.result
-    (merging c.self.inside.slots c.args.self.now c.clear.new.self c.clear-2.new.self c.args.a c.args.b c.cube-x.result c.cube-y.result c.inputs.result c.merge-one.result
-    c.self.view_is c.self.invariant.valid c.self.invariant.keyed c.requires c.cube-x.ensures.value c.cube-y.ensures.value c.inputs.ensures.value c.merge-one.ensures c.clear.ensures c.clear-2.ensures)
+    merge_valid c.args.self.now c.clear.new.self c.clear-2.new.self c.args.a c.args.b c.inputs.result c.cube-x.result c.cube-y.result c.merge-one.result
+    c.cube-x.ensures.valid c.requires c.cube-x.ensures.value c.cube-y.ensures.value c.inputs.ensures.value c.merge-one.ensures c.clear.ensures c.clear-2.ensures

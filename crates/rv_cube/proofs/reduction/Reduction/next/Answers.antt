@@ -2,7 +2,7 @@ use Rattle.std.proofs.Common.{ℕ, subst}
 use Rattle.std.specs.Prelude.{IfOk, MatchOption}
 use Rattle.rv_cube.specs.inside.Slots.{ExorlinksNone, IsFirstExorlink}
 use Rattle.rv_cube.specs.inside.Slotted.{Slotted}
-use Rattle.rv_cube.proofs.inside.NextSteps.{exorlink_next}
+use Rattle.rv_cube.proofs.inside.SlotSteps.{exorlink_next}
 use Rattle.rv_cube.proofs.reduction.Reduction.next.Goals as goal
 
 pub returns-in-None-clause-found : goal.returns-in-None-clause-found
