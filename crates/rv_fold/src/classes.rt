@@ -6,7 +6,7 @@ ghost use Rattle.rv_gate.specs.declared.word.TheConstants.{MOST_LINES};
 
 use crate::firsts::Firsts;
 use crate::parities::Parity;
-use rv_gate::{LineSet, has};
+use rv_gate::LineSet;
 use std::alloc::{AllocError, Global};
 
 /// Where the classes begin, by the parities of their phase gates.
@@ -80,13 +80,13 @@ impl Classes {
         ensures count { length self.new.sinces.items ≡ length self.old.sinces.items }
         ensures firsts { self.new.firsts ≡ self.old.firsts }
     {
-        if lines == 0 {
-            return;
-        }
-        for line in 0..self.sinces.len() {
-            if has(lines, line as u8) {
+        let mut left = lines;
+        while left != 0 {
+            let line = left.trailing_zeros() as usize;
+            if line < self.sinces.len() {
                 self.sinces[line] = place + 1;
             }
+            left &= !(1 << line);
         }
     }
 }

@@ -7,7 +7,7 @@ ghost use Rattle.rv_fold.specs.inside.Shown.{parities_of};
 ghost use Rattle.rv_fold.specs.Parities.{parities_after, alone, combined, complemented, direct, restarted, restart_set};
 ghost use Rattle.rv_fold.specs.Parities.{same_parity, with_parity};
 
-use rv_gate::{LineSet, has};
+use rv_gate::LineSet;
 use rv_net::Op;
 use std::alloc::{AllocError, Global};
 
@@ -61,10 +61,13 @@ fn restart_lines(parities: &mut Vec<Parity>, set: LineSet)
     ensures parities { parities_of parities.new.items ≡ restarted set (parities_of parities.old.items) }
     ensures count { length parities.new.items ≡ length parities.old.items }
 {
-    for line in 0..parities.len() {
-        if has(set, line as u8) {
+    let mut left = set;
+    while left != 0 {
+        let line = left.trailing_zeros() as usize;
+        if line < parities.len() {
             parities[line] = Parity::alone(line as u8);
         }
+        left &= !(1 << line);
     }
 }
 

@@ -1,10 +1,11 @@
 -- Lists of the parities on lines.
 use Rattle.std.proofs.lemmas.Grind.{common_steps}
-use Rattle.std.proofs.Common.{◌≡◌, ℕ, ◌^◌, ◌<◌, ◌≤◌, false, List, [], ◌∷◌, ◌++◌, length, get_or, set, sym, ap, ◌∙◌, arith, inl, inr, get_or-set_same, get_or-set_other, eq-eqb, ne_eqb, length-append}
+use Rattle.std.proofs.Common.{◌≡◌, ℕ, ◌^◌, ◌<◌, ◌≤◌, false, cond, List, [], ◌∷◌, ◌++◌, length, get_or, set, sym, ap, ◌∙◌, arith, inl, inr, get_or-set_same, get_or-set_other, eq-eqb, ne_eqb, length-append}
 use Rattle.std.proofs.Math.ListN.{get_or-append}
 use Rattle.std.proofs.lemmas.List.{get_or_past, get_or_push}
 use Rattle.std.proofs.lemmas.Bool.{cases_eq, cases_lt}
-use Rattle.rv_fold.specs.Parities.{alone, with_parity, Parity}
+use Rattle.rv_gate.specs.Word.{has}
+use Rattle.rv_fold.specs.Parities.{alone, with_parity, restarted, Parity}
 use Rattle.rv_fold.specs.inside.Shown.{parities_of}
 
 -- the line by itself, as the code has it
@@ -35,3 +36,6 @@ with_parity_set list q f h =
 
 pub parity_read : (list : List Parity) (k : ℕ) (d : Parity) → k < length list → get_or list k d ≡ parities_of list k
 parity_read list k d h = grind (arith, common_steps)
+
+pub restarted_all : (list before : List Parity) (set : ℕ) → length list ≤ 64 → length before ≤ 64 → ((line : ℕ) → line < 64 → parities_of list line ≡ cond (has set line) (alone line) (parities_of before line)) → parities_of list ≡ restarted set (parities_of before)
+restarted_all list before set few small each = grind (arith, parities_of, cases_lt, parities_of_past)

@@ -1,12 +1,15 @@
-use Rattle.std.proofs.Common.{◌≡◌, ℕ, ◌<◌, ◌≤◌, length, cond}
+use Rattle.std.proofs.Common.{◌≡◌, ℕ, ◌<◌, length, cond, false, true}
 use Rattle.rv_gate.specs.Word.{has}
 use Rattle.rv_fold.specs.Parities.{alone}
 use Rattle.rv_fold.specs.inside.Shown.{parities_of}
 use Rattle.rv_fold.proofs.parities.restart_lines.Given as goal
 
-abbrev pub invariant-loop-line : goal.invariant-loop-line
-invariant-loop-line l = record {
+abbrev pub invariant-loop-left : goal.invariant-loop-left
+invariant-loop-left l = record {
   count : length l.parities.items ≡ length l.initial.parities.items;
-  done : (k : ℕ) → k < l.line → parities_of l.parities.items k ≡ cond (has l.set k) (alone k) (parities_of l.initial.parities.items k);
-  rest : (k : ℕ) → l.line ≤ k → parities_of l.parities.items k ≡ parities_of l.initial.parities.items k;
+  among : (line : ℕ) → line < 64 → has l.left line ≡ true → has l.set line ≡ true;
+  done : (line : ℕ) → line < 64 → has l.left line ≡ false → parities_of l.parities.items line ≡ cond (has l.set line) (alone line) (parities_of l.initial.parities.items line);
 }
+
+abbrev pub decreases-loop-left : goal.decreases-loop-left
+decreases-loop-left l = l.left
