@@ -19,9 +19,8 @@ use Rattle.rv_faults.specs.declared.fault.InputFault.{InputFault}
 use Rattle.rv_faults.specs.declared.fault.Refusal.{Refusal}
 use Rattle.rv_faults.specs.declared.fault.Refusal.TheVariants.{Refused}
 use Rattle.rv_inputs.specs.Formats.{refused_at}
-use Rattle.rv_cmd.specs.declared.product.Product.{Product}
 use Rattle.rv_cmd.specs.declared.product.Product.TheVariants.{Circuit}
-use Rattle.rv_cmd.specs.Commands.Templates.{IsSimplified, library_with, no_template, simplified_by, template_limits, templates_report}
+use Rattle.rv_cmd.specs.Commands.Templates.{IsSimplified, no_template, simplified_by, template_limits}
 use Rattle.rv_cmd.specs.Limits.{AreKept, unlimited}
 use Rattle.rv_cmd.specs.inside.Products.{IsProductOf, IsRefusalOf}
 
@@ -101,12 +100,3 @@ simplified-answers library c simpler old new from to value frame same settled fe
       means = templates-means library given (subst IsCascade is valid) (subst DoesAs value same) few (subst AddsNone value no_more) (subst (NoStepLeft library) value settled)
           (subst (IsSimplifiedBy library (gates_in old.nodes)) value steps);
     })
-
--- by a library with a given template
-pub templates-answers : (c given : Cascade) (library : List (List Shape)) (product : Product) → AreKept (template_limits given) → library ≡ library_with given
-    → IsProductOf (unlimited (text_of (simplified_by library c))) (IsSimplified library c) product
-    → IsProductOf (templates_report c given) (IsSimplified (library_with given) c) product
-templates-answers c given library product kept is made =
-    let By : List (List Shape) → Type 0 = λ l. IsProductOf (unlimited (text_of (simplified_by l c))) (IsSimplified l c) product in
-    let by : By (library_with given) = subst By is made in
-    record { kept = kept; is = by.is; means = by.means }

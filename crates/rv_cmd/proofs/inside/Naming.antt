@@ -1,15 +1,11 @@
 -- The names that a run reads.
-use Rattle.std.proofs.Common.{◌≡◌, ℕ, ◌<◌, ◌≤◌, Bool, List, [], ◌∷◌, ◌++◌, length, get_or, true, false, Option, Some, None, Ok, Err, refl, ap, sym, ◌∙◌, arith, length-append}
-use Rattle.std.specs.Prelude.{slice_get}
-use Rattle.std.proofs.Math.Seq.{get_or-append_seam}
+use Rattle.std.proofs.Common.{◌≡◌, ℕ, ◌<◌, ◌≤◌, Bool, List, [], ◌∷◌, ◌++◌, length, true, false, Option, None, Ok, Err, refl, ap, ◌∙◌, arith}
 use Rattle.std.proofs.lemmas.Bool.{true≢false}
-use Rattle.std.proofs.lemmas.Option.{get_or_from_slice_get, none-some, same_Some}
-use Rattle.std.proofs.lemmas.List.{append-nil, get_or_append_left}
+use Rattle.std.proofs.lemmas.List.{append-nil}
 use Rattle.rv_words.specs.Settings.{IsAsked}
 use Rattle.rv_words.specs.Table.{is_used, usage_of}
 use Rattle.rv_words.specs.declared.asked.Settings.{Settings}
 use Rattle.rv_words.specs.declared.command.Command.{Command}
-use Rattle.rv_words.specs.declared.command.Command.TheVariants.{Templates}
 use Rattle.rv_faults.specs.declared.fault.Fault.{Fault}
 use Rattle.rv_faults.specs.declared.fault.Fault.TheVariants.{CannotRead, CannotWrite, Refused, TooLong, OutOfMemory}
 use Rattle.rv_cmd.specs.declared.run_end.RunEnd.{RunEnd}
@@ -48,39 +44,6 @@ names_read-nothing settings command asked is none most = empty (names_read setti
     empty : (names : List (List ℕ)) → length names ≡ 0 → names ≡ []
     empty [] zero = refl
     empty (name ∷ names) zero = absurd (omega (arith, zero))
-
--- where a library may be given: with it, and without it
-pub names_read-given : (settings : Settings) (name : List ℕ) → IsAsked settings → settings.command ≡ Templates → settings.library ≡ Some name → length (names_read settings) ≡ 2
-names_read-given settings name asked is given =
-    let library : library_read (is_used settings.command LIBRARY) settings.library ≡ name ∷ [] =
-    ap (λ c. library_read (is_used c LIBRARY) settings.library) is ∙ ap (library_read true) given in
-    let count : length settings.inputs ≡ 1 = asked.inputs ∙ ap (λ c. (usage_of c).most) is in
-    ap (λ more. length (settings.inputs ++ more)) library ∙ length-append settings.inputs (name ∷ []) ∙ omega (arith, count)
-
-pub names_read-none : (settings : Settings) → IsAsked settings → settings.command ≡ Templates → settings.library ≡ None → length (names_read settings) ≡ 1
-names_read-none settings asked is none =
-    ap length (names_read-alone settings (ap (λ c. library_read (is_used c LIBRARY) settings.library) is ∙ ap (library_read true) none))
-    ∙ asked.inputs ∙ ap (λ c. (usage_of c).most) is
-
--- ---- the name at a place
-
-pub name_at-input : (settings : Settings) (input : ℕ) (name : List ℕ) → input < length settings.inputs → slice_get settings.inputs input ≡ Some name → name ≡ name_at (names_read settings) input
-name_at-input settings input name within is =
-    sym (get_or_append_left settings.inputs (library_read (is_used settings.command LIBRARY) settings.library) [] input within ∙ get_or_from_slice_get settings.inputs input name [] is)
-
-pub name_at-library : (settings : Settings) (input : ℕ) (name : List ℕ) → length settings.inputs ≤ input → input < length (names_read settings) → settings.library ≡ Some name
-    → name ≡ name_at (names_read settings) input
-name_at-library settings input name after within is = last (is_used settings.command LIBRARY) settings.library is within
-  where
-    last : (used : Bool) (library : Option (List ℕ)) → library ≡ Some name → input < length (settings.inputs ++ library_read used library)
-        → name ≡ name_at (settings.inputs ++ library_read used library) input
-    last false library is within = let count = length-append settings.inputs [] in absurd (omega (arith, count))
-    last true None is within = absurd (none-some name is)
-    last true (Some given) is within =
-        let count = length-append settings.inputs (given ∷ []) in
-        let at : length settings.inputs ≡ input = omega (arith, count) in
-        let same : given ≡ name = same_Some given name is in
-        sym same ∙ sym (ap (λ place. get_or (settings.inputs ++ given ∷ []) place []) (sym at) ∙ get_or-append_seam settings.inputs given [] [])
 
 pub no_name : (settings : Settings) (input : ℕ) → length settings.inputs ≤ input → input < length (names_read settings) → settings.library ≡ None → ⊥
 no_name settings input after within none =
