@@ -1,6 +1,6 @@
 -- An operation that is no H takes different words to different words, since it takes each word back.
 use Rattle.rv_gate.proofs.Bits.{xor_back, not_not}
-use Rattle.std.proofs.Common.{arith, ◌≡◌, ◌≢◌, ℕ, ◌<◌, Bool, true, false, cond, not, ◌&&◌, List, length, set, refl, sym, ap, ap₂, ◌∙◌, get_or-set_same, get_or-set_other, set-set, length-set, subst}
+use Rattle.std.proofs.Common.{arith, ◌≡◌, ◌≢◌, ℕ, ◌<◌, Bool, false, not, ◌&&◌, List, length, set, refl, sym, ap, ap₂, ◌∙◌, get_or-set_same, get_or-set_other, set-set, length-set}
 use Rattle.std.proofs.lemmas.List.{set_comm, set-get_or}
 use Rattle.rv_gate.specs.Gate.{xor}
 use Rattle.rv_gate.specs.Word.{bit_of}
@@ -28,22 +28,8 @@ goes_back (Cx a b) y h =
     one_back y b _ _ (ap₂ xor (there y b a _ h.2) (here y b _ h.1) ∙ xor_back (bit_of y a) (bit_of y b))
 goes_back (Ccx a b c) y h =
     one_back y c _ _ (ap₂ xor (ap₂ (λ u v. u && v) (there y c a _ h.4) (there y c b _ h.5)) (here y c _ h.2) ∙ xor_back (bit_of y a && bit_of y b) (bit_of y c))
-goes_back (Swap a b) y h =
-    two_back y a b _ _ _ _ h.2
-    (here (set y a (bit_of y b)) b (bit_of y a) (subst (λ n. b < n) (sym (length-set y a (bit_of y b))) h.1))
-    (there (set y a (bit_of y b)) b a (bit_of y a) h.2 ∙ here y a (bit_of y b) h.0)
-goes_back (Cswap c a b) y h =
-    let p = cond (bit_of y c) (bit_of y b) (bit_of y a) in
-    let q = cond (bit_of y c) (bit_of y a) (bit_of y b) in
-    let at_c : bit_of (set (set y a p) b q) c ≡ bit_of y c = there (set y a p) b c q h.4 ∙ there y a c p h.3 in
-    let at_a : bit_of (set (set y a p) b q) a ≡ p = there (set y a p) b a q h.5 ∙ here y a p h.1 in
-    let at_b : bit_of (set (set y a p) b q) b ≡ q = here (set y a p) b q (subst (λ n. b < n) (sym (length-set y a p)) h.2) in
-    two_back y a b p q _ _ h.5
-    ((λ i. cond (at_c i) (at_b i) (at_a i)) ∙ chosen (bit_of y c) (bit_of y a) (bit_of y b))
-    ((λ i. cond (at_c i) (at_a i) (at_b i)) ∙ chosen (bit_of y c) (bit_of y b) (bit_of y a)) where
-      chosen : (c u v : Bool) → cond c (cond c u v) (cond c v u) ≡ u
-      chosen true u v = refl
-      chosen false u v = refl
+goes_back (Swap a b) y h = grind (arith, two_back, here, length-set, there)
+goes_back (Cswap c a b) y h = grind (arith, there, here, length-set, two_back)
 goes_back o y h = refl
 
 pub goes_apart : (op : Op) (y z : List Bool) → OpFitsIn op (length y) → OpFitsIn op (length z) → y ≢ z → goes_to op y ≢ goes_to op z

@@ -22,10 +22,7 @@ or_none o = grind arith
 first_last : {A : Type 0} (f : ℕ → Option A) (k m : ℕ) → first f k (m + 1) ≡ option_or (first f k m) (f (k + m))
 unfolding first
 first_last f k zero = let e : k + 0 ≡ k = omega arith in let z : 0 + 1 ≡ suc 0 = omega arith in ap (first f k) z ∙ or_none (f k) ∙ ap f (sym e)
-first_last f k (suc m) =
-    let e : k + 1 + m ≡ k + suc m = omega arith in
-    let s : suc m + 1 ≡ suc (m + 1) = omega arith in
-    ap (first f k) s ∙ ap (option_or (f k)) (first_last f (k + 1) m) ∙ or_assoc (f k) (first f (k + 1) m) (f (k + 1 + m)) ∙ ap (λ n. option_or (option_or (f k) (first f (k + 1) m)) (f n)) e
+first_last f k (suc m) = let i0 = first_last f (k + 1) m in grind (arith, i0, or_assoc)
 
 pub difference_more : (gates : List Shape) (net : Network) (number : ℕ) (before : Option ℕ) (agreed : Bool) → before ≡ first (difference_at gates net) 0 number
     → agreed ≡ agrees net.ops (word_of net.lines number) (run gates (word_of net.lines number))

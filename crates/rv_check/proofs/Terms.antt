@@ -1,6 +1,6 @@
 -- The reduced vector is the whole one in lowest terms.
 use Rattle.std.proofs.Common.{◌≡◌, ◌≢◌, ℕ, zero, suc, Bool, true, false, cond, ◌&&◌, List, [], ◌∷◌, map, take, refl, sym, ap, ap₂, ◌∙◌, arith, inl, inr, ◌⊎◌}
-use Rattle.std.proofs.lemmas.Bool.{false≢true, and_parts}
+use Rattle.std.proofs.lemmas.Bool.{false≢true}
 use Rattle.std.specs.List.{list_all}
 use Rattle.rv_net.specs.Cyclotomic.{Cyclotomic, power, root2, times}
 use Rattle.rv_net.proofs.Cyclotomic.{unity_times}
@@ -19,9 +19,7 @@ undivided (u ∷ members) = ap₂ (λ v l. v ∷ l) (sym (unity_times u)) (undiv
 
 divided_once : (members : List Cyclotomic) → list_all is_multiple members ≡ true → members ≡ map (times root2) (map quotient members)
 divided_once [] e = refl
-divided_once (u ∷ members) e =
-    let b = and_parts (is_multiple u) (list_all is_multiple members) e in
-    ap₂ (λ v l. v ∷ l) (sym (root2_quotient u b.0)) (divided_once members b.1)
+divided_once (u ∷ members) e = let i0 = divided_once members in grind (arith, i0, ap₂, root2_quotient)
 
 once_more : (divisions : ℕ) (members : List Cyclotomic) → map (times root2) (map (times (power root2 divisions)) members) ≡ map (times (power root2 (suc divisions))) members
 unfolding power

@@ -1,7 +1,7 @@
 -- Words that are the same.
 use Rattle.rv_gate.proofs.Words.{same_word-true, same_word-false}
-use Rattle.std.proofs.Common.{◌≡◌, ◌≢◌, eqb, eq-eqb, Bool, true, false, ◌&&◌, List, [], ◌∷◌, length, refl, sym, ap, ap₂, ◌∙◌, arith}
-use Rattle.std.proofs.lemmas.Bool.{false≢true, eqb-true}
+use Rattle.std.proofs.Common.{◌≡◌, ◌≢◌, eqb, eq-eqb, Bool, true, false, ◌&&◌, List, [], ◌∷◌, length, refl, ap, ap₂, arith}
+use Rattle.std.proofs.lemmas.Bool.{eqb-true}
 use Rattle.rv_gate.specs.Word.{ones_of}
 use Rattle.rv_net.specs.Amplitude.{same_word}
 
@@ -20,10 +20,7 @@ pub same_from_test : (x y : List Bool) → (eqb (length x) (length y) && eqb (on
 same_from_test x y e = grind (arith, ones_of, same_from_ones, eqb-true)
 
 pub other_from_test : (x y : List Bool) → (eqb (length x) (length y) && eqb (ones_of x) (ones_of y)) ≡ false → x ≢ y
-other_from_test x y e same =
-    let p = eq-eqb (length x) (length y) (ap length same) in
-    let q = eq-eqb (ones_of x) (ones_of y) (ap ones_of same) in
-    false≢true (sym e ∙ ap₂ (λ a b. a && b) p q)
+other_from_test x y e same = grind (arith, eq-eqb, ap₂)
 
 pub same_word_test : (x y : List Bool) → (eqb (length x) (length y) && eqb (ones_of x) (ones_of y)) ≡ same_word x y
 same_word_test x y = grind (arith, ones_of, same_word, same_word-true, same_from_test, same_word-false, other_from_test)

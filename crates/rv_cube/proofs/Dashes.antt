@@ -1,16 +1,16 @@
 -- A step keeps the inputs that are `-` in every cube.
-use Rattle.std.proofs.Common.{◌≡◌, ℕ, Bool, cond, eqb, List, [], ◌∷◌, length, set, sym, ◌∙◌, ap, inl, inr, subst, arith, ne_eqb}
+use Rattle.std.proofs.Common.{◌≡◌, ℕ, Bool, cond, eqb, List, [], ◌∷◌, length, set, ap, arith, ne_eqb}
 use Rattle.std.proofs.lemmas.List.{get_or_past}
 use Rattle.std.specs.Prelude.{Option, None, Some, nat_lt}
 use Rattle.std.specs.List.{remove}
-use Rattle.std.proofs.lemmas.Bool.{cases_eq, cases_lt, cond_both}
-use Rattle.std.proofs.lemmas.List.Elements.{All-set, All-get_or}
+use Rattle.std.proofs.lemmas.Bool.{cond_both}
+use Rattle.std.proofs.lemmas.List.Elements.{All-set}
 use Rattle.std.proofs.lemmas.Nat.Bits.{bit_at-zero}
 use Rattle.rv_gate.specs.Word.{has}
 use Rattle.rv_pla.specs.Cube.{Dash, symbol, symbol_of}
 use Rattle.rv_pla.specs.declared.cube.Cube.{Cube}
 use Rattle.rv_cube.specs.Dashes.{IsDashed}
-use Rattle.rv_cube.specs.Distance.{differing, third, with_third}
+use Rattle.rv_cube.specs.Distance.{differing, with_third}
 use Rattle.rv_cube.specs.Reduction.{no_cube, at, have_same_inputs, are_adjacent, merge_by, standing, merged, merged_any, changed, merge_at, first_merge, with_partner, form, exorlink_at_by, exorlink_at, found_step, first_step, reduced}
 use Rattle.rv_cube.specs.declared.step.Step.{Step}
 use Rattle.rv_cube.specs.declared.step.Step.TheVariants.{Merge, Exorlink}
@@ -27,23 +27,11 @@ no_cube_dash : (input : ℕ) → IsDash input no_cube
 no_cube_dash input = let z = bit_at-zero input in ap (λ b. symbol_of b (has 0 input)) (ne_eqb _ 1 (omega arith))
 
 at_dash : (input : ℕ) (cubes : List Cube) (place : ℕ) → IsDashed input cubes → IsDash input (at cubes place)
-at_dash input cubes place all =
-    elim (cases_lt place (length cubes)) [
-      | inl within ↦ All-get_or (IsDash input) cubes place no_cube within all
-      | inr past ↦ (let P : Cube → Type 0 = IsDash input in subst P (sym (get_or_past cubes place no_cube past)) (no_cube_dash input))
-    ]
+at_dash input cubes place all = grind (arith, get_or_past, no_cube_dash)
 
 third_dash : (input : ℕ) (a b : Cube) (p : ℕ) → IsDash input a → IsDash input b → IsDash input (with_third a b p)
 unfolding with_third
-third_dash input a b p ha hb =
-    elim (cases_eq input p) [
-      | inl same ↦
-          let P : ℕ → Type 0 = λ i. symbol (with_third a b p) i ≡ Dash in
-          let ea : symbol a p ≡ Dash = ap (symbol a) (sym same) ∙ ha in
-          let eb : symbol b p ≡ Dash = ap (symbol b) (sym same) ∙ hb in
-          subst P (sym same) (symbol_with-same a p (third (symbol a p) (symbol b p)) ∙ ap (λ s. third s (symbol b p)) ea ∙ ap (third Dash) eb)
-      | inr other ↦ symbol_with-other a p input (third (symbol a p) (symbol b p)) other ∙ ha
-    ]
+third_dash input a b p ha hb = grind (arith, symbol_with-same, symbol_with-other)
 
 -- what two cubes become, if anything
 abbrev pub IsDashIn : ℕ → Option Cube → Type 0

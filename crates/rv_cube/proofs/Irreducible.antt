@@ -161,9 +161,7 @@ one-from n x y (p ∷ []) is one outs =
 one-from n x y (p ∷ q ∷ rest) is one outs = absurd (let z = eqb-true (length (p ∷ q ∷ rest)) 1 one in omega (arith, z))
 
 adjacent-from : (n : ℕ) (x y : Cube) → are_adjacent n x y ≡ true → AreAdjacent n x y
-adjacent-from n x y holds =
-    let parts = and_parts (eqb x.outs y.outs) (eqb (distance n x y) 1) holds in
-    one-from n x y (differing n x y) refl parts.1 (eqb-true x.outs y.outs parts.0)
+adjacent-from n x y holds = grind (arith, one-from, eqb-true)
 
 merge-from : (n : ℕ) (x y : Cube) → can_merge n x y ≡ true → Merge n x y
 merge-from n x y holds = elim (cases_Bool (have_same_inputs n x y)) [

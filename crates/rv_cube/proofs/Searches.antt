@@ -1,10 +1,9 @@
 -- The search for the first answer.
-use Rattle.std.proofs.Common.{◌≡◌, ℕ, suc, ◌+◌, ◌-◌, ◌<◌, ◌≤◌, refl, ◌∙◌, ap, arith, zero, Bool, true, false, cond, List, length, subst, inl, inr}
+use Rattle.std.proofs.Common.{◌≡◌, ℕ, suc, ◌+◌, ◌-◌, ◌<◌, ◌≤◌, refl, ◌∙◌, ap, arith, zero, Bool, true, false, cond, List, length, subst}
 use Rattle.std.specs.Option.{option_or}
 use Rattle.std.specs.Prelude.{Option, None, Some, option_map}
 use Rattle.rv_gate.specs.FirstAnswer.{first}
 use Rattle.rv_cube.specs.declared.step.Step.{Step}
-use Rattle.std.proofs.lemmas.Bool.{cases_eq}
 use Rattle.std.proofs.lemmas.Option.{none-some, same_Some}
 use Rattle.rv_pla.specs.declared.cube.Cube.{Cube}
 use Rattle.rv_cube.specs.Reduction.{first_pair}
@@ -55,11 +54,7 @@ IsLeastAnswer f k m x = (i : ℕ) × (k ≤ i) × (i < k + m) × (f i ≡ Some x
 first_is_or : {A : Type 0} (f : ℕ → Option A) (k m : ℕ) (x : A) (o : Option A) → f k ≡ o → option_or o (first f (k + 1) m) ≡ Some x
     → (first f (k + 1) m ≡ Some x → IsLeastAnswer f (k + 1) m x) → IsLeastAnswer f k (suc m) x
 first_is_or f k m x (Some y) s h rest = (k, omega arith, omega arith, s ∙ h, λ j l u. absurd (omega arith))
-first_is_or f k m x None s h rest =
-    let r = rest h in
-    let from = r.1 in
-    let below = r.2 in
-    (r.0, omega arith, omega arith, r.3, λ j l u. elim (cases_eq j k) [ inl e ↦ ap f e ∙ s | inr ne ↦ r.4 j (omega arith) u ])
+first_is_or f k m x None s h rest = grind (arith)
 
 pub first_is : {A : Type 0} (f : ℕ → Option A) (k m : ℕ) (x : A) → first f k m ≡ Some x → IsLeastAnswer f k m x
 unfolding first
@@ -77,13 +72,7 @@ pub first_found : {A : Type 0} (f : ℕ → Option A) (k m a : ℕ) (x : A) → 
     → ((i : ℕ) → k ≤ i → i < a → f i ≡ None) → first f k m ≡ Some x
 unfolding first
 first_found f k zero a x le lt is before = absurd (omega arith)
-first_found f k (suc m) a x le lt is before =
-    elim (cases_eq k a) [
-      | inl here ↦ ap (λ o. option_or o (first f (k + 1) m)) (ap f here ∙ is)
-      | inr ne ↦
-          ap (λ o. option_or o (first f (k + 1) m)) (before k (omega arith) (omega arith))
-          ∙ first_found f (k + 1) m a x (omega arith) (omega arith) is (λ i l u. before i (omega arith) u)
-    ]
+first_found f k (suc m) a x le lt is before = let i0 = first_found f (k + 1) m a x in grind (arith, i0)
 
 pub first_same : {A : Type 0} (f g : ℕ → Option A) (k m : ℕ) → ((i : ℕ) → f i ≡ g i) → first f k m ≡ first g k m
 unfolding first

@@ -46,9 +46,7 @@ pub repeated_settles : (step : List Cube → Option (List Cube)) (measure : List
     → (turns : ℕ) (cubes : List Cube) → measure cubes ≤ turns → step (repeated step turns cubes) ≡ None
 unfolding repeated
 repeated_settles step measure low zero cubes h = none_found step measure cubes (step cubes) refl low h
-repeated_settles step measure low (suc turns) cubes h =
-    first_settles step measure low cubes (step cubes) (repeated step turns) refl
-    (λ l s. repeated_settles step measure low turns l (omega arith))
+repeated_settles step measure low (suc turns) cubes h = let i0 = repeated_settles step measure low turns in grind (arith, i0, first_settles)
 
 -- more turns change nothing
 first_same : (step : List Cube → Option (List Cube)) (measure : List Cube → ℕ) → Lowers step measure
@@ -63,9 +61,7 @@ enough_turns step measure low zero k cubes hj hk =
     sym (repeated_end step k cubes (none_found step measure cubes (step cubes) refl low hj))
 enough_turns step measure low (suc j) zero cubes hj hk =
     repeated_end step (suc j) cubes (none_found step measure cubes (step cubes) refl low hk)
-enough_turns step measure low (suc j) (suc k) cubes hj hk =
-    first_same step measure low cubes (step cubes) (repeated step j) (repeated step k) refl
-    (λ l s. enough_turns step measure low j k l (omega arith) (omega arith))
+enough_turns step measure low (suc j) (suc k) cubes hj hk = let i0 = enough_turns step measure low j k in grind (arith, i0, first_same)
 
 -- one turn of the loop
 pub repeated_once : (step : List Cube → Option (List Cube)) (measure : List Cube → ℕ) → Lowers step measure

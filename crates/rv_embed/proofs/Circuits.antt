@@ -6,7 +6,6 @@ use Rattle.std.proofs.lemmas.List.Elements.{All-head, All-tail}
 use Rattle.std.proofs.lemmas.List.FromFn.{length-range_with_len, get_or-range_with_len}
 use Rattle.rv_gate.specs.Word.{number_of, word_of}
 use Rattle.rv_gate.specs.Gate.{FitsIn, IsGate, act, inverse, run, run_on_number}
-use Rattle.rv_gate.specs.Marks.{with_constants}
 use Rattle.rv_gate.specs.inside.WordLaws.{length-word_of, number_of-lt, number_of-word_of_small, word_of-number_of}
 use Rattle.rv_gate.specs.declared.circuit.Mark.{Mark}
 use Rattle.rv_gate.specs.declared.gate.Shape.{Shape}
@@ -74,26 +73,7 @@ permuted-run n gates word len =
 
 circuit-embeds : (pla : TwoLevel) (n : ℕ) (gates : List Shape) (constants : List Mark) (garbage : List Bool) → IsCircuitFor pla n gates constants garbage
     → IsEmbedding pla (computed_by n gates constants garbage)
-circuit-embeds pla n gates constants garbage c =
-    let len = length-images_of n gates in
-    record {
-      words = len;
-      permutes = (
-        λ x lt. let at = get_or-images_of n gates x (omega (arith, len)) in let small = after-lt n gates x in omega (arith, len),
-        λ x y less lt same.
-            let hx : x < 2 ^ n = omega (arith, len) in
-            let hy : y < 2 ^ n = omega (arith, len) in
-            let one = one-number n gates x y c.valid c.fitting hx hy (sym (get_or-images_of n gates x hx) ∙ same ∙ get_or-images_of n gates y hy) in
-            omega arith,
-      );
-      constants = c.each_constant;
-      garbage = c.each_garbage;
-      realizes = record {
-        inputs = c.realizes.inputs;
-        outputs = c.realizes.outputs;
-        gives = λ x x_len. rw (permuted-run n gates (with_constants constants x) (length-with_constants constants x ∙ c.each_constant)) (c.realizes.gives x x_len);
-      };
-    }
+circuit-embeds pla n gates constants garbage c = grind (arith, length-images_of, get_or-images_of, after-lt, one-number, permuted-run, length-with_constants)
 
 pub no-circuit : (pla : TwoLevel) (n : ℕ) → NoneHasFewer pla n → NoCircuitHasFewer pla n
 no-circuit pla n none lines gates constants garbage c = none (computed_by lines gates constants garbage) (circuit-embeds pla lines gates constants garbage c)

@@ -1,7 +1,7 @@
 -- Lists that are completed by the numbers that they lack.
 use Rattle.std.proofs.Common.{◌≡◌, ◌≢◌, ℕ, zero, suc, ◌+◌, ◌<◌, ◌≤◌, Bool, true, false, not, ◌&&◌, cond, eqb, List, [], ◌∷◌, ◌++◌, length, get_or, take, refl, sym, ◌∙◌, ap, subst, inl, inr, arith, eq-eqb, ne_eqb, add-one, append_assoc, append-nil}
 use Rattle.std.specs.List.{filter, list_any, range_with_len, IsDistinct}
-use Rattle.std.proofs.lemmas.Bool.{cases_eq, cases_Bool, or_cases, or_from, or_left, or_right, and_parts, and_from, eqb-true, eqb-false, false≢true, not_from_false}
+use Rattle.std.proofs.lemmas.Bool.{cases_Bool, or_cases, or_from, or_left, or_right, and_parts, and_from, eqb-true, eqb-false, false≢true, not_from_false}
 use Rattle.std.proofs.lemmas.Cmp.{nat_eq_equiv}
 use Rattle.std.proofs.lemmas.List.{get_or_default, take_all}
 use Rattle.std.proofs.lemmas.List.Folds.{list_any-append}
@@ -23,19 +23,11 @@ lacks numbers y = not (stands_in numbers y)
 
 stands_in_range : (a n y : ℕ) → stands_in (range_with_len a n) y ≡ true → (a ≤ y) × (y < a + n)
 stands_in_range a zero y h = absurd (false≢true h)
-stands_in_range a (suc n) y h =
-    elim (or_cases (eqb y a) (stands_in (range_with_len (a + 1) n) y) h) [
-      | inl here ↦ (let e = eqb-true y a here in (omega arith, omega arith))
-      | inr later ↦ (let r = stands_in_range (a + 1) n y later in (omega (arith, r.0), omega (arith, r.1)))
-    ]
+stands_in_range a (suc n) y h = let i0 = stands_in_range (a + 1) n y in grind (arith, i0, eqb-true)
 
 in_range : (a n y : ℕ) → a ≤ y → y < a + n → stands_in (range_with_len a n) y ≡ true
 in_range a zero y l h = absurd (omega arith)
-in_range a (suc n) y l h =
-    elim (cases_eq y a) [
-      | inl same ↦ or_left (eqb y a) _ (eq-eqb y a same)
-      | inr other ↦ or_right (eqb y a) _ (in_range (a + 1) n y (omega arith) (omega arith))
-    ]
+in_range a (suc n) y l h = let i0 = in_range (a + 1) n y in grind (arith, i0, or_left, eq-eqb, or_right)
 
 -- ---- lists without repeats, of numbers below a bound
 

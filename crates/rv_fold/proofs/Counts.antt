@@ -116,11 +116,7 @@ odd_t : (o : Op) (p : PhaseGate) → phase_gate o ≡ Some p → p.exponent % 2 
 odd_t = each_gate (λ a g. g.exponent % 2 ≡ t_weight a) (λ q. refl) (λ q. refl) (λ q. refl) (λ q. refl) (λ q. refl)
 
 t_spared : IsSpared t_weight
-t_spared o p e q s =
-    let a = t_ops q ((p.exponent + s) % 8) (below_eight _ (omega arith)) in
-    let b = t_ops q (s % 8) (below_eight _ (omega arith)) in
-    let c = odd_t o p e in
-    omega arith
+t_spared o p e q s = grind (arith, t_ops, below_eight, odd_t)
 
 t_cost : (ops : List Op) → t_count ops ≡ cost t_weight ops
 unfolding cost

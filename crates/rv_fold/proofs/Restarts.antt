@@ -106,11 +106,7 @@ apart-within f a b w e = eq-eqb _ 0 (same_lines (bit_and f a) 0 (λ l. has-and f
 
 -- a round that adds nothing below n is followed by such rounds
 persists : (n : ℕ) (parities : Parities) (set : ℕ) → Covers n (has set) (has (closure_step parities set n)) → Within (closure_step parities set n) set
-persists n parities set h l on =
-    elim (cases_Bool (has set l)) [
-      | inl in_set ↦ in_set
-      | inr out ↦ (elim (closure_step-only parities set n l on) [ inl p ↦ p | inr p ↦ absurd (true-false _ on (h l p.0 out)) ])
-    ]
+persists n parities set h l on = grind (arith, closure_step-only, true-false)
 
 settled_or_more : (n : ℕ) (parities : Parities) (set : ℕ) (k : ℕ) → Covers n (has (closure_steps n parities set k)) (has (closure_steps n parities set (suc k))) ⊎ (suc k ≤ count n (has (closure_steps n parities set (suc k))))
 unfolding closure_steps
@@ -144,14 +140,7 @@ closure_steps-keeps n parities set (suc k) l e = closure_step-keeps parities (cl
 within_closed : (n : ℕ) (parities : Parities) (set other k : ℕ) → IsClosed n parities set other → Within (closure_steps n parities set k) other
 unfolding closure_steps
 within_closed n parities set other zero is l on = is.holds l on
-within_closed n parities set other (suc k) is l on =
-    elim (closure_step-only parities (closure_steps n parities set k) n l on) [
-      | inl before ↦ within_closed n parities set other k is l before
-      | inr p ↦ (elim (cases_Bool (are_apart (parities l).lines other)) [
-        | inl apart ↦ absurd (true-false _ (apart-within (parities l).lines (closure_steps n parities set k) other (within_closed n parities set other k is) apart) p.1)
-        | inr meets ↦ is.closed l p.0 meets
-      ])
-    ]
+within_closed n parities set other (suc k) is l on = let i0 = within_closed n parities set other k is l in let i1 = within_closed n parities set other k is in grind (arith, i0, i1, closure_step-only, true-false, apart-within)
 
 -- n rounds reach the least closed set
 pub restarts_least : (n : ℕ) (parities : Parities) (set : ℕ) → IsLeastClosed n parities set (restart_set n parities set)

@@ -148,11 +148,7 @@ distributes a b c = grind arith
 
 -- a parity that is not seen
 pub not_seen : (f : Parity) (seen : Seen) → seen f ≡ false → (g : Parity) → (only f g && seen g) ≡ false
-not_seen f seen new g =
-    elim (cases_Bool (only f g)) [
-      | inl s ↦ (ap (λ b. b && seen g) s ∙ ap seen (sym (same_parity-eq f g s)) ∙ new)
-      | inr d ↦ ap (λ b. b && seen g) d
-    ]
+not_seen f seen new g = grind (arith, same_parity-eq)
 
 apart-left : (a b c d : Bool) → (a && b) ≡ false → ((a && c) && (b && d)) ≡ false
 apart-left a b c d h = grind arith

@@ -1,8 +1,7 @@
 -- The statements of a text are those that `;` ends, and no others.
-use Rattle.std.proofs.Common.{◌≡◌, true, false, not, List, [], ◌∷◌, ◌++◌, refl, sym, ◌∙◌, ap, append_assoc, inl, inr}
+use Rattle.std.proofs.Common.{arith, ◌≡◌, true, false, not, List, [], ◌∷◌, ◌++◌, refl, sym, ◌∙◌, ap, append_assoc, inl, inr}
 use Rattle.std.specs.Prelude.{◌↔◌}
-use Rattle.std.specs.List.{list_all}
-use Rattle.std.proofs.lemmas.Bool.{and_from, and_parts, cases_Bool, not-true}
+use Rattle.std.proofs.lemmas.Bool.{and_from, cases_Bool, not-true}
 use Rattle.std.proofs.lemmas.List.{append-nil}
 use Rattle.std.proofs.lemmas.List.Folds.{list_all-append}
 use Rattle.rv_qasm.specs.Tokens.{TokenOnLine}
@@ -23,16 +22,12 @@ are_cut (token ∷ tokens) begun h = elim (cases_Bool (is_semicolon token)) [
 ended_past : (front begun rest : List TokenOnLine) → HoldsNoEnd front → ended_statements begun (front ++ rest) ≡ ended_statements (begun ++ front) rest
 unfolding ended_statements
 ended_past [] begun rest h = rw (append-nil begun) refl
-ended_past (token ∷ front) begun rest h =
-    let t = and_parts (not (is_semicolon token)) (list_all (λ token. not (is_semicolon token)) front) h in
-    rw (not-true _ t.0) (ended_past front (begun ++ token ∷ []) rest t.1 ∙ ap (λ (xs : List TokenOnLine). ended_statements xs rest) (append_assoc begun (token ∷ []) front))
+ended_past (token ∷ front) begun rest h = let i0 = ended_past front (begun ++ token ∷ []) rest in grind (arith, i0, not-true, append_assoc)
 
 unended_past : (front begun rest : List TokenOnLine) → HoldsNoEnd front → unended_tokens begun (front ++ rest) ≡ unended_tokens (begun ++ front) rest
 unfolding unended_tokens
 unended_past [] begun rest h = rw (append-nil begun) refl
-unended_past (token ∷ front) begun rest h =
-    let t = and_parts (not (is_semicolon token)) (list_all (λ token. not (is_semicolon token)) front) h in
-    rw (not-true _ t.0) (unended_past front (begun ++ token ∷ []) rest t.1 ∙ ap (λ (xs : List TokenOnLine). unended_tokens xs rest) (append_assoc begun (token ∷ []) front))
+unended_past (token ∷ front) begun rest h = let i0 = unended_past front (begun ++ token ∷ []) rest in grind (arith, i0, not-true, append_assoc)
 
 ended_first : (front : List TokenOnLine) (end : TokenOnLine) (rest : List TokenOnLine) → HoldsNoEnd front → is_semicolon end ≡ true
     → ended_statements [] (front ++ end ∷ rest) ≡ statement_of front end.line ∷ ended_statements [] rest
@@ -47,17 +42,12 @@ unended_first front end rest h e = unended_past front [] (end ∷ rest) h ∙ rw
 ended_alone : (statements : List Statement) (tokens left : List TokenOnLine) → AreCut tokens statements left → statements ≡ ended_statements [] tokens
 unfolding ended_statements
 ended_alone [] tokens left h = rw (sym (append-nil tokens)) (sym (ended_past tokens [] [] h.1))
-ended_alone (statement ∷ statements) tokens left h =
-    let first = h.1 in
-    rw (first.tokens_are, first.statement_is, ended_first first.front first.end h.0 first.front_is first.end_is)
-    (ap (λ (ss : List Statement). statement_of first.front first.end.line ∷ ss) (ended_alone statements h.0 left h.2))
+ended_alone (statement ∷ statements) tokens left h = let i0 = ended_alone statements h.0 left h.2 in grind (arith, i0, ended_first)
 
 left_alone : (statements : List Statement) (tokens left : List TokenOnLine) → AreCut tokens statements left → left ≡ unended_tokens [] tokens
 unfolding unended_tokens
 left_alone [] tokens left h = h.0 ∙ sym (ap (unended_tokens []) (sym (append-nil tokens)) ∙ unended_past tokens [] [] h.1)
-left_alone (statement ∷ statements) tokens left h =
-    let first = h.1 in
-    rw (first.tokens_are, unended_first first.front first.end h.0 first.front_is first.end_is) (left_alone statements h.0 left h.2)
+left_alone (statement ∷ statements) tokens left h = let i0 = left_alone statements h.0 left h.2 in grind (arith, i0, unended_first)
 
 pub AreCut-statements : (tokens : List TokenOnLine) (statements : List Statement) (left : List TokenOnLine)
     → AreCut tokens statements left ↔ ((statements ≡ ended_statements [] tokens) × (left ≡ unended_tokens [] tokens))

@@ -20,9 +20,7 @@ read_accepted (statement ∷ statements) old new h = rw h.1 (read_accepted state
 read_broken : (before : List Statement) (statement : Statement) (after : List Statement) (old so_far : SoFar) (fault : TextFault)
     → AreAccepted old before so_far → statement_read so_far statement.tokens ≡ Err fault.code → fault.line ≡ statement.line
     → statements_read old (before ++ statement ∷ after) ≡ Err fault
-read_broken [] statement after old so_far fault h wrong line =
-    let same : statement_read old statement.tokens ≡ Err fault.code = rw (sym h) wrong in
-    rw (same, sym line) refl
+read_broken [] statement after old so_far fault h wrong line = grind (arith)
 read_broken (first ∷ before) statement after old so_far fault h wrong line = rw h.1 (read_broken before statement after h.0 so_far fault h.2 wrong line)
 
 -- what statements gave that were read

@@ -1,5 +1,5 @@
 -- The tokens of what is written of a network.
-use Rattle.std.proofs.Common.{◌≡◌, ℕ, suc, ◌+◌, ◌<◌, ◌^◌, Bool, true, false, not, List, [], ◌∷◌, ◌++◌, length, nat_eq, nat_lt, refl, arith, ap, sym, ◌∙◌, decimal, codes, ne_eqb, append_assoc}
+use Rattle.std.proofs.Common.{◌≡◌, ℕ, suc, ◌+◌, ◌<◌, ◌^◌, Bool, true, false, not, List, [], ◌∷◌, ◌++◌, length, nat_eq, nat_lt, refl, arith, sym, ◌∙◌, decimal, codes, ne_eqb, append_assoc}
 use Rattle.std.specs.Char.{is_ascii_digit}
 use Rattle.std.specs.List.{list_all, prefix_len}
 use Rattle.std.specs.Int.{IsInRange}
@@ -33,16 +33,11 @@ passed (c ∷ bytes) rest line h =
 
 digits_inside : (digits : List ℕ) → all_ascii_digits digits ≡ true → list_all is_inside digits ≡ true
 digits_inside [] h = refl
-digits_inside (c ∷ digits) h =
-    let p = and_parts (is_ascii_digit c) (all_ascii_digits digits) h in
-    let r = digit_range c p.0 in
-    rw (ne_eqb c 10 (λ e. omega (arith, e, r.0))) (digits_inside digits p.1)
+digits_inside (c ∷ digits) h = let i0 = digits_inside digits in grind (arith, i0, digit_range, ne_eqb)
 
 digits_len : (digits more : List ℕ) → all_ascii_digits digits ≡ true → prefix_len is_ascii_digit (digits ++ (93 ∷ more)) ≡ length digits
 digits_len [] more h = refl
-digits_len (c ∷ digits) more h =
-    let p = and_parts (is_ascii_digit c) (all_ascii_digits digits) h in
-    rw (p.0, digits_len digits more p.1) (omega arith)
+digits_len (c ∷ digits) more h = let i0 = digits_len digits more in grind (arith, i0)
 
 -- digits before a bracket are a number
 digits_number : (digits more : List ℕ) → all_ascii_digits digits ≡ true → number_length (digits ++ (93 ∷ more)) ≡ length digits
@@ -101,10 +96,7 @@ operand-tokens : (lines : List ℕ) (line : ℕ) (rest : List ℕ) → AreSmall 
 unfolding tokens_after
 operand-tokens [] line rest small = refl
 operand-tokens (a ∷ []) line rest small = qubit-tokens a line rest small.0
-operand-tokens (a ∷ b ∷ more) line rest small =
-    ap (tokens_after 0 line) (append_assoc (qubit a) (44 ∷ qubits (b ∷ more)) rest)
-    ∙ (qubit-tokens a line (44 ∷ (qubits (b ∷ more) ++ rest)) small.0
-    ∙ ap (λ (tokens : List TokenOnLine). qubit_tokens line a ++ (token line (codes ",") ∷ tokens)) (operand-tokens (b ∷ more) line rest small.1))
+operand-tokens (a ∷ b ∷ more) line rest small = let i0 = operand-tokens (b ∷ more) line rest small.1 in grind (arith, i0, append_assoc, qubit-tokens, codes)
 
 -- ---- operations
 

@@ -22,22 +22,12 @@ use Rattle.rv_gate.proofs.Bits.{same_true, same_from, same_bool, xor_same, or_tr
 pub lone_is : (set n line : ℕ) → lone set n ≡ Some line → set ≡ 2 ^ line
 unfolding lone
 lone_is set zero line e = absurd (none-some line e)
-lone_is set (suc n) line e =
-    elim (cases_eq set (2 ^ n)) [
-      | inl q ↦
-          let s : n ≡ line = same_Some n line (sym (cond-true (eqb set (2 ^ n)) (Some n) (lone set n) (eq-eqb _ _ q)) ∙ e) in
-          q ∙ ap (λ k. 2 ^ k) s
-      | inr ne ↦ lone_is set n line (sym (cond-false (eqb set (2 ^ n)) (Some n) (lone set n) (ne_eqb _ _ ne)) ∙ e)
-    ]
+lone_is set (suc n) line e = let i0 = lone_is set n line in grind (arith, i0, same_Some, cond-true, eq-eqb, cond-false, ne_eqb)
 
 pub lone_below : (set n line : ℕ) → lone set n ≡ Some line → line < n
 unfolding lone
 lone_below set zero line e = absurd (none-some line e)
-lone_below set (suc n) line e =
-    elim (cases_Bool (eqb set (2 ^ n))) [
-      | inl t ↦ let q = same_Some n line (sym (cond-true (eqb set (2 ^ n)) (Some n) (lone set n) t) ∙ e) in omega (arith, q)
-      | inr f ↦ let l = lone_below set n line (sym (cond-false (eqb set (2 ^ n)) (Some n) (lone set n) f) ∙ e) in omega (arith, l)
-    ]
+lone_below set (suc n) line e = let i0 = lone_below set n line in grind (arith, i0, same_Some, cond-true, cond-false)
 
 xor_true : (b : Bool) → b ≡ true → not (same b true) ≡ false
 xor_true b e = rw e refl
@@ -56,9 +46,7 @@ with_line_other set line b k h = grind (arith, has-or, has-line, ne_eqb, or_fals
 
 -- the lines of a set without one
 with_line_less : (set line k : ℕ) → has (with_line set line false) k ≡ true → (has set k ≡ true) × (k ≢ line)
-with_line_less set line k on =
-    let ne : k ≢ line = λ e. false≢true (sym (with_line_here set line false) ∙ ap (has (with_line set line false)) (sym e) ∙ on) in
-    (sym (with_line_other set line false k ne) ∙ on, ne)
+with_line_less set line k on = grind (arith, with_line_here, with_line_other)
 
 -- ---- controls, one line apart from the others
 
@@ -79,15 +67,7 @@ admits_from false w b h = refl
 -- the controls hold where the others do and the symbol on the line admits its bit
 holds_split : (care want line : ℕ) (word : List Bool) → line < length word
     → holds care want word ≡ (holds (with_line care line false) want word && admits (has care line) (has want line) (bit_of word line))
-holds_split care want line word lt =
-    same_bool _ _
-    (λ h. and_from _ _ ((holds_Decides (with_line care line false) want word).1 (λ k within on. (holds_Decides care want word).0 h k within (with_line_less care line k on).0))
-    (admits_from _ _ _ ((holds_Decides care want word).0 h line lt)))
-    (λ h. let p = and_parts _ _ h in
-    (holds_Decides care want word).1 (λ k within on. elim (cases_eq k line) [
-      | inl e ↦ ap (bit_of word) e ∙ admits_to _ _ _ p.1 (ap (has care) (sym e) ∙ on) ∙ ap (has want) (sym e)
-      | inr ne ↦ (holds_Decides (with_line care line false) want word).0 p.0 k within (with_line_other care line false k ne ∙ on)
-    ]))
+holds_split care want line word lt = grind (arith, same_bool, and_from, holds_Decides, with_line_less, admits_from, admits_to, with_line_other)
 
 -- the other lines are alike
 AlikeBut : ℕ → ℕ → ℕ → ℕ → ℕ → Type 0
@@ -95,11 +75,7 @@ AlikeBut care want care2 want2 line = (k : ℕ) → k ≢ line → (has care k �
 
 others_hold : (c w c2 w2 line : ℕ) (word : List Bool) → AlikeBut c w c2 w2 line → holds (with_line c line false) w word ≡ true → holds (with_line c2 line false) w2 word ≡ true
 unfolding AlikeBut
-others_hold c w c2 w2 line word a h =
-    (holds_Decides (with_line c2 line false) w2 word).1 (λ k within on.
-    let less = with_line_less c2 line k on in
-    let s = a k less.1 in
-    (holds_Decides (with_line c line false) w word).0 h k within (with_line_other c line false k less.1 ∙ s.0 ∙ less.0) ∙ s.1)
+others_hold c w c2 w2 line word a h = grind (arith, holds_Decides, with_line_less, with_line_other)
 
 others_alike : (c w c2 w2 line : ℕ) (word : List Bool) → AlikeBut c w c2 w2 line → holds (with_line c2 line false) w2 word ≡ holds (with_line c line false) w word
 unfolding AlikeBut
@@ -163,32 +139,11 @@ pub record Sound (n : ℕ) (g h : Shape) (m : List Shape) : Type 0 where
 pub line_used : (c w c2 w2 line : ℕ) → apart_on c w c2 w2 ≡ 2 ^ line
     → ((k : ℕ) → has w k ≡ true → has c k ≡ true) → ((k : ℕ) → has w2 k ≡ true → has c2 k ≡ true)
     → (has c line ≡ true) ⊎ (has c2 line ≡ true)
-line_used c w c2 w2 line e v v2 =
-    elim (cases_Bool (has c line)) [
-      | inl t ↦ inl t
-      | inr f ↦ (elim (cases_Bool (has c2 line)) [
-        | inl t ↦ inr t
-        | inr f2 ↦
-            let off : (x y : Bool) → y ≡ false → (x ≡ true → y ≡ true) → x ≡ false = λ x y z h. false_from_ne_true x (λ t. false≢true (sym z ∙ h t)) in
-            absurd (differ_on c w c2 w2 line e (f ∙ sym f2) (off _ _ f (v line) ∙ sym (off _ _ f2 (v2 line))))
-      ])
-    ]
+line_used c w c2 w2 line e v v2 = grind (arith, false_from_ne_true, differ_on)
 
 pub third_gate : (c w c2 w2 t line : ℕ) → IsGate (Flip c w t) → IsGate (Flip c2 w2 t) → apart_on c w c2 w2 ≡ 2 ^ line → IsGate (third_flip c w c2 w2 t line)
 unfolding third_flip
-third_gate c w c2 w2 t line v v2 e =
-    let b1 : Bool = xor (has c line) (has c2 line) in
-    let b2 : Bool = xor (has c line) (has c2 line) && not (has w line || has w2 line) in
-    let used = line_used c w c2 w2 line e v.2 v2.2 in
-    let tl : t ≢ line = elim used [ inl u ↦ (λ q. false≢true (sym v.1 ∙ ap (has c) q ∙ u)) | inr u ↦ (λ q. false≢true (sym v2.1 ∙ ap (has c2) q ∙ u)) ] in (
-      v.0,
-      with_line_other c line b1 t tl ∙ v.1,
-      λ k h.
-          elim (cases_eq k line) [
-            | inl q ↦ ap (has (with_line c line b1)) q ∙ with_line_here c line b1 ∙ (and_parts b1 _ (sym (with_line_here w line b2) ∙ ap (has (with_line w line b2)) (sym q) ∙ h)).0
-            | inr ne ↦ with_line_other c line b1 k ne ∙ v.2 k (sym (with_line_other w line b2 k ne) ∙ h)
-          ],
-    )
+third_gate c w c2 w2 t line v v2 e = grind (arith, line_used, with_line_other, with_line_here)
 
 third_sound : (c w c2 w2 t n line : ℕ) → IsGate (Flip c w t) → IsGate (Flip c2 w2 t) → FitsIn (Flip c w t) n → FitsIn (Flip c2 w2 t) n
     → apart_on c w c2 w2 ≡ 2 ^ line → Sound n (Flip c w t) (Flip c2 w2 t) (third_flip c w c2 w2 t line ∷ [])

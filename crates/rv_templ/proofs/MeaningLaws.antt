@@ -1,7 +1,7 @@
 -- The chosen window is a window, and where none is chosen there is none.
-use Rattle.std.proofs.Common.{◌≡◌, ℕ, zero, suc, ◌*◌, ◌<◌, ◌≤◌, Bool, true, false, not, ◌&&◌, ◌||◌, eqb, List, [], ◌∷◌, ◌++◌, length, take, drop, refl, sym, ◌∙◌, ap, inl, inr, arith, subst, eq-eqb, append_assoc}
+use Rattle.std.proofs.Common.{◌≡◌, ℕ, zero, suc, ◌*◌, ◌<◌, ◌≤◌, Bool, true, false, not, ◌&&◌, ◌||◌, eqb, List, [], ◌∷◌, ◌++◌, length, take, drop, refl, sym, ◌∙◌, ap, inl, inr, arith, eq-eqb, append_assoc}
 use Rattle.std.specs.Prelude.{leb, ltb, Some, None}
-use Rattle.std.proofs.lemmas.Bool.{cases_eq, cases_Bool, false≢true, and_parts, and_from, or_right, or_cases, cond-true, le-leb, lt-ltb, eqb-true, not_from_false, false_from_ne_true}
+use Rattle.std.proofs.lemmas.Bool.{cases_Bool, false≢true, and_parts, and_from, or_right, or_cases, cond-true, le-leb, lt-ltb, eqb-true, not_from_false, false_from_ne_true}
 use Rattle.std.proofs.lemmas.Option.{none-some, cond_some}
 use Rattle.std.proofs.lemmas.List.{get_or-take, length-take-le, append-nil}
 use Rattle.rv_gate.specs.declared.word.TheConstants.{MOST_LINES}
@@ -11,7 +11,7 @@ use Rattle.rv_templ.specs.Gates.{gate_in}
 use Rattle.rv_gate.specs.Gate.{controls, wanted, touched, all_below}
 use Rattle.rv_gate.specs.Word.{has}
 use Rattle.rv_gate.specs.declared.gate.Shape.{Shape}
-use Rattle.rv_gate.specs.declared.gate.Shape.TheVariants.{Flip, Peres}
+use Rattle.rv_gate.specs.declared.gate.Shape.TheVariants.{Flip}
 use Rattle.rv_templ.specs.Folds.{least}
 use Rattle.rv_templ.specs.Images.{span, turned, new_line, renamed, difference, image_of, image, fresh_care, fresh_want, distinct, zero_elsewhere, same_gate, fits_window, others, within, allowed}
 use Rattle.rv_templ.specs.Templates.{IsTemplate, AreTemplates}
@@ -163,41 +163,14 @@ allowed_from window template to care want is m =
 
 means_from : (gates : List Shape) (library : List (List Shape)) (found : Found) (care want : ℕ) → IsWindow gates library found care want
     → Means (take found.count gates) (turned found.turn (template_in library found.template)) found.lines care want
-means_from gates library found care want w =
-    let t : List Shape = template_in library found.template in
-    let t2 : List Shape = turned found.turn t in
-    let k : ℕ = found.count in
-    let len : length (take k gates) ≡ k = length-take-le k gates w.here in
-    let rest : others (length (take k gates)) t2 found.lines care want ≡ drop k (image found.lines care want t2) =
-    ap (λ n. others n t2 found.lines care want) len ∙ sym (drop-image k found.lines care want t2) in
-    record {
-      some = let a = w.some in omega (arith, len);
-      room = let a = w.most in omega (arith, len, length-turned found.turn t);
-      renaming = subst (λ (own : ℕ). IsRenaming own found.lines) (sym (span_turned found.turn t)) w.renaming;
-      free = λ i h on. w.free i h (ap (λ s. has s i) (sym (span_turned found.turn t)) ∙ on);
-      free_want = λ i h on.
-          false_from_ne_true _ (λ e.
-          false≢true (sym (w.free i h (ap (λ s. has s i) (sym (span_turned found.turn t)) ∙ on)) ∙ w.wants (new_line found.lines i) e));
-      each = λ j h.
-          let lt : j < k = omega arith in
-          ap (λ l. gate_in l j) w.fits_window
-          ∙ get_or-take k (image found.lines care want t2) j (Peres 0 0 0) lt
-          ∙ image_at found.lines care want t2 j (let a = w.most in omega (arith, lt, length-turned found.turn t));
-      inside = λ line e. w.inside line (ap (λ l. has (span l) line) (sym rest) ∙ e);
-      no_more = let a = w.no_more in omega (arith, ap incidences rest);
-    }
+means_from gates library found care want w = grind (arith, length-take-le, drop-image, length-turned, span_turned, false_from_ne_true, get_or-take, image_at)
 
 -- ---- none chosen, none there
 
 most_none_at : (gates : List Shape) (library : List (List Shape)) (k j : ℕ) → at_most gates library k ≡ None → 0 < j → j ≤ k → at_count gates library j ≡ None
 unfolding at_most
 most_none_at gates library zero j e a b = absurd (omega arith)
-most_none_at gates library (suc k) j e a b =
-    let both = or_none (at_count gates library (suc k)) (at_most gates library k) e in
-    elim (cases_eq j (suc k)) [
-      | inl s ↦ ap (at_count gates library) s ∙ both.0
-      | inr ne ↦ most_none_at gates library k j both.1 a (omega arith)
-    ]
+most_none_at gates library (suc k) j e a b = let i0 = most_none_at gates library k j in grind (arith, i0, or_none)
 
 count_none_at : (gates : List Shape) (library : List (List Shape)) (k t : ℕ) → at_count gates library k ≡ None → t < length library → at_template (take k gates) library t ≡ None
 unfolding at_count

@@ -1,6 +1,6 @@
 -- Nodes that stand after others.
-use Rattle.std.proofs.Common.{◌≡◌, ℕ, ◌<◌, true, false, ◌||◌, eqb, List, [], ◌∷◌, ◌++◌, refl, sym, subst, ◌∙◌, ap, inl, inr, arith, eq-eqb, ne_eqb, append_assoc}
-use Rattle.std.proofs.lemmas.Bool.{cases_eq, cond-true, cond-false, false≢true, or_cases, or_parts, or_left, or_right, eqb-true}
+use Rattle.std.proofs.Common.{◌≡◌, ℕ, ◌<◌, true, false, eqb, List, [], ◌∷◌, ◌++◌, refl, sym, subst, ◌∙◌, ap, inl, inr, arith, eq-eqb, ne_eqb, append_assoc}
+use Rattle.std.proofs.lemmas.Bool.{cond-true, cond-false, false≢true, or_cases, or_parts, or_left, or_right, eqb-true}
 use Rattle.std.specs.Prelude.{Option, Some, IfSome}
 use Rattle.rv_links.specs.Doubt.{IsBefore}
 use Rattle.std.proofs.lemmas.List.{append-nil}
@@ -15,53 +15,37 @@ listed_at (m ∷ before) n after = or_right (eqb n.id m.id) _ (listed_at before 
 
 pub apart : (before : List Node) (n : Node) (after : List Node) → NoTwice (ids_in (before ++ (n ∷ after))) → lists n.id (ids_in before) ≡ false
 apart [] n after d = refl
-apart (m ∷ before) n after d =
-    elim (cases_eq n.id m.id) [
-      | inl e ↦ absurd (false≢true (sym d.0 ∙ ap (λ x. lists x (ids_in (before ++ (n ∷ after)))) (sym e) ∙ listed_at before n after))
-      | inr ne ↦ ap (λ b. b || lists n.id (ids_in before)) (ne_eqb n.id m.id ne) ∙ apart before n after d.1
-    ]
+apart (m ∷ before) n after d = let i0 = apart before n after d.1 in grind (arith, i0, listed_at, ne_eqb)
 
 pub next_at : (before : List Node) (n : Node) (after : List Node) → lists n.id (ids_in before) ≡ false → next_in n.id (ids_in (before ++ (n ∷ after))) ≡ head (ids_in after)
 unfolding next_in
 next_at [] n after off = cond-true (eqb n.id n.id) _ _ (eq-eqb n.id n.id refl)
-next_at (m ∷ before) n after off =
-    let p = or_parts (eqb n.id m.id) (lists n.id (ids_in before)) off in
-    cond-false (eqb n.id m.id) _ _ p.0 ∙ next_at before n after p.1
+next_at (m ∷ before) n after off = let i0 = next_at before n after in grind (arith, i0, or_parts, cond-false)
 
 pub gate_at_node : (before : List Node) (n : Node) (after : List Node) → lists n.id (ids_in before) ≡ false → node_gate n.id (before ++ (n ∷ after)) ≡ n.gate
 unfolding node_gate
 gate_at_node [] n after off = cond-true (eqb n.id n.id) _ _ (eq-eqb n.id n.id refl)
-gate_at_node (m ∷ before) n after off =
-    let p = or_parts (eqb n.id m.id) (lists n.id (ids_in before)) off in
-    cond-false (eqb n.id m.id) _ _ p.0 ∙ gate_at_node before n after p.1
+gate_at_node (m ∷ before) n after off = let i0 = gate_at_node before n after in grind (arith, i0, or_parts, cond-false)
 
 pub gone_at : (before : List Node) (n : Node) (after : List Node) → lists n.id (ids_in before) ≡ false → erased n.id (before ++ (n ∷ after)) ≡ before ++ after
 unfolding erased
 gone_at [] n after off = cond-true (eqb n.id n.id) _ _ (eq-eqb n.id n.id refl)
-gone_at (m ∷ before) n after off =
-    let p = or_parts (eqb n.id m.id) (lists n.id (ids_in before)) off in
-    cond-false (eqb n.id m.id) _ _ p.0 ∙ ap (λ l. m ∷ l) (gone_at before n after p.1)
+gone_at (m ∷ before) n after off = let i0 = gone_at before n after in grind (arith, i0, or_parts, cond-false)
 
 pub regated_at : (before : List Node) (n : Node) (after : List Node) (g : Shape) → lists n.id (ids_in before) ≡ false → regated n.id g (before ++ (n ∷ after)) ≡ before ++ ((record { id = n.id; gate = g }) ∷ after)
 unfolding regated
 regated_at [] n after g off = cond-true (eqb n.id n.id) _ _ (eq-eqb n.id n.id refl)
-regated_at (m ∷ before) n after g off =
-    let p = or_parts (eqb n.id m.id) (lists n.id (ids_in before)) off in
-    cond-false (eqb n.id m.id) _ _ p.0 ∙ ap (λ l. m ∷ l) (regated_at before n after g p.1)
+regated_at (m ∷ before) n after g off = let i0 = regated_at before n after g in grind (arith, i0, or_parts, cond-false)
 
 pub window_at_node : (before : List Node) (n : Node) (after : List Node) (c : ℕ) (gs : List Shape) → lists n.id (ids_in before) ≡ false → window_set n.id c gs (before ++ (n ∷ after)) ≡ before ++ with_gates c gs (n ∷ after)
 unfolding window_set
 window_at_node [] n after c gs off = cond-true (eqb n.id n.id) _ _ (eq-eqb n.id n.id refl)
-window_at_node (m ∷ before) n after c gs off =
-    let p = or_parts (eqb n.id m.id) (lists n.id (ids_in before)) off in
-    cond-false (eqb n.id m.id) _ _ p.0 ∙ ap (λ l. m ∷ l) (window_at_node before n after c gs p.1)
+window_at_node (m ∷ before) n after c gs off = let i0 = window_at_node before n after c gs in grind (arith, i0, or_parts, cond-false)
 
 pub from_at : (before : List Node) (n : Node) (after : List Node) → lists n.id (ids_in before) ≡ false → from_node n.id (before ++ (n ∷ after)) ≡ n ∷ after
 unfolding from_node
 from_at [] n after off = cond-true (eqb n.id n.id) _ _ (eq-eqb n.id n.id refl)
-from_at (m ∷ before) n after off =
-    let p = or_parts (eqb n.id m.id) (lists n.id (ids_in before)) off in
-    cond-false (eqb n.id m.id) _ _ p.0 ∙ from_at before n after p.1
+from_at (m ∷ before) n after off = let i0 = from_at before n after in grind (arith, i0, or_parts, cond-false)
 
 pub live_head : (before tail : List Node) (x : ℕ) → Some x ≡ head (ids_in tail) → live x (before ++ tail) ≡ true
 live_head before [] x e = absurd (none-some x (sym e))
@@ -115,17 +99,11 @@ rising_last (x ∷ xs) ys r = rising_last xs ys r.1
 -- no node is before the first one
 pub head_least : (nodes : List Node) (y : ℕ) → Rising (ids_in nodes) → live y nodes ≡ true → IsBefore y (head (ids_in nodes)) → ⊥
 head_least [] y r on b = false≢true on
-head_least (n ∷ rest) y r on b =
-    elim (or_cases (eqb y n.id) (lists y (ids_in rest)) on) [
-      | inl e ↦ let q = eqb-true y n.id e in omega (arith, q, b)
-      | inr l ↦ let q = r.0 y l in omega (arith, q, b)
-    ]
+head_least (n ∷ rest) y r on b = grind (arith, eqb-true)
 
 -- the next node after a live one
 next_is : (nodes : List Node) (x : ℕ) (next : Option ℕ) (s : Stands nodes x) → NoTwice (ids_in nodes) → next ≡ next_in x (ids_in nodes) → next ≡ head (ids_in s.after)
-next_is nodes x next s d e =
-    e ∙ ap (λ i. next_in i (ids_in nodes)) (sym s.is) ∙ ap (λ l. next_in s.node.id (ids_in l)) s.split
-    ∙ next_at s.before s.node s.after (apart s.before s.node s.after (subst (λ (l : List Node). NoTwice (ids_in l)) s.split d))
+next_is nodes x next s d e = grind (arith, next_at, apart)
 
 -- and none is between a node and the next one
 pub next_least : (nodes : List Node) (x : ℕ) (next : Option ℕ) → Rising (ids_in nodes) → NoTwice (ids_in nodes) → live x nodes ≡ true → next ≡ next_in x (ids_in nodes)

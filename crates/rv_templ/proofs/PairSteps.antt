@@ -29,13 +29,7 @@ pub record Better (n : ℕ) (old new : List Shape) : Type 0 where
 
 -- a gate is put before both lists
 pub put_before : (n : ℕ) (h : Shape) (old new : List Shape) → IsGate h → FitsIn h n → Better n old new → Better n (h ∷ old) (h ∷ new)
-put_before n h old new v f b =
-    record {
-      words = λ word len. b.words (act h word) (length-act h word ∙ len);
-      fewer = let l = b.fewer in omega arith;
-      good = (v, f, b.good);
-      no_more = let l = b.no_more in omega (arith, incidences-cons h old, incidences-cons h new);
-    }
+put_before n h old new v f b = grind (arith, length-act, incidences-cons)
 
 two_before : (g h : Shape) (rest m : List Shape) → incidences m ≤ incidences (g ∷ h ∷ []) → incidences (m ++ rest) ≤ incidences (g ∷ h ∷ rest)
 two_before g h rest m le =

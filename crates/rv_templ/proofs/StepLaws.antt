@@ -95,12 +95,8 @@ simplified_stop n library gates are most g e =
 no_window_from : (library : List (List Shape)) (gates : List Shape) (place : ℕ) → AreTemplates library → window_step library gates ≡ None → place < length gates → NoWindow (drop place gates) library
 unfolding window_step
 no_window_from library [] place are e h = absurd (omega arith)
-no_window_from library (g ∷ rest) zero are e h =
-    let p = or_none (option_map (after (g ∷ rest) library) (window_at (g ∷ rest) library)) (after_gates (g ∷ []) (window_step library rest)) e in
-    no_window (g ∷ rest) library are (map_none (after (g ∷ rest) library) (window_at (g ∷ rest) library) p.0)
-no_window_from library (g ∷ rest) (suc place) are e h =
-    let p = or_none (option_map (after (g ∷ rest) library) (window_at (g ∷ rest) library)) (after_gates (g ∷ []) (window_step library rest)) e in
-    no_window_from library rest place are (after_none (g ∷ []) (window_step library rest) p.1) (omega arith)
+no_window_from library (g ∷ rest) zero are e h = grind (arith, or_none, no_window, map_none)
+no_window_from library (g ∷ rest) (suc place) are e h = let i0 = no_window_from library rest place are in grind (arith, i0, or_none, after_none)
 
 no_window_nil : (library : List (List Shape)) → NoWindow [] library
 no_window_nil library found care want w = let a = w.some in let b = w.here in omega arith

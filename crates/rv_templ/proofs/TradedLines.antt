@@ -1,5 +1,5 @@
 -- Two lines traded for each other: in sets, in renamings and in images.
-use Rattle.std.proofs.Common.{◌≡◌, ◌≢◌, ℕ, ◌+◌, ◌^◌, ◌<◌, ◌≤◌, Bool, true, false, cond, ◌||◌, eqb, List, [], ◌∷◌, refl, sym, ◌∙◌, ap, inl, inr, arith, eq-eqb, ne_eqb, subst}
+use Rattle.std.proofs.Common.{◌≡◌, ◌≢◌, ℕ, ◌+◌, ◌^◌, ◌<◌, ◌≤◌, Bool, true, false, cond, ◌||◌, eqb, List, [], ◌∷◌, refl, sym, ◌∙◌, ap, inl, inr, arith, eq-eqb, ne_eqb}
 use Rattle.std.specs.Prelude.{bit_or, count_ones}
 use Rattle.std.proofs.lemmas.Bool.{cases_eq, cases_Bool, cond-true, cond-false}
 use Rattle.rv_gate.proofs.LineSets.{has-line, has-or, same_lines}
@@ -31,14 +31,7 @@ traded_other v u x a b = cond-false (eqb x v) u (cond (eqb x u) v x) (ne_eqb x v
 
 -- what holds of v and of u alike, and of all other lines, holds of each line after the trade
 pub traded_law : (P : ℕ → ℕ → Type 0) (v u x : ℕ) → P v u → P u v → ((y : ℕ) → y ≢ v → y ≢ u → P y y) → P x (traded v u x)
-traded_law P v u x left right other =
-    elim (cases_eq x v) [
-      | inl s ↦ subst (λ (y : ℕ). P y (traded v u y)) (sym s) (subst (λ (y : ℕ). P v y) (sym (traded_left v u)) left)
-      | inr a ↦ (elim (cases_eq x u) [
-        | inl s ↦ subst (λ (y : ℕ). P y (traded v u y)) (sym s) (subst (λ (y : ℕ). P u y) (sym (traded_right v u)) right)
-        | inr b ↦ subst (λ (y : ℕ). P x y) (sym (traded_other v u x a b)) (other x a b)
-      ])
-    ]
+traded_law P v u x left right other = grind (arith, traded_left, traded_right, traded_other)
 
 pub traded_twice : (v u x : ℕ) → traded v u (traded v u x) ≡ x
 traded_twice v u x = traded_law (λ x y. traded v u y ≡ x) v u x (traded_right v u) (traded_left v u) (λ y a b. traded_other v u y a b)

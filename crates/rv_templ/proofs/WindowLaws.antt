@@ -41,19 +41,11 @@ run_back xs x word = ap (λ l. run l word) (reverse-append (x ∷ []) xs) ∙ ru
 -- flips undo themselves backwards
 pub undone : (n : ℕ) (gates : List Shape) (word : List Bool) → Flips gates → AreGates n gates → length word ≡ n → run (reverse gates) (run gates word) ≡ word
 undone n [] word f g len = refl
-undone n (x ∷ xs) word f g len =
-    run_back xs x (run xs (act x word))
-    ∙ ap (act x) (undone n xs (act x word) f.1 g.2 (length-act x word ∙ len))
-    ∙ act_twice x n word f.0 g.0 g.1 len
+undone n (x ∷ xs) word f g len = let i0 = undone n xs in grind (arith, i0, run_back, length-act, act_twice)
 
 pub undone_back : (n : ℕ) (gates : List Shape) (word : List Bool) → Flips gates → AreGates n gates → length word ≡ n → run gates (run (reverse gates) word) ≡ word
 undone_back n [] word f g len = refl
-undone_back n (x ∷ xs) word f g len =
-    let v : List Bool = run (reverse xs) word in
-    let lv : length v ≡ n = length-run (reverse xs) word ∙ len in
-    ap (λ w. run xs (act x w)) (run_back xs x word)
-    ∙ ap (run xs) (act_twice x n v f.0 g.0 g.1 lv)
-    ∙ undone_back n xs word f.1 g.2 len
+undone_back n (x ∷ xs) word f g len = let i0 = undone_back n xs word f.1 g.2 len in grind (arith, i0, reverse, length-run, run_back, act_twice)
 
 -- an identity turned is an identity
 turned_identity : (n : ℕ) (xs ys : List Shape) → Flips xs → AreGates n xs → Identity n (xs ++ ys) → Identity n (ys ++ xs)
@@ -68,11 +60,7 @@ turned_identity n xs ys f g i word len =
 
 -- the first part of an identity does what the other part does backwards
 pub window_same : (n : ℕ) (first rest : List Shape) → Flips rest → AreGates n rest → Identity n (first ++ rest) → Same n first (reverse rest)
-window_same n first rest f g i word len =
-    let v : List Bool = run first word in
-    let lv : length v ≡ n = length-run first word ∙ len in
-    let e : run rest v ≡ word = sym (run-append first rest word) ∙ i word len in
-    sym (undone n rest v f g lv) ∙ ap (run (reverse rest)) e
+window_same n first rest f g i word len = grind (arith, length-run, run-append, undone, reverse)
 
 -- a template turned is a template
 pub turned_template : (r : ℕ) (t : List Shape) → IsTemplate t → IsTemplate (turned r t)
@@ -223,15 +211,7 @@ pub record Allowed (window template : List Shape) (to : List ℕ) (care want : �
 
 pub allowed_parts : (window template : List Shape) (to : List ℕ) → allowed window template to ≡ true
     → Allowed window template to (fresh_care window (span template) to) (fresh_want window (span template) to)
-allowed_parts window template to e =
-    let own : ℕ = span template in
-    let care : ℕ = fresh_care window own to in
-    let want : ℕ = fresh_want window own to in
-    let four = and_parts (((zero_elsewhere own to && distinct own to) && fits_window window template to care want) && within (others (length window) template to care want) (span window)) _ e in
-    let three = and_parts ((zero_elsewhere own to && distinct own to) && fits_window window template to care want) _ four.0 in
-    let two = and_parts (zero_elsewhere own to && distinct own to) _ three.0 in
-    let one = and_parts (zero_elsewhere own to) _ two.0 in
-    record { zero_elsewhere = one.0; distinct = one.1; fits_window = two.1; within = three.1; fewer = four.1 }
+allowed_parts window template to e = grind (arith)
 
 pub plain_at : (own : ℕ) (to : List ℕ) (i : ℕ) → zero_elsewhere own to ≡ true → i < 6 → has own i ≡ false → new_line to i ≡ 0
 unfolding zero_elsewhere

@@ -43,9 +43,7 @@ IsNew ms w = (j : ℕ) (d : Member) → j < length ms → (get_or ms j d).word �
 pub new_at_end : (places : List ℕ) (ms : List Member) (w : List Bool) (place : ℕ) → place ≡ get_or places (ones_of w) 0 → ArePlaced places ms
     → ((d : Member) → place < length ms → (get_or ms place d).word ≢ w) → IsNew ms w
 unfolding IsNew
-new_at_end places ms w place is placed none j d lt same =
-    let at_j : get_or places (ones_of w) 0 ≡ j = ap (λ x. get_or places (ones_of x) 0) (sym same) ∙ placed j d lt in
-    none d (omega arith) (ap (λ k. (get_or ms k d).word) (is ∙ at_j) ∙ same)
+new_at_end places ms w place is placed none j d lt same = grind (arith)
 
 pub added_at_end : (ms : List Member) (w : List Bool) (v : Cyclotomic) → IsNew ms w → added ms w v ≡ ms ++ record { word = w; value = v } ∷ []
 unfolding IsNew

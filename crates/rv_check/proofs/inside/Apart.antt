@@ -1,12 +1,11 @@
 -- Members whose words differ: the value at a member's word is that member's value.
 use Rattle.rv_gate.proofs.Words.{same_word-is, same_word-true, same_word-false}
-use Rattle.std.proofs.Common.{arith, ◌≡◌, ◌≢◌, ℕ, Bool, true, false, cond, ◌&&◌, List, [], ◌∷◌, map, length, set, fold, filter, refl, sym, ap, ap₂, ◌∙◌}
+use Rattle.std.proofs.Common.{arith, ◌≡◌, ◌≢◌, ℕ, Bool, true, false, cond, ◌&&◌, List, [], ◌∷◌, map, length, fold, filter, refl, sym, ap, ap₂, ◌∙◌}
 use Rattle.std.proofs.lemmas.Bool.{false≢true, and_parts}
 use Rattle.std.proofs.lemmas.List.Elements.{All-head, All-tail}
 use Rattle.std.specs.List.{list_all}
-use Rattle.rv_gate.specs.Word.{bit_of}
 use Rattle.rv_net.specs.Amplitude.{same_word}
-use Rattle.rv_net.specs.Cyclotomic.{Cyclotomic, nought, plus, negated}
+use Rattle.rv_net.specs.Cyclotomic.{Cyclotomic, nought, plus}
 use Rattle.rv_net.specs.Op.{OpFitsIn, goes_to}
 use Rattle.rv_net.specs.declared.op.Op.{Op}
 use Rattle.rv_net.proofs.Cyclotomic.{plus_nought, nought_plus}
@@ -30,9 +29,7 @@ apart-added (m ∷ ms) w v h = let rest = apart-added ms w v h.1 in grind (arith
 
 apart-spread : (line : ℕ) (ms : List Member) (m : Member) → Apart ms → Apart (spread line ms m)
 unfolding spread
-apart-spread line ms m h =
-    apart-added (added ms (set m.word line false) m.value) (set m.word line true) (cond (bit_of m.word line) (negated m.value) m.value)
-    (apart-added ms (set m.word line false) m.value h)
+apart-spread line ms m h = grind (arith, apart-added)
 
 apart-fold_spread : (line : ℕ) (acc ms : List Member) → Apart acc → Apart (fold (spread line) acc ms)
 apart-fold_spread line acc [] h = h

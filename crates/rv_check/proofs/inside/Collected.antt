@@ -1,6 +1,6 @@
 -- Values of all words taken from members, and made members again.
 use Rattle.rv_gate.proofs.Words.{same_word-true, same_word-false}
-use Rattle.std.proofs.Common.{◌≡◌, ◌≢◌, ℕ, zero, suc, ◌+◌, ◌^◌, ◌<◌, Bool, true, false, cond, List, [], ◌∷◌, ◌++◌, map, length, filter, take, get_or, set, All, refl, sym, ap, ap₂, ◌∙◌, arith, inl, inr, ◌⊎◌, ◌||◌, ℤ, subst, get_or-set_same, get_or-set_other}
+use Rattle.std.proofs.Common.{◌≡◌, ◌≢◌, ℕ, zero, suc, ◌+◌, ◌^◌, ◌<◌, Bool, true, false, cond, List, [], ◌∷◌, ◌++◌, map, length, filter, take, get_or, set, All, refl, sym, ap, ap₂, ◌∙◌, arith, inl, inr, ◌⊎◌, ◌||◌, ℤ, get_or-set_same, get_or-set_other}
 use Rattle.std.proofs.lemmas.Bool.{cases_eq, le-ltb}
 use Rattle.std.proofs.lemmas.List.{take_more}
 use Rattle.std.proofs.lemmas.List.Elements.{All-head, All-tail, All-filter, All-map, All-weaker}
@@ -54,12 +54,8 @@ listed_apart g n i (x ∷ xs) h = (listed_fresh g n (suc i) x xs (omega (arith, 
 listed_value : (g : Word → Cyclotomic) (n i k : ℕ) (xs : List Word) (z : Word) → Numbered n i xs → length z ≡ n → number_of z ≡ i + k → k < length xs → value_at (listed g xs) z ≡ g z
 unfolding listed
 listed_value g n i k [] z h l e lt = absurd (omega (arith, lt))
-listed_value g n i zero (x ∷ xs) z h l e lt =
-    let same : x ≡ z = number_same x z (h.0 ∙ sym l) (let f : number_of x ≡ number_of z = omega (arith, h.1, e) in f) in
-    head_value (record { word = x; value = g x }) (listed g xs) z same (listed_fresh g n (suc i) x xs (omega (arith, h.1)) h.2) ∙ ap g same
-listed_value g n i (suc k) (x ∷ xs) z h l e lt =
-    tail_value (record { word = x; value = g x }) (listed g xs) z (λ same. let f : number_of x ≡ number_of z = ap number_of same in omega (arith, f, h.1, e))
-    ∙ listed_value g n (suc i) k xs z h.2 l (omega (arith, e)) (omega (arith, lt))
+listed_value g n i zero (x ∷ xs) z h l e lt = grind (arith, number_same, head_value, listed, listed_fresh)
+listed_value g n i (suc k) (x ∷ xs) z h l e lt = let i0 = listed_value g n (suc i) k xs z h.2 l in grind (arith, i0, tail_value, listed)
 
 other_length : (n : ℕ) (ms : List Member) (z : Word) → On n ms → length z ≢ n → Fresh z ms
 other_length n [] z on ne = tt
@@ -105,13 +101,7 @@ stands_listed ops x k s =
 pub stands_collected : (ops : List Op) (x : Word) (n place : ℕ) (vs : List Cyclotomic) (l : Kept) → length x ≡ n → ShowsAt ops x place vs l.exponent
     → l.members ≡ filter is_present (members_from n 0 vs) → Stands (take place ops) x l
 unfolding listed
-stands_collected ops x n place vs l len s is =
-    let k = s.kept in
-    let members : l.members ≡ filter is_present (listed (value_at k.members) (words (length x))) =
-    is ∙ ap (filter is_present) (ap₂ (λ m us. members_from m 0 us) (sym len) s.shows.values_are ∙ members_from_words (value_at k.members) (length x)) in
-    let same : record { members = filter is_present (listed (value_at k.members) (words (length x))); exponent = k.exponent } ≡ l =
-    (λ i. record { members = sym members i; exponent = sym s.shows.exponent_is i }) in
-    subst (λ m. Stands (take place ops) x m) same (stands_listed (take place ops) x k s.stands)
+stands_collected ops x n place vs l len s is = grind (arith, filter, listed, ap₂, members_from_words, stands_listed)
 
 -- ---- small values
 

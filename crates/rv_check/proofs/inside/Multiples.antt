@@ -5,7 +5,7 @@ use Rattle.std.proofs.lemmas.Bool.{eqb-true, eq-eqb, ltb-false, and_parts, or_pa
 use Rattle.std.specs.Prelude.{unsigned_abs, nat_lt}
 use Rattle.rv_net.specs.Cyclotomic.{Cyclotomic, nought, root2, times, times_w, times_w_power}
 use Rattle.rv_net.proofs.Cyclotomic.{same_cyclotomic, w_eight}
-use Rattle.rv_check.specs.Reduced.{half, is_even, is_large, is_large_number, is_multiple, quotient}
+use Rattle.rv_check.specs.Reduced.{half, is_even, is_large, is_multiple, quotient}
 use Rattle.rv_check.specs.declared.coefficient.TheConstants.{MOST_COEFFICIENT}
 use Rattle.rv_check.specs.inside.Dense.{halved, is_double}
 use Rattle.rv_check.specs.inside.Small.{AreSmall}
@@ -116,11 +116,7 @@ not_lt : (a b : ℕ) → nat_lt a b ≡ false → b ≤ a
 not_lt a b e = ltb-false a b e
 
 pub small_from : (u : Cyclotomic) → is_large u ≡ false → AreSmall MOST_COEFFICIENT u
-small_from u e =
-    let s = or_parts (is_large_number u.a || is_large_number u.b || is_large_number u.c) (is_large_number u.d) e in
-    let t = or_parts (is_large_number u.a || is_large_number u.b) (is_large_number u.c) s.0 in
-    let r = or_parts (is_large_number u.a) (is_large_number u.b) t.0 in
-    record { a = not_lt _ _ r.0; b = not_lt _ _ r.1; c = not_lt _ _ t.1; d = not_lt _ _ s.1 }
+small_from u e = grind (arith, or_parts, not_lt)
 
 pub large-nought : is_large nought ≡ false
 unfolding nought

@@ -46,9 +46,7 @@ Numbered n i (x ∷ xs) = (length x ≡ n) × (number_of x ≡ i) × Numbered n 
 
 numbered-append : (n i : ℕ) (xs ys : List Word) → Numbered n i xs → Numbered n (i + length xs) ys → Numbered n i (xs ++ ys)
 numbered-append n i [] ys h g = let e : i + 0 ≡ i = omega arith in subst (λ k. Numbered n k ys) e g
-numbered-append n i (x ∷ xs) ys h g =
-    let e : i + suc (length xs) ≡ suc i + length xs = omega arith in
-    (h.0, h.1, numbered-append n (suc i) xs ys h.2 (subst (λ k. Numbered n k ys) e g))
+numbered-append n i (x ∷ xs) ys h g = let i0 = numbered-append n (suc i) xs ys h.2 in grind (arith, i0)
 
 numbered-low : (n i : ℕ) (xs : List Word) → Numbered n i xs → Numbered (suc n) i (map (λ x. false ∷ x) xs)
 unfolding number_of
@@ -58,9 +56,7 @@ numbered-low n i (x ∷ xs) h = (ap suc h.0, omega (arith, h.1), numbered-low n 
 numbered-high : (n i : ℕ) (xs : List Word) → Numbered n i xs → Numbered (suc n) (2 ^ n + i) (map (λ x. true ∷ x) xs)
 unfolding number_of
 numbered-high n i [] h = tt
-numbered-high n i (x ∷ xs) h =
-    let e : 2 ^ n + suc i ≡ suc (2 ^ n + i) = omega arith in
-    (ap suc h.0, ap₂ (λ p q. 2 ^ p + q) h.0 h.1, subst (λ k. Numbered (suc n) k (map (λ x. true ∷ x) xs)) e (numbered-high n (suc i) xs h.2))
+numbered-high n i (x ∷ xs) h = let i0 = numbered-high n (suc i) xs h.2 in grind (arith, i0, ap₂)
 
 pub numbered_words : (n : ℕ) → Numbered n 0 (words n)
 unfolding words number_of
@@ -73,9 +69,7 @@ numbered_words (suc n) =
 numbered_at : {A : Type 0} (f : Word → A) (n i k : ℕ) (xs : List Word) (d : A) → Numbered n i xs → k < length xs → (x : Word) × (length x ≡ n) × (number_of x ≡ i + k) × (get_or (map f xs) k d ≡ f x)
 numbered_at f n i k [] d h lt = absurd (omega (arith, lt))
 numbered_at f n i zero (x ∷ xs) d h lt = (x, h.0, omega (arith, h.1), refl)
-numbered_at f n i (suc k) (x ∷ xs) d h lt =
-    let r = numbered_at f n (suc i) k xs d h.2 (omega (arith, lt)) in
-    (r.0, r.1, omega (arith, r.2), r.3)
+numbered_at f n i (suc k) (x ∷ xs) d h lt = let i0 = numbered_at f n (suc i) k xs d h.2 in grind (arith, i0)
 
 -- the word at a place
 pub word_at : {A : Type 0} (f : Word → A) (n k : ℕ) (d : A) → k < 2 ^ n → (x : Word) × (length x ≡ n) × (number_of x ≡ k) × (get_or (map f (words n)) k d ≡ f x)

@@ -104,9 +104,7 @@ number_of-set : (x : Word) (q : ℕ) → q < length x → number_of (set x q tru
 unfolding number_of
 number_of-set [] q lt = absurd (omega (arith, lt))
 number_of-set (c ∷ x) zero lt = let e : suc (length x) - 1 - 0 ≡ length x = omega arith in omega (arith, ap (λ k. 2 ^ k) e)
-number_of-set (c ∷ x) (suc q) lt =
-    let e : suc (length x) - 1 - suc q ≡ length x - 1 - q = omega arith in
-    omega (arith, number_of-set x q (omega (arith, lt)), ap (λ k. 2 ^ k) e, ap (λ k. cond c (2 ^ k) 0) (length-set x q true), ap (λ k. cond c (2 ^ k) 0) (length-set x q false))
+number_of-set (c ∷ x) (suc q) lt = let i0 = number_of-set x q in grind (arith, i0, length-set)
 
 same : (x : Word) (q : ℕ) (c : Bool) → bit_of x q ≡ c → set x q c ≡ x
 same x q c g = ap (set x q) (sym g) ∙ set-get_or x q false

@@ -136,20 +136,7 @@ pub mixed-two : (line : ℕ) (w z : Word) (v u : Cyclotomic) → line < length w
     (record { word = set w line false; value = plus v u }
     ∷ record { word = set w line true; value = plus (cond (bit_of w line) (negated v) v) (cond (bit_of w line) u (negated u)) } ∷ [])
 unfolding mixed spread
-mixed-two line w z v u lt is =
-    let at : bit_of z line ≡ not (bit_of w line) = ap (λ x. bit_of x line) is ∙ here w line (not (bit_of w line)) lt in
-    let zero_word : set z line false ≡ set w line false = ap (λ x. set x line false) is ∙ set-set w line _ false in
-    let one_word : set z line true ≡ set w line true = ap (λ x. set x line true) is ∙ set-set w line _ true in
-    ap (λ l. filter is_present (added (added l (set z line false) u) (set z line true) (cond (bit_of z line) (negated u) u)))
-    (both_added (set w line false) (set w line true) v (cond (bit_of w line) (negated v) v) (apart_at w line lt))
-    ∙ (λ i. filter is_present
-    (added (added (record { word = set w line false; value = v } ∷ record { word = set w line true; value = cond (bit_of w line) (negated v) v } ∷ []) (zero_word i) u) (one_word i) (cond (at i) (negated u) u)))
-    ∙ ap (filter is_present)
-    (all_added (set w line false) (set w line true) v (cond (bit_of w line) (negated v) v) u (cond (not (bit_of w line)) (negated u) u) (apart_at w line lt)
-    ∙ ap (λ x. record { word = set w line false; value = plus v u } ∷ record { word = set w line true; value = plus (cond (bit_of w line) (negated v) v) x } ∷ []) (turned_round (bit_of w line))) where
-      turned_round : (b : Bool) → cond (not b) (negated u) u ≡ cond b u (negated u)
-      turned_round true = refl
-      turned_round false = refl
+mixed-two line w z v u lt is = grind (arith, here, set-set, filter, both_added, apart_at, all_added)
 
 once_less : (n : ℕ) (w : Word) (v : Cyclotomic) → reduced_kept (suc n) (record { word = w; value = times root2 v } ∷ []) ≡ reduced_kept n (record { word = w; value = v } ∷ [])
 once_less n w v =

@@ -1,5 +1,5 @@
 -- The kept vector, reduced.
-use Rattle.std.proofs.Common.{◌≡◌, ℕ, zero, suc, ◌+◌, ◌≤◌, true, false, cond, List, map, refl, ap, ◌∙◌, arith, ℤ, pos, negsuc, ◌+ℤ◌, ◌-ℤ◌}
+use Rattle.std.proofs.Common.{◌≡◌, ℕ, zero, suc, ◌+◌, ◌≤◌, true, false, cond, List, map, refl, ap, ◌∙◌, arith, ℤ, pos, negsuc}
 use Rattle.std.proofs.lemmas.Int.{ints}
 use Rattle.std.specs.Prelude.{unsigned_abs}
 use Rattle.rv_net.specs.Cyclotomic.{Cyclotomic}
@@ -29,10 +29,4 @@ half_small (pos n) most h = omega arith
 half_small (negsuc n) most h = omega (arith, ints)
 
 pub quotient_small : (most : ℕ) (u : Cyclotomic) → AreSmall most u → AreSmall most (quotient u)
-quotient_small most u h =
-    rw (quotient_is u) (record {
-      a = half_small (u.b -ℤ u.d) most (omega (arith, ints, h.b, h.d));
-      b = half_small (u.a +ℤ u.c) most (omega (arith, ints, h.a, h.c));
-      c = half_small (u.b +ℤ u.d) most (omega (arith, ints, h.b, h.d));
-      d = half_small (u.c -ℤ u.a) most (omega (arith, ints, h.a, h.c));
-    })
+quotient_small most u h = grind (arith, quotient_is, half_small, ints)

@@ -1,5 +1,5 @@
 -- Values divided by two so many times, as often as the bits of their integers allow.
-use Rattle.std.proofs.Common.{◌≡◌, ℕ, zero, suc, ◌-◌, ◌*◌, ◌/◌, ◌%◌, ◌^◌, ◌<◌, ◌≤◌, ◌&&◌, true, List, [], ◌∷◌, map, All, ℤ, pos, negsuc, neg_ℤ, refl, sym, ap, ap₂, ◌∙◌, arith}
+use Rattle.std.proofs.Common.{◌≡◌, ℕ, zero, suc, ◌-◌, ◌*◌, ◌/◌, ◌%◌, ◌^◌, ◌<◌, ◌≤◌, true, List, [], ◌∷◌, map, All, ℤ, pos, negsuc, neg_ℤ, refl, sym, ap, ap₂, ◌∙◌, arith}
 use Rattle.std.proofs.Math.Nat.{div-div-eq-div-mul, pow-suc}
 use Rattle.std.proofs.lemmas.Bool.{eq-eqb}
 use Rattle.std.proofs.lemmas.Int.{ints}
@@ -12,7 +12,7 @@ use Rattle.std.specs.List.{fold, list_all}
 use Rattle.std.specs.Prelude.{unsigned_abs}
 use Rattle.rv_net.specs.Cyclotomic.{Cyclotomic}
 use Rattle.rv_net.proofs.Cyclotomic.{same_cyclotomic}
-use Rattle.rv_check.specs.Reduced.{half, is_even, reduced}
+use Rattle.rv_check.specs.Reduced.{half, reduced}
 use Rattle.rv_check.specs.inside.Dense.{bits_in, bits_in_all, halved, halved_by, is_double, left}
 use Rattle.rv_check.specs.inside.Small.{AreSmall}
 use Rattle.rv_check.proofs.inside.Dividing.{left_twice, reduced_twice}
@@ -35,11 +35,7 @@ low_or : (n p q : ℕ) → Low n (bit_or p q) → Low n p × Low n q
 low_or n p q h = ((λ i lt. omega (arith, bit_at_or p q i, h i lt)), (λ i lt. omega (arith, bit_at_or p q i, h i lt)))
 
 low_in : (n : ℕ) (u : Cyclotomic) → Low n (bits_in u) → AreLow n u
-low_in n u h =
-    let both = low_or n (bit_or (unsigned_abs u.a) (unsigned_abs u.b)) (bit_or (unsigned_abs u.c) (unsigned_abs u.d)) h in
-    let p = low_or n (unsigned_abs u.a) (unsigned_abs u.b) both.0 in
-    let q = low_or n (unsigned_abs u.c) (unsigned_abs u.d) both.1 in
-    record { a = p.0; b = p.1; c = q.0; d = q.1 }
+low_in n u h = grind (arith, low_or)
 
 low_from : (n m : ℕ) (vs : List Cyclotomic) → Low n (fold (λ bits u. bit_or bits (bits_in u)) m vs) → Low n m × AllLow n vs
 low_from n m [] h = (h, tt)
@@ -57,15 +53,7 @@ all_low n bits vs is lt le = (low_from n 0 vs (λ i below. ap (λ m. bit_at m i)
 -- ---- how great they are
 
 small_in : (most : ℕ) (u : Cyclotomic) → bits_in u ≤ most → AreSmall most u
-small_in most u h =
-    let l = le_or_l (bit_or (unsigned_abs u.a) (unsigned_abs u.b)) (bit_or (unsigned_abs u.c) (unsigned_abs u.d)) in
-    let r = le_or_r (bit_or (unsigned_abs u.a) (unsigned_abs u.b)) (bit_or (unsigned_abs u.c) (unsigned_abs u.d)) in
-    record {
-      a = omega (arith, h, l, le_or_l (unsigned_abs u.a) (unsigned_abs u.b));
-      b = omega (arith, h, l, le_or_r (unsigned_abs u.a) (unsigned_abs u.b));
-      c = omega (arith, h, r, le_or_l (unsigned_abs u.c) (unsigned_abs u.d));
-      d = omega (arith, h, r, le_or_r (unsigned_abs u.c) (unsigned_abs u.d));
-    }
+small_in most u h = grind (arith, le_or_l, le_or_r)
 
 small_from : (m most : ℕ) (vs : List Cyclotomic) → fold (λ bits u. bit_or bits (bits_in u)) m vs ≤ most → (m ≤ most) × All (AreSmall most) vs
 small_from m most [] h = (h, All-nil (AreSmall most))
@@ -100,9 +88,7 @@ halves_low n (u ∷ vs) (g, h) = (record { a = low_half n u.a g.a; b = low_half 
 
 doubles_low : (n : ℕ) (vs : List Cyclotomic) → AllLow (suc n) vs → list_all is_double vs ≡ true
 doubles_low n [] h = refl
-doubles_low n (u ∷ vs) (g, h) =
-    let even : (z : ℤ) → Low (suc n) (unsigned_abs z) → is_even z ≡ true = λ z low. eq-eqb _ 0 (even_low n z low) in
-    ap₂ (λ p q. p && q) (ap₂ (λ p q. p && q) (even u.a g.a) (ap₂ (λ p q. p && q) (even u.b g.b) (ap₂ (λ p q. p && q) (even u.c g.c) (even u.d g.d)))) (doubles_low n vs h)
+doubles_low n (u ∷ vs) (g, h) = let i0 = doubles_low n vs h in grind (arith, i0, eq-eqb, even_low, ap₂)
 
 div_more : (n m : ℕ) → m / 2 ^ suc n ≡ m / 2 / 2 ^ n
 div_more n m = let e : 2 ^ suc n ≡ 2 * 2 ^ n = omega (arith, pow-suc 2 n) in ap (λ k. m / k) e ∙ sym (div-div-eq-div-mul m 2 (2 ^ n))
@@ -127,17 +113,8 @@ shifted_none (u ∷ vs) = ap₂ (λ w ws. w ∷ ws) (same_cyclotomic _ _ (shr_no
 -- what is left after so many
 pub shifted_all : (n exponent : ℕ) (vs : List Cyclotomic) → 2 * n ≤ exponent → AllLow n vs
     → (reduced (exponent - 2 * n) (map (halved_by n) vs) ≡ reduced exponent vs) × (left (exponent - 2 * n) (map (halved_by n) vs) ≡ left exponent vs)
-shifted_all zero exponent vs le h =
-    let e : exponent - 2 * 0 ≡ exponent = omega arith in
-    (ap₂ reduced e (shifted_none vs), ap₂ left e (shifted_none vs))
-shifted_all (suc n) exponent vs le h =
-    let all = doubles_low n vs h in
-    let two : exponent ≡ suc (suc (exponent - 2)) = omega (arith, le) in
-    let less : exponent - 2 * suc n ≡ exponent - 2 - 2 * n = omega (arith, le) in
-    let r = shifted_all n (exponent - 2) (map halved vs) (omega (arith, le)) (halves_low n vs h) in (
-      ap₂ reduced less (shifted_more n vs h) ∙ r.0 ∙ reduced_twice exponent (exponent - 2) vs two all,
-      ap₂ left less (shifted_more n vs h) ∙ r.1 ∙ left_twice exponent (exponent - 2) vs two all,
-    )
+shifted_all zero exponent vs le h = grind (arith, ap₂, shifted_none)
+shifted_all (suc n) exponent vs le h = let i0 = shifted_all n (exponent - 2) in grind (arith, i0, doubles_low, halves_low, ap₂, shifted_more, reduced_twice, left_twice)
 
 shr_small : (n most : ℕ) (z : ℤ) → unsigned_abs z ≤ most → unsigned_abs (int_shr z n) ≤ most
 shr_small n most (pos m) h = omega (arith, h, shr_le m n)

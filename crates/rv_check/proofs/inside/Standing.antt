@@ -1,6 +1,5 @@
 -- A network followed from a word, at a place where the kept vector stands for the first operations.
-use Rattle.std.proofs.Common.{◌≡◌, ℕ, ◌+◌, ◌<◌, ◌≤◌, true, false, ◌&&◌, ◌==◌, List, length, take, get_or, All, sym, ◌∙◌, arith, inl, inr}
-use Rattle.std.proofs.lemmas.Bool.{cases_eq, cases_lt}
+use Rattle.std.proofs.Common.{◌≡◌, ℕ, ◌+◌, ◌<◌, ◌≤◌, true, false, ◌&&◌, ◌==◌, List, length, take, get_or, All, sym, ◌∙◌, arith}
 use Rattle.std.proofs.lemmas.List.{take_all, take_more}
 use Rattle.std.specs.List.{list_any}
 use Rattle.rv_net.specs.Op.{OpFitsIn}
@@ -45,12 +44,4 @@ done_here ops x image place k fits s end before lines =
 
 -- after one operation, and more
 pub not_large_on : (ops : List Op) (x : Word) (place next : ℕ) → ((p : ℕ) → p ≤ place → NotLarge ops x p) → NotLarge ops x (place + 1) → NoneLargeIn ops x (place + 1) next → (p : ℕ) → p ≤ next → NotLarge ops x p
-not_large_on ops x place next before here after p le =
-    elim (cases_lt place p) as (λ _. NotLarge ops x p) [
-      | inr low ↦ before p low
-      | inl high ↦
-          elim (cases_eq p (place + 1)) as (λ _. NotLarge ops x p) [
-            | inl e ↦ rw e here
-            | inr ne ↦ after p (omega (arith, high, ne)) le
-          ]
-    ]
+not_large_on ops x place next before here after p le = grind (arith)

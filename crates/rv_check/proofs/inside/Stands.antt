@@ -1,7 +1,7 @@
 -- What binds the kept vector and the whole one after each operation: the whole one is the kept one times the root of two,
 -- so many times, and the kept one can't be divided further.
-use Rattle.std.proofs.Common.{◌≡◌, ℕ, zero, suc, ◌+◌, Bool, true, false, cond, ◌&&◌, List, [], ◌∷◌, ◌++◌, map, length, fold, All, refl, sym, ap, ap₂, ◌∙◌, arith, inl, inr, ◌⊎◌, append_assoc, append-nil}
-use Rattle.std.proofs.lemmas.Bool.{false≢true, false_from_ne_true, and_parts}
+use Rattle.std.proofs.Common.{◌≡◌, ℕ, zero, suc, ◌+◌, Bool, true, false, cond, List, [], ◌∷◌, ◌++◌, map, length, fold, All, refl, sym, ap, ap₂, ◌∙◌, arith, inl, inr, ◌⊎◌, append_assoc, append-nil}
+use Rattle.std.proofs.lemmas.Bool.{false≢true, false_from_ne_true}
 use Rattle.std.proofs.lemmas.List.Elements.{All-head, All-tail, All-cons, All-nil, All-map, All-weaker, All-filter}
 use Rattle.rv_net.specs.Amplitude.{amplitude, count_h, same_word}
 use Rattle.rv_net.specs.Cyclotomic.{nought, unity, plus, times, times_w_power}
@@ -9,7 +9,6 @@ use Rattle.rv_net.specs.Op.{goes_to, phase_of, OpFitsIn}
 use Rattle.rv_net.specs.declared.op.Op.{Op}
 use Rattle.rv_net.specs.declared.op.Op.TheVariants.{H}
 use Rattle.rv_net.proofs.Cyclotomic.{plus_nought, nought_plus}
-use Rattle.rv_check.specs.Reduced.{is_multiple}
 use Rattle.rv_check.specs.declared.member.Member.{Member}
 use Rattle.rv_check.specs.inside.Kept.{Kept, divided, is_present, kept_after, kept_more, kept_start, mixed, moved, reduced_kept, spread}
 use Rattle.rv_check.specs.inside.Dense.{undivided_more}
@@ -49,9 +48,7 @@ worth_moved op is (m ∷ ms) z =
 
 multiples_moved : (op : Op) (ms : List Member) → multiples (map (moved op) ms) ≡ true → multiples ms ≡ true
 multiples_moved op [] e = refl
-multiples_moved op (m ∷ ms) e =
-    let b = and_parts (is_multiple (times_w_power (phase_of op m.word) m.value)) (multiples (map (moved op) ms)) e in
-    ap₂ (λ p q. p && q) (multiple_turned (phase_of op m.word) m.value b.0) (multiples_moved op ms b.1)
+multiples_moved op (m ∷ ms) e = let i0 = multiples_moved op ms in grind (arith, i0, ap₂, multiple_turned)
 
 still_greatest : (op : Op) (k : Kept) → (k.exponent ≡ 0) ⊎ (multiples k.members ≡ false) → (k.exponent ≡ 0) ⊎ (multiples (map (moved op) k.members) ≡ false)
 still_greatest op k (inl e) = inl e

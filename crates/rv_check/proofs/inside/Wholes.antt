@@ -1,7 +1,7 @@
 -- The values of all words, as the operations change them: those of the kept vector.
 use Rattle.rv_gate.proofs.Lists.{map_map}
 use Rattle.rv_gate.proofs.Words.{same_word-is, same_word-true, same_word-false}
-use Rattle.std.proofs.Common.{◌≡◌, ℕ, zero, suc, ◌+◌, ◌<◌, Bool, true, false, cond, List, [], ◌∷◌, map, length, take, set, fold, refl, sym, ap, ap₂, ◌∙◌, arith, subst}
+use Rattle.std.proofs.Common.{◌≡◌, ℕ, zero, suc, ◌+◌, ◌<◌, Bool, true, false, cond, List, [], ◌∷◌, map, length, take, set, fold, refl, sym, ap, ap₂, ◌∙◌, arith}
 use Rattle.std.proofs.lemmas.Int.{ints}
 use Rattle.std.proofs.lemmas.List.Elements.{All-head, All-tail}
 use Rattle.rv_gate.specs.Word.{bit_of}
@@ -29,20 +29,7 @@ use Rattle.std.proofs.lemmas.Grind.{common_steps}
 
 moved_one : (op : Op) (w z : Word) (v : Cyclotomic) → OpFitsIn op (length w) → OpFitsIn op (length z)
     → at_word (goes_to op w) z (times_w_power (phase_of op w) v) ≡ times_w_power (phase_of op (goes_to op z)) (at_word w (goes_to op z) v)
-moved_one op w z v g h =
-    grind (
-      arith,
-      same_word,
-      goes_to,
-      at_word,
-      times_w_power,
-      phase_of,
-      same_word-is,
-      same_word-true,
-      goes_back,
-      same_word-false,
-      times_w_power-zero,
-    )
+moved_one op w z v g h = grind (arith, same_word-is, same_word-true, goes_back, same_word-false, times_w_power-zero)
 
 pub value_at-moved : (op : Op) (n : ℕ) (ms : List Member) (z : Word) → OpFitsIn op n → On n ms → length z ≡ n → value_at (map (moved op) ms) z ≡ moved_at op (value_at ms) z
 unfolding value_at
@@ -58,11 +45,7 @@ undivided_more-moved op k h = grind arith
 
 pub shows_moved : (op : Op) (n : ℕ) (vs ws : List Cyclotomic) (exponent : ℕ) (k : Kept) → ((q : ℕ) → op ≡ H q → ⊥) → OpFitsIn op n → On n k.members
     → ((f : Word → Cyclotomic) → vs ≡ map f (words n) → ws ≡ map (moved_at op f) (words n)) → Shows n vs exponent k → Shows n ws exponent (undivided_more k op)
-shows_moved op n vs ws exponent k other fits on done s =
-    subst (λ l. Shows n ws exponent l) (sym (undivided_more-moved op k other)) (record {
-      values_are = done (value_at k.members) s.values_are ∙ same_map _ _ n (λ z l. sym (value_at-moved op n k.members z fits on l));
-      exponent_is = s.exponent_is;
-    })
+shows_moved op n vs ws exponent k other fits on done s = grind (arith, undivided_more-moved, same_map, value_at-moved)
 
 -- ---- H
 

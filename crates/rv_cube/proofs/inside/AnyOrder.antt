@@ -1,8 +1,8 @@
 -- Cubes with the same inputs may become one in any order.
-use Rattle.std.proofs.Common.{◌≡◌, ◌≢◌, ℕ, zero, suc, ◌<◌, ◌≤◌, Bool, true, false, ◌&&◌, List, length, set, sym, ◌∙◌, ap, subst, inl, inr, arith, lt-ltb, refl, cond}
+use Rattle.std.proofs.Common.{◌≡◌, ◌≢◌, ℕ, zero, suc, ◌<◌, ◌≤◌, Bool, true, false, ◌&&◌, List, length, set, sym, ◌∙◌, ap, inl, inr, arith, lt-ltb, refl, cond}
 use Rattle.std.specs.Option.{option_or}
 use Rattle.std.specs.Prelude.{Option, None, Some, All, nat_lt}
-use Rattle.std.proofs.lemmas.Bool.{cases_lt, cases_eq, false≢true, and_parts, and_from, ltb-true, false_from_ne_true}
+use Rattle.std.proofs.lemmas.Bool.{cases_lt, false≢true, and_parts, and_from, ltb-true, false_from_ne_true}
 use Rattle.std.proofs.lemmas.List.{set_comm}
 use Rattle.rv_pla.specs.Cube.{IsCube}
 use Rattle.rv_pla.specs.declared.cube.Cube.{Cube}
@@ -215,15 +215,7 @@ second_same : (slots : List Cube) (b i j : ℕ) → IsFirstPair slots i b → Is
 second_same slots b i j f h = grind arith
 
 nearest_first : (slots : List Cube) (a b i j : ℕ) → IsFirstPair slots a b → IsNearest slots i j → i ≤ a → IsFirstPair slots i j
-nearest_first slots a b i j f h le =
-    elim (cases_eq a i) [
-      | inl e ↦
-          let P : ℕ → Type 0 = λ k. IsFirstPair slots k b in
-          let Q : ℕ → Type 0 = λ k. IsFirstPair slots i k in
-          let g : IsFirstPair slots i b = subst P e f in
-          subst Q (second_same slots b i j g h) g
-      | inr ne ↦ absurd (false≢true (sym (f.before i j (omega arith) h.order h.full_i h.full_j) ∙ h.same))
-    ]
+nearest_first slots a b i j f h le = grind (arith, second_same)
 
 nearest_reduced : (n m : ℕ) (slots : List Cube) (i j : ℕ) → length (terms_of slots) < m → All (IsCube n MOST_OUTPUTS) slots → IsNearest slots i j
     → reduced n (terms_of (merged_in n slots i j)) ≡ reduced n (terms_of slots)

@@ -48,11 +48,7 @@ differing-none a b = refl
 
 pub differing-comm : (n : ℕ) (a b : Cube) → differing n a b ≡ differing n b a
 differing-comm zero a b = differing-none a b ∙ sym (differing-none b a)
-differing-comm (suc n) a b =
-    differing-suc n a b
-    ∙ ap (λ t. cond t (differing n a b ++ n ∷ []) (differing n a b)) (differs-comm a b n)
-    ∙ ap (λ xs. cond (differs b a n) (xs ++ n ∷ []) xs) (differing-comm n a b)
-    ∙ sym (differing-suc n b a)
+differing-comm (suc n) a b = let i0 = differing-comm n a b in grind (arith, i0, differing-suc, differs-comm)
 
 abbrev pub IsDiffering : Cube → Cube → ℕ → List ℕ → Type 0
 IsDiffering a b n [] = (i : ℕ) → i < n → symbol a i ≡ symbol b i
@@ -77,9 +73,7 @@ choice_is a b n x false d h = alike_is a b n x h d
 
 pub differing_is : (n : ℕ) (a b : Cube) → IsDiffering a b n (differing n a b)
 differing_is zero a b = let P : List ℕ → Type 0 = λ y. IsDiffering a b 0 y in subst P (sym (differing-none a b)) (λ i l. absurd (omega arith))
-differing_is (suc n) a b =
-    let P : List ℕ → Type 0 = λ y. IsDiffering a b (suc n) y in
-    subst P (sym (differing-suc n a b)) (choice_is a b n (differing n a b) (differs a b n) refl (differing_is n a b))
+differing_is (suc n) a b = let i0 = differing_is n a b in grind (arith, i0, differing-suc, choice_is)
 
 pub differing_as : (n : ℕ) (a b : Cube) (x : List ℕ) → differing n a b ≡ x → IsDiffering a b n x
 differing_as n a b x e = let P : List ℕ → Type 0 = λ y. IsDiffering a b n y in subst P e (differing_is n a b)
@@ -134,10 +128,7 @@ pub differs-true : (x y : Cube) (p : ℕ) → symbol x p ≢ symbol y p → diff
 differs-true x y p ne = elim (cases_Bool (differs x y p)) [ inl t ↦ t | inr f ↦ absurd (ne (differs-not x y p f)) ]
 
 pub both_from : (n : ℕ) (x y : Cube) (p q : ℕ) → IsDiffering x y n (p ∷ q ∷ []) → DifferInTwo n x y p q
-both_from n x y p q is =
-    let pq = is.0 in
-    let qn = is.1 in
-    record { first = omega arith; second = qn; two = omega arith; differ_first = differ_not x y p is.2; differ_second = differ_not x y q is.3; others = is.4 }
+both_from n x y p q is = grind (arith, differ_not)
 
 pub both_other : (n : ℕ) (x y : Cube) (p q : ℕ) → DifferInTwo n x y p q → DifferInTwo n y x p q
 both_other n x y p q d = grind arith

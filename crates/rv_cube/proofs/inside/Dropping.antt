@@ -21,7 +21,7 @@ use Rattle.rv_gate.proofs.AllBelow.{all_below-at}
 use Rattle.rv_cube.specs.Esop.{share, esop_value, IsTerm}
 use Rattle.rv_gate.specs.FirstAnswer.{first}
 use Rattle.rv_cube.specs.Reduction.{no_cube, at}
-use Rattle.rv_cube.specs.ReductionFor.{IsRight, free_where, is_idle, output_dropped, dropped, dropping, first_drop, carried_count, weight}
+use Rattle.rv_cube.specs.ReductionFor.{IsRight, free_where, is_idle, output_dropped, dropped, dropping, first_drop, weight}
 use Rattle.rv_cube.proofs.inside.Merges.{All-remove, cond-zero}
 use Rattle.rv_cube.proofs.Outputs.{count-output_dropped}
 use Rattle.rv_cube.proofs.Searches.{finds_first, finds_if}
@@ -69,11 +69,7 @@ pub data Left (cubes : List Cube) (a j : ℕ) (new : List Cube) : Type 0 where
   stands : bit_xor (at cubes a).outs (2 ^ j) ≢ 0 → new ≡ set cubes a (output_dropped (at cubes a) j) → Left cubes a j new
 
 left : (pla : TwoLevel) (cubes new : List Cube) (d : IsDrop pla cubes new) → Left cubes d.place d.output new
-left pla cubes new d =
-    elim (cases_eq (bit_xor (at cubes d.place).outs (2 ^ d.output)) 0) [
-      | inl none ↦ gone none (d.is ∙ rw none refl)
-      | inr some ↦ stands some (d.is ∙ rw (ne_eqb _ _ some) refl)
-    ]
+left pla cubes new d = grind (arith, ne_eqb)
 
 -- ---- the value
 
@@ -159,15 +155,8 @@ pub record Lowered (outputs : ℕ) (old new : List Cube) : Type 0 where
   pub smaller : weight outputs new < weight outputs old
 
 left_lowers : (o : ℕ) (cubes new : List Cube) (a j : ℕ) → a < length cubes → j < o → has (at cubes a).outs j ≡ true → Left cubes a j new → Lowered o cubes new
-left_lowers o cubes new a j within lt on (gone none e) =
-    let len = length-remove cubes a within in
-    let s = sum_by-remove (carried_count o) cubes a no_cube within in
-    rw e (record { no_longer = omega arith; smaller = omega arith })
-left_lowers o cubes new a j within lt on (stands some e) =
-    let len = length-set cubes a (output_dropped (at cubes a) j) in
-    let s = sum_by-set (carried_count o) cubes a (output_dropped (at cubes a) j) no_cube within in
-    let less = count-output_dropped o (at cubes a) j lt on in
-    rw e (record { no_longer = omega arith; smaller = omega arith })
+left_lowers o cubes new a j within lt on (gone none e) = grind (arith, length-remove, sum_by-remove)
+left_lowers o cubes new a j within lt on (stands some e) = grind (arith, length-set, sum_by-set, count-output_dropped)
 
 pub drop_lowers : (pla : TwoLevel) (cubes new : List Cube) → IsDrop pla cubes new → Lowered pla.outputs cubes new
 drop_lowers pla cubes new d =

@@ -1,6 +1,6 @@
 -- Rows that are due: how many, and which after one is done or made due.
-use Rattle.std.proofs.Common.{◌≡◌, ℕ, suc, ◌+◌, ◌<◌, Bool, true, false, cond, List, length, set, sym, ◌∙◌, ap, inl, inr, arith, refl, subst}
-use Rattle.std.proofs.lemmas.Bool.{cases_eq, cases_lt, false≢true, lt-ltb, le-ltb, cond_both}
+use Rattle.std.proofs.Common.{◌≡◌, ℕ, suc, ◌+◌, ◌<◌, Bool, true, false, cond, List, length, set, sym, ◌∙◌, ap, inl, inr, arith, refl}
+use Rattle.std.proofs.lemmas.Bool.{cases_lt, false≢true, lt-ltb, le-ltb, cond_both}
 use Rattle.std.proofs.lemmas.List.{get_or_past}
 use Rattle.std.proofs.lemmas.List.Sums.{sum_by-set}
 use Rattle.rv_cube.specs.inside.Slots.{is_due}
@@ -37,12 +37,7 @@ abbrev pub Below : (ℕ → ℕ → Type 0) → ℕ → ℕ → Type 0
 Below P n row = (i : ℕ) × (i < n) × P i row
 
 pub marks_more : (P : ℕ → ℕ → Type 0) (n : ℕ) (old mid new : List Bool) → Marks (Below P n) old mid → Marks (P n) mid new → Marks (Below P (n + 1)) old new
-marks_more P n old mid new h k =
-    marks_then (Below P n) (P n) (Below P (n + 1)) old mid new
-    (λ row x. elim (cases_eq x.0 n) [
-      | inl e ↦ inr (subst (λ i. P i row) e x.2)
-      | inr ne ↦ inl (x.0, (let l = x.1 in omega arith), x.2)
-    ]) h k
+marks_more P n old mid new h k = grind (arith, marks_then)
 
 -- ---- the lower of two slots
 

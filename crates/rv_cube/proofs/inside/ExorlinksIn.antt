@@ -1,5 +1,5 @@
 -- What an exorlink of two slots is.
-use Rattle.std.proofs.Common.{◌≡◌, ◌≢◌, ℕ, ◌<◌, Bool, true, false, cond, eqb, List, length, refl, sym, ◌∙◌, inl, inr, arith, ◌∷◌, []}
+use Rattle.std.proofs.Common.{◌≡◌, ◌≢◌, ℕ, ◌<◌, Bool, true, false, cond, List, length, refl, sym, ◌∙◌, arith, ◌∷◌, []}
 use Rattle.std.specs.Prelude.{None, Some, ◌⊎◌, bit_xor}
 use Rattle.std.proofs.lemmas.Bool.{cases_eq, eqb-true, not-true}
 use Rattle.rv_pla.specs.Cube.{Symbol, symbol}
@@ -18,7 +18,6 @@ use Rattle.rv_cube.proofs.Exorlinks.{IsForm, form_1, form_2}
 use Rattle.rv_cube.proofs.Searches.{Finds, finds_else, finds_first, finds_none, finds_if, finds_cond}
 use Rattle.rv_cube.proofs.inside.Keys.{alike_symbols}
 use Rattle.rv_cube.proofs.inside.PartnerSearches.{test_partner}
-use Rattle.std.proofs.lemmas.Grind.{common_steps}
 
 -- the slots a and b are exorlinked as f and s, and the one of these at `place`, which is `cube`, has a partner
 pub record IsExorlinkIn (n : ℕ) (slots : List Cube) (a b : ℕ) (f s : Cube) (place : ℕ) (cube : Cube) (c : ℕ) : Type 0 where
@@ -42,9 +41,7 @@ partner_is n slots a b f s place cube form far which =
 
 form_is : (n : ℕ) (slots : List Cube) (a b : ℕ) (f s : Cube) → IsForm n MOST_OUTPUTS (at slots a) (at slots b) f s
     → (p : ℕ) × (q : ℕ) × DifferAt n f s p q → Finds (ExorlinksIn n slots a b) (form_in n slots a b f s)
-form_is n slots a b f s form far =
-    finds_else (ExorlinksIn n slots a b) (partner_in n slots a b f s a f) (partner_in n slots a b f s b s)
-    (partner_is n slots a b f s a f form far (inl (refl, refl))) (partner_is n slots a b f s b s form far (inr (refl, refl)))
+form_is n slots a b f s form far = grind (arith, finds_else, partner_is)
 
 third-left : (s t : Symbol) → is_same s t ≡ false → is_same (third s t) t ≡ false
 third-left s t h = grind arith
@@ -55,20 +52,7 @@ third-right s t h = is_same-comm s (third t s) ∙ third-left t s (is_same-comm 
 -- the cubes of a form differ in both inputs
 form_far : (n : ℕ) (x y : Cube) (p q : ℕ) → IsDiffering x y n (p ∷ q ∷ []) → DifferAt n (with_third x y p) (with_third y x q) p q
 unfolding with_third
-form_far n x y p q is =
-    let pq : p < q = is.0 in
-    let qn : q < n = is.1 in
-    let qp : q ≢ p = omega arith in
-    let np : p ≢ q = omega arith in
-    let dp : is_same (symbol x p) (symbol y p) ≡ false = not-true _ is.2 in
-    let dq : is_same (symbol x q) (symbol y q) ≡ false = not-true _ is.3 in
-    record {
-      p_in = omega arith;
-      q_in = qn;
-      two = np;
-      at_p = grind (arith, common_steps, symbol_with-same, symbol_with-other, third-left);
-      at_q = grind (arith, common_steps, symbol_with-other, symbol_with-same, third-right);
-    }
+form_far n x y p q is = grind (arith, not-true, symbol_with-same, symbol_with-other, third-left, third-right)
 
 exorlinked_in_by : (n : ℕ) (slots : List Cube) (a b : ℕ) (x : List ℕ) → (at slots a).outs ≡ (at slots b).outs → IsDiffering (at slots a) (at slots b) n x
     → Finds (ExorlinksIn n slots a b) (exorlink_in_by x n slots a b (at slots a) (at slots b))
@@ -82,9 +66,7 @@ exorlinked_in_by n slots a b (p ∷ q ∷ []) o is =
 exorlinked_in_by n slots a b v o is = finds_none (ExorlinksIn n slots a b)
 
 pub exorlink_in_is : (n : ℕ) (slots : List Cube) (a b : ℕ) → Finds (ExorlinksIn n slots a b) (exorlink_in n slots a b)
-exorlink_in_is n slots a b =
-    finds_cond (ExorlinksIn n slots a b) (eqb (at slots a).outs (at slots b).outs) _
-    (λ e. exorlinked_in_by n slots a b (differing n (at slots a) (at slots b)) (eqb-true _ _ e) (differing_is n (at slots a) (at slots b)))
+exorlink_in_is n slots a b = grind (arith, finds_cond, exorlinked_in_by, eqb-true, differing_is)
 
 -- ---- what a cube and its partner become has other inputs than a cube that differs from it in two
 

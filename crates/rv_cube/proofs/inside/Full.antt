@@ -1,9 +1,9 @@
 -- Which slots are full, also after one was set, and that each has a cube.
-use Rattle.std.proofs.Common.{◌≡◌, ◌≢◌, ℕ, ◌<◌, true, false, List, ◌∷◌, ◌++◌, length, set, sym, ◌∙◌, ap, inl, inr, arith, length-set, get_or-set_same, get_or-set_other, subst, [], not, ne_eqb}
+use Rattle.std.proofs.Common.{◌≡◌, ◌≢◌, ℕ, ◌<◌, true, false, List, ◌∷◌, ◌++◌, length, set, sym, ◌∙◌, ap, arith, length-set, get_or-set_same, get_or-set_other, [], not, ne_eqb}
 use Rattle.std.specs.Prelude.{All}
 use Rattle.std.proofs.lemmas.Bool.{cases_eq, cases_lt, false≢true, eqb-false, not-true}
 use Rattle.std.proofs.lemmas.List.{get_or_past, get_or_push, get_or_append_left, length-append}
-use Rattle.std.proofs.lemmas.List.Elements.{All-get_or, All-set}
+use Rattle.std.proofs.lemmas.List.Elements.{All-set}
 use Rattle.std.proofs.lemmas.Nat.{pow_pos}
 use Rattle.std.proofs.lemmas.Nat.Bits.{bit_at-zero}
 use Rattle.rv_gate.proofs.LineSets.{has_one}
@@ -44,11 +44,7 @@ pub no_cube_valid : (n outputs : ℕ) → IsCube n outputs no_cube
 no_cube_valid n outputs = grind (arith, common_steps, pow_pos, has_one, bit_at-zero)
 
 pub at_valid : (n outputs : ℕ) (slots : List Cube) (i : ℕ) → All (IsCube n outputs) slots → IsCube n outputs (at slots i)
-at_valid n outputs slots i all =
-    elim (cases_lt i (length slots)) [
-      | inl lt ↦ All-get_or (IsCube n outputs) slots i no_cube lt all
-      | inr ge ↦ subst (IsCube n outputs) (sym (get_or_past slots i no_cube ge)) (no_cube_valid n outputs)
-    ]
+at_valid n outputs slots i all = grind (arith, get_or_past, no_cube_valid)
 
 pub valid_set : (n : ℕ) (slots : List Cube) (i : ℕ) (cube : Cube) → All (IsCube n MOST_OUTPUTS) slots → IsCube n MOST_OUTPUTS cube
     → All (IsCube n MOST_OUTPUTS) (set slots i cube)

@@ -37,9 +37,7 @@ one_more : (pla : TwoLevel) (cube : Cube) (n j : ℕ) → all_below (free_where 
 one_more pla cube n j = ap (all_below (free_where pla cube j)) (add-one n)
 
 pub idles_off : (pla : TwoLevel) (cube : Cube) (n set : ℕ) → Idles pla cube n set → matches cube (word_of pla.inputs n) ≡ false → Idles pla cube (n + 1) set
-idles_off pla cube n set i off j h =
-    i j h
-    ∙ sym (ap (λ b. has cube.outs j && b) (one_more pla cube n j ∙ ap (λ m. (not m || is_dont_care (entry pla (word_of pla.inputs n) j)) && all_below (free_where pla cube j) n) off))
+idles_off pla cube n set i off j h = grind (arith, one_more)
 
 pub idles_on : (pla : TwoLevel) (cube : Cube) (n set free : ℕ) → Idles pla cube n set → n < 2 ^ pla.inputs → matches cube (word_of pla.inputs n) ≡ true → free ≡ get_or (free_sets pla) n 0
     → Idles pla cube (n + 1) (bit_and set free)
@@ -66,9 +64,7 @@ idles_all pla cube n set i all j h = i j h ∙ ap (λ k. has cube.outs j && all_
 
 pub idles_skip : (pla : TwoLevel) (cube : Cube) (m n set : ℕ) → Idles pla cube n set → ((y : ℕ) → n ≤ y → y < n + m → matches cube (word_of pla.inputs y) ≡ false) → Idles pla cube (n + m) set
 idles_skip pla cube zero n set i none = let e : n ≡ n + 0 = omega arith in subst (λ k. Idles pla cube k set) e i
-idles_skip pla cube (suc m) n set i none =
-    let e : n + 1 + m ≡ n + suc m = omega arith in
-    subst (λ k. Idles pla cube k set) e (idles_skip pla cube m (n + 1) set (idles_off pla cube n set i (none n (omega arith) (omega arith))) (λ y l u. none y (omega arith) (omega arith)))
+idles_skip pla cube (suc m) n set i none = let i0 = idles_skip pla cube m (n + 1) set in grind (arith, i0, idles_off)
 
 all_at_first : (pla : TwoLevel) (cube : Cube) (n j : ℕ) → all_below (free_where pla cube j) (2 ^ pla.inputs) ≡ true → n ≤ 2 ^ pla.inputs → (x : ℕ) → x < n → free_where pla cube j x ≡ true
 all_at_first pla cube n j all le x l = all_below-at (free_where pla cube j) (2 ^ pla.inputs) x all (omega arith)

@@ -153,9 +153,7 @@ unfolding is_idle
 no_idle pla j h = rw (bit_at-zero j) refl
 
 pub none_idle : (pla : TwoLevel) (n : ℕ) → All (HasNoIdle pla) (replicate n no_cube)
-none_idle pla n k d h =
-    let P : Cube → Type 0 = HasNoIdle pla in
-    subst P (sym (get_or-replicate n k no_cube d (omega (arith, length-replicate n no_cube)))) (no_idle pla)
+none_idle pla n k d h = grind (arith, get_or-replicate, length-replicate, no_idle)
 
 -- what the loop ends with
 pub ruleset ended = (idle_full, all_done)

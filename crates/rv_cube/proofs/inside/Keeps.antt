@@ -17,16 +17,7 @@ use Rattle.rv_cube.proofs.inside.MergesIn.{settled_length, keyed_clear, settled_
 
 pub clear_keeps : (old new : Slotted) (i : ℕ) (merges exorlinks : List Bool) → IsReduction old.inputs old.cubes merges exorlinks
     → new ≡ record old { cubes = set old.cubes i no_cube } → IsReduction new.inputs new.cubes merges exorlinks
-clear_keeps old new i merges exorlinks h e =
-    let P : Slotted → Type 0 = λ v. IsReduction v.inputs v.cubes merges exorlinks in
-    let l = length-set old.cubes i no_cube in
-    subst P (sym e) (record {
-      valid = valid_set old.inputs old.cubes i no_cube h.valid (no_cube_valid old.inputs MOST_OUTPUTS);
-      keyed = keyed_clear old.cubes i h.keyed;
-      as_many_merges = h.as_many_merges ∙ sym l;
-      as_many_exorlinks = h.as_many_exorlinks ∙ sym l;
-      watched = watched_clear old.inputs old.cubes i merges exorlinks h.watched;
-    })
+clear_keeps old new i merges exorlinks h e = grind (arith, length-set, valid_set, no_cube_valid, keyed_clear, watched_clear)
 
 -- what is asked of a cube that is put into slot i
 pub record Puts (old : Slotted) (i : ℕ) (cube : Cube) : Type 0 where

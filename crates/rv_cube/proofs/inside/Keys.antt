@@ -1,5 +1,5 @@
 -- Cubes with the same inputs, and the slot that has some inputs.
-use Rattle.std.proofs.Common.{◌≡◌, ℕ, zero, suc, ◌<◌, ◌≤◌, Bool, true, false, not, cond, refl, sym, ◌∙◌, ap, inl, inr, arith, eq-eqb, ne_eqb, ◌&&◌, List, length, [], ◌∷◌, ◌++◌, eqb}
+use Rattle.std.proofs.Common.{◌≡◌, ℕ, zero, suc, ◌<◌, ◌≤◌, Bool, true, false, cond, refl, sym, ◌∙◌, ap, inl, inr, arith, eq-eqb, ne_eqb, ◌&&◌, List, length, [], eqb}
 use Rattle.std.specs.Cmp.{both_ways}
 use Rattle.std.specs.Prelude.{Option, None, Some, IfSome}
 use Rattle.std.proofs.lemmas.Bool.{cases_lt, eqb-true, false≢true, and_parts, and_from}
@@ -8,7 +8,7 @@ use Rattle.rv_gate.specs.Word.{has}
 use Rattle.rv_gate.proofs.LineSets.{bits_from_has}
 use Rattle.rv_pla.specs.Cube.{symbol_of, symbol, IsCube}
 use Rattle.rv_pla.specs.declared.cube.Cube.{Cube}
-use Rattle.rv_cube.specs.Distance.{is_same, differs, differing, cares, wants_one}
+use Rattle.rv_cube.specs.Distance.{differing, cares, wants_one}
 use Rattle.rv_cube.specs.Reduction.{at, have_same_inputs}
 use Rattle.rv_cube.specs.inside.Slots.{is_alike, full, IsKeyed, slot_of}
 use Rattle.rv_cube.proofs.inside.Differing.{IsDiffering, differing_is, differing_only, differing-none, differing-suc}
@@ -48,11 +48,7 @@ alike_differing n x y h = differing_only n x y [] (λ i l. alike_symbols x y i h
 -- cubes with the same inputs differ from another in the same inputs
 pub alike_from_another : (n : ℕ) (x y z : Cube) → is_alike x y ≡ true → differing n x z ≡ differing n y z
 alike_from_another zero x y z h = differing-none x z ∙ sym (differing-none y z)
-alike_from_another (suc n) x y z h =
-    differing-suc n x z
-    ∙ ap (λ s. cond (not (is_same s (symbol z n))) (differing n x z ++ n ∷ []) (differing n x z)) (alike_symbols x y n h)
-    ∙ ap (λ xs. cond (differs y z n) (xs ++ n ∷ []) xs) (alike_from_another n x y z h)
-    ∙ sym (differing-suc n y z)
+alike_from_another (suc n) x y z h = let i0 = alike_from_another n x y z h in grind (arith, i0, differing-suc, alike_symbols)
 
 -- ---- the symbols below n make the sets
 

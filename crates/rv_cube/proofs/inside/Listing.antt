@@ -1,11 +1,11 @@
 -- The slots that differ in two inputs are among those with the inputs of a neighbour of a neighbour.
-use Rattle.std.proofs.Common.{◌≡◌, ℕ, ◌+◌, ◌<◌, true, not, List, [], ◌∷◌, ◌++◌, length, refl, sym, ◌∙◌, ap, subst, inl, inr, arith}
+use Rattle.std.proofs.Common.{◌≡◌, ℕ, ◌+◌, ◌<◌, true, not, List, [], ◌∷◌, ◌++◌, sym, ◌∙◌, ap, subst, inl, inr, arith}
 use Rattle.std.specs.Prelude.{None, Some, ◌⊎◌, Option, All}
 use Rattle.std.proofs.lemmas.Bool.{cases_eq, not-true}
 use Rattle.std.proofs.lemmas.List.{get_or_append_left, get_or_push, length-append}
-use Rattle.std.proofs.lemmas.List.Elements.{All-nil, All-cons, All-append}
+use Rattle.std.proofs.lemmas.List.Elements.{All-nil}
 use Rattle.std.proofs.lemmas.Option.{none-some, same_Some}
-use Rattle.rv_pla.specs.Cube.{Symbol, symbol, IsCube}
+use Rattle.rv_pla.specs.Cube.{symbol, IsCube}
 use Rattle.rv_pla.specs.declared.cube.Cube.{Cube}
 use Rattle.rv_pla.specs.declared.cube.TheConstants.{MOST_OUTPUTS}
 use Rattle.rv_cube.specs.Distance.{is_same, differing, with_third, with_symbol}
@@ -19,7 +19,6 @@ use Rattle.rv_cube.proofs.inside.Differing.{IsDiffering, differing_as, both_from
 use Rattle.rv_cube.proofs.inside.Merges.{with_cube}
 use Rattle.rv_cube.proofs.inside.Full.{at_valid}
 use Rattle.rv_cube.proofs.inside.Neighbours.{two_others, third_turn, beside_either, same_but, partner_key}
-use Rattle.std.proofs.lemmas.Grind.{common_steps}
 
 -- ---- what a list gains
 
@@ -43,16 +42,7 @@ gains_none find slots cube found h e =
 
 pub gains_some : (find : ℕ × ℕ → Option ℕ) (slots : List Cube) (cube : Cube) (b : ℕ) (found : List ℕ) → Noted find slots → find (key_of cube) ≡ Some b
     → Gains slots (IsAlike slots cube) found (found ++ b ∷ [])
-gains_some find slots cube b found h e =
-    let Full : ℕ → Type 0 = λ d. full slots d ≡ true in
-    let s = h.sound (key_of cube) b e in
-    let long = length-append found (b ∷ []) in
-    let new : Lists (found ++ b ∷ []) b = (length found, omega arith, get_or_push found b 0 (length found) refl) in
-    record {
-      stays = grind (arith, common_steps, get_or_append_left);
-      holds = λ a. All-append Full found (b ∷ []) a (All-cons Full b [] s.0 (All-nil Full));
-      gets = λ d f k. subst (Lists (found ++ b ∷ [])) (same_Some b d (sym e ∙ ap find (sym k) ∙ h.complete d f)) new;
-    }
+gains_some find slots cube b found h e = grind (arith, length-append, get_or_push, get_or_append_left, same_Some)
 
 -- ---- the neighbours at one input
 
@@ -66,19 +56,11 @@ gains_beside slots cube one other q old mid new e f h k =
 
 pub two_either : (slots : List Cube) (cube one other : Cube) (p q b : ℕ) → one ≡ with_symbol cube p (turn (symbol cube p)) → other ≡ with_third cube one p
     → IsTwoApart slots cube p q b → IsBeside slots one q b ⊎ IsBeside slots other q b
-two_either slots cube one other p q b e f x =
-    let P : Symbol → Type 0 = λ s. IsBeside slots (with_symbol cube p s) q b in
-    let Q : Cube → Type 0 = λ y. IsBeside slots y q b in
-    elim (two_others (symbol cube p) (symbol (at slots b) p) (not-true _ x.0)) [
-      | inl t ↦ inl (subst Q (sym e) (subst P t x.1))
-      | inr t ↦ inr (subst Q (sym (f ∙ third_turn cube one p e)) (subst P t x.1))
-    ]
+two_either slots cube one other p q b e f x = grind (arith, two_others, not-true, third_turn)
 
 pub gains_pair : (slots : List Cube) (cube one other : Cube) (p q : ℕ) (old mid new : List ℕ) → one ≡ with_symbol cube p (turn (symbol cube p)) → other ≡ with_third cube one p
     → Gains slots (IsBeside slots one q) old mid → Gains slots (IsBeside slots other q) mid new → Gains slots (IsTwoApart slots cube p q) old new
-gains_pair slots cube one other p q old mid new e f h k =
-    gains_then slots (IsBeside slots one q) (IsBeside slots other q) (IsTwoApart slots cube p q) old mid new
-    (λ b g x. two_either slots cube one other p q b e f x) h k
+gains_pair slots cube one other p q old mid new e f h k = grind (arith, gains_then, two_either)
 
 -- ---- the loops
 
@@ -95,9 +77,7 @@ from_more slots cube q p old mid new h k =
     ]) h k
 
 pub below_start : (slots : List Cube) (cube : Cube) (found : List ℕ) → found ≡ [] → Gains slots (IsTwoApartBelow slots cube 0) [] found
-below_start slots cube found e =
-    let P : List ℕ → Type 0 = Gains slots (IsTwoApartBelow slots cube 0) [] in
-    subst P (sym e) (gains_nothing slots (IsTwoApartBelow slots cube 0) [] (λ b f x. let l = x.1 in omega arith))
+below_start slots cube found e = grind (arith, gains_nothing)
 
 pub below_more : (slots : List Cube) (cube : Cube) (q : ℕ) (old mid new : List ℕ) → Gains slots (IsTwoApartBelow slots cube q) old mid
     → Gains slots (IsTwoApartFrom slots cube q q) mid new → Gains slots (IsTwoApartBelow slots cube (q + 1)) old new

@@ -2,7 +2,7 @@
 use Rattle.std.proofs.Common.{◌≡◌, ◌≢◌, ℕ, suc, ◌+◌, ◌^◌, ◌<◌, ◌≤◌, Bool, true, false, cond, eqb, List, length, set, take, drop, refl, sym, ◌∙◌, ap, subst, inl, inr, arith, length-set, ◌∷◌, []}
 use Rattle.std.specs.Prelude.{bit_xor, None, Some, nat_lt, All}
 use Rattle.std.specs.List.{remove}
-use Rattle.std.proofs.lemmas.Bool.{cases_eq, eqb-true, eqb-false, ltb-true, ltb-false, and_parts, or_cases, cond_both}
+use Rattle.std.proofs.lemmas.Bool.{eqb-true, eqb-false, ltb-true, ltb-false, and_parts, or_cases, cond_both}
 use Rattle.std.proofs.lemmas.Nat.{xor_lt, pow_below}
 use Rattle.std.proofs.lemmas.List.Edits.{length-remove, get_or-remove_below}
 use Rattle.std.proofs.lemmas.List.Elements.{All-append, All-take, All-drop, All-set, All-get_or}
@@ -44,13 +44,7 @@ wants_one_cares : (s : Symbol) → wants_one s ≡ true → cares s ≡ true
 wants_one_cares s h = grind arith
 
 with_wants : (cube : Cube) (k : ℕ) (s : Symbol) → WantsControls cube.care cube.want → WantsControls (put cube.care k (cares s)) (put cube.want k (wants_one s))
-with_wants cube k s h line on =
-    elim (cases_eq line k) [
-      | inl e ↦
-          let w : wants_one s ≡ true = sym (has_put-same cube.want k (wants_one s)) ∙ ap (has (put cube.want k (wants_one s))) (sym e) ∙ on in
-          ap (has (put cube.care k (cares s))) e ∙ has_put-same cube.care k (cares s) ∙ wants_one_cares s w
-      | inr ne ↦ has_put-other cube.care k line (cares s) ne ∙ h line (sym (has_put-other cube.want k line (wants_one s) ne) ∙ on)
-    ]
+with_wants cube k s h line on = grind (arith, has_put-same, wants_one_cares, has_put-other)
 
 pub with_cube : (n outputs : ℕ) (a : Cube) (p : ℕ) (s : Symbol) → p < n → IsCube n outputs a → IsCube n outputs (with_symbol a p s)
 with_cube n outputs a p s h v = record {

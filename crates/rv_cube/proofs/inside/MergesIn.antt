@@ -1,5 +1,5 @@
 -- What stands in the slots after two cubes became one, one was emptied, or a cube was put into one.
-use Rattle.std.proofs.Common.{◌≡◌, ◌≢◌, ℕ, ◌<◌, Bool, true, false, cond, List, length, set, refl, sym, ◌∙◌, ap, subst, inl, inr, arith, eqb, get_or-set_same, get_or-set_other, length-set, ◌∷◌, [], zero, suc, ◌+◌, ◌≤◌}
+use Rattle.std.proofs.Common.{◌≡◌, ◌≢◌, ℕ, ◌<◌, Bool, true, false, cond, List, length, set, refl, sym, ◌∙◌, ap, inl, inr, arith, eqb, get_or-set_same, get_or-set_other, length-set, ◌∷◌, [], zero, suc, ◌+◌, ◌≤◌}
 use Rattle.std.specs.Prelude.{Option, None, Some, All, nat_lt, ◌⊎◌}
 use Rattle.std.proofs.lemmas.Bool.{cases_eq, cond_both}
 use Rattle.std.proofs.lemmas.Nat.{xor_lt}
@@ -80,22 +80,7 @@ pub record Stood (slots : List Cube) (i : ℕ) (cube : Cube) : Type 0 where
 
 pub merged_in_stood : (n : ℕ) (slots : List Cube) (a b k : ℕ) → b ≢ a → full slots a ≡ true → full slots b ≡ true → is_alike (at slots a) (at slots b) ≡ true
     → full (merged_in n slots a b) k ≡ true → Stood slots k (at (merged_in n slots a b) k)
-merged_in_stood n slots a b k ba fa fb e f =
-    let la = full_within slots a fa in
-    let lb = full_within slots b fb in
-    elim (cases_eq k a) [
-      | inl ka ↦
-          let P : ℕ → Type 0 = λ i. full (merged_in n slots a b) i ≡ true → Stood slots i (at (merged_in n slots a b) i) in
-          let C : Cube → Type 0 = λ c. carries c ≡ true → Stood slots a c in
-          subst P (sym ka)
-          (subst C (sym (merged_in_first n slots a b la)) (λ g. record { was_full = fa; was_alike = merge_in_alike n (at slots a) (at slots b) e g })) f
-      | inr na ↦ elim (cases_eq k b) [
-        | inl kb ↦ absurd (merged_in_gone n slots a b k ba lb f kb)
-        | inr nb ↦
-            let o = merged_in_other n slots a b k na nb in
-            record { was_full = ap carries (sym o) ∙ f; was_alike = ap (λ c. is_alike c (at slots k)) o ∙ is_alike-self (at slots k) }
-      ]
-    ]
+merged_in_stood n slots a b k ba fa fb e f = grind (arith, full_within, merged_in_first, merge_in_alike, merged_in_gone, merged_in_other, is_alike-self)
 
 -- ---- a cube is put into a slot
 
@@ -151,10 +136,7 @@ settled_count n slots i cube some within empty =
     (omega arith, omega arith))
 
 pub settled_length : (n : ℕ) (slots : List Cube) (i : ℕ) (cube : Cube) → length (settled n slots i cube) ≡ length slots
-settled_length n slots i cube =
-    let l = length-set slots i cube in
-    settled_case (λ t. length t ≡ length slots) n slots i cube (λ e. l)
-    (λ j f a. (merged_in_length n (set slots i cube) i j ∙ l, merged_in_length n (set slots i cube) j i ∙ l))
+settled_length n slots i cube = grind (arith, length-set, settled_case, merged_in_length)
 
 pub settled_empty : (n : ℕ) (slots : List Cube) (i k : ℕ) (cube : Cube) → k ≢ i → full slots k ≡ false → full (settled n slots i cube) k ≡ false
 settled_empty n slots i k cube ni empty =
@@ -173,16 +155,7 @@ set_stood : (slots : List Cube) (i k : ℕ) (cube : Cube) → full (set slots i 
 set_stood slots i k cube f = grind (arith, cases_eq, full_set-other, get_or-set_other, no_cube)
 
 pub keyed_clear : (slots : List Cube) (i : ℕ) → IsKeyed slots → IsKeyed (set slots i no_cube)
-keyed_clear slots i h p q fp fq e =
-    let gone : (k : ℕ) → full (set slots i no_cube) k ≡ true → k ≡ i → ⊥ =
-    λ k f s. apart_from (set slots i no_cube) i k (full_cleared slots i) f s in
-    elim (set_stood slots i p no_cube fp) [
-      | inl s ↦ absurd (gone p fp s)
-      | inr x ↦ (elim (set_stood slots i q no_cube fq) [
-        | inl s ↦ absurd (gone q fq s)
-        | inr y ↦ h p q x.1 y.1 (ap (λ c. is_alike c (at slots q)) (sym x.2) ∙ ap (is_alike (at (set slots i no_cube) p)) (sym y.2) ∙ e)
-      ])
-    ]
+keyed_clear slots i h p q fp fq e = grind (arith, apart_from, full_cleared, set_stood)
 
 -- but for i and j no two full slots have the same inputs
 abbrev KeyedBut : List Cube → ℕ → ℕ → Type 0
@@ -195,26 +168,7 @@ keyed_set : (slots : List Cube) (i : ℕ) (cube : Cube) (Q : ℕ → Type 0) →
     → ((k : ℕ) → full slots k ≡ true → is_alike (at slots k) cube ≡ true → Q k)
     → (p q : ℕ) → full (set slots i cube) p ≡ true → full (set slots i cube) q ≡ true → is_alike (at (set slots i cube) p) (at (set slots i cube) q) ≡ true
     → (p ≡ q) ⊎ ((p ≡ i) × Q q) ⊎ (Q p × (q ≡ i))
-keyed_set slots i cube Q within h like p q fp fq e =
-    let here : at (set slots i cube) i ≡ cube = get_or-set_same slots i cube no_cube within in
-    elim (set_stood slots i p cube fp) [
-      | inl pi ↦ (elim (set_stood slots i q cube fq) [
-        | inl qi ↦ inl (pi ∙ sym qi)
-        | inr y ↦
-            (let P : ℕ → Type 0 = λ x. is_alike (at (set slots i cube) x) (at slots q) ≡ true in
-            let a : is_alike cube (at slots q) ≡ true =
-            ap (λ c. is_alike c (at slots q)) (sym here) ∙ subst P pi (ap (is_alike (at (set slots i cube) p)) (sym y.2) ∙ e) in
-            inr (inl (pi, like q y.1 (is_alike-comm cube (at slots q) a))))
-      ])
-      | inr x ↦ (elim (set_stood slots i q cube fq) [
-        | inl qi ↦
-            (let P : ℕ → Type 0 = λ y. is_alike (at slots p) (at (set slots i cube) y) ≡ true in
-            let a : is_alike (at slots p) cube ≡ true =
-            ap (is_alike (at slots p)) (sym here) ∙ subst P qi (ap (λ c. is_alike c (at (set slots i cube) q)) (sym x.2) ∙ e) in
-            inr (inr (like p x.1 a, qi)))
-        | inr y ↦ inl (h p q x.1 y.1 (ap (λ c. is_alike c (at slots q)) (sym x.2) ∙ ap (is_alike (at (set slots i cube) p)) (sym y.2) ∙ e))
-      ])
-    ]
+keyed_set slots i cube Q within h like p q fp fq e = grind (arith, get_or-set_same, set_stood, is_alike-comm)
 
 keyed_put : (slots : List Cube) (i j : ℕ) (cube : Cube) → i < length slots → IsKeyed slots → full slots j ≡ true → is_alike (at slots j) cube ≡ true
     → KeyedBut (set slots i cube) i j

@@ -70,9 +70,7 @@ gains_moved slots cube first second one other p q old mid new ne ef es eo et g h
 pub gains_either : (slots : List Cube) (cube from one other : Cube) (old mid new : List ℕ)
     → Gains slots (IsAlike slots (moved_as cube from one)) old mid → Gains slots (IsAlike slots (moved_as cube from other)) mid new
     → Gains slots (IsMovedEither slots cube from one other) old new
-gains_either slots cube from one other old mid new g h =
-    gains_then slots (IsAlike slots (moved_as cube from one)) (IsAlike slots (moved_as cube from other)) (IsMovedEither slots cube from one other) old mid new
-    (λ b f e. e) g h
+gains_either slots cube from one other old mid new g h = grind (arith, gains_then)
 
 -- ---- inputs that no cube asks for
 

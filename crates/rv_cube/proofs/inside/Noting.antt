@@ -2,7 +2,7 @@
 use Rattle.std.proofs.Common.{◌≡◌, ◌≢◌, ℕ, ◌<◌, true, false, cond, ◌&&◌, List, [], ◌∷◌, ◌++◌, length, set, refl, sym, ◌∙◌, ap, inl, inr, arith, eq-eqb, ne_eqb, get_or-set_same, get_or-set_other, length-set}
 use Rattle.std.specs.Prelude.{Option, None, Some, All, bit_or}
 use Rattle.std.proofs.lemmas.Bool.{cases_eq, eqb-true, false≢true, and_parts, and_from}
-use Rattle.std.proofs.lemmas.List.Elements.{All-set, All-push, All-weaker}
+use Rattle.std.proofs.lemmas.List.Elements.{All-set, All-push}
 use Rattle.std.proofs.lemmas.Option.{same_Some}
 use Rattle.rv_pla.specs.declared.cube.Cube.{Cube}
 use Rattle.rv_pla.specs.Cube.{IsCube}
@@ -10,7 +10,6 @@ use Rattle.rv_pla.specs.declared.cube.TheConstants.{MOST_OUTPUTS}
 use Rattle.rv_cube.specs.Reduction.{no_cube, at}
 use Rattle.rv_cube.specs.inside.Slots.{carries, full, is_alike, slot_of, key_of, key_eq}
 use Rattle.rv_cube.specs.inside.Slotted.{Noted, IsReplaced, AsksWithin, IsSlotted}
-use Rattle.std.specs.Int.{bit_at}
 use Rattle.std.proofs.lemmas.Nat.Bits.{bit_at-lt, bit_at-zero, bit_at_or}
 use Rattle.rv_cube.proofs.inside.Full.{full_cleared, no_cube_valid, at_open}
 use Rattle.rv_cube.proofs.inside.Keys.{alike_care, alike_want, alike_from, slot_of-none, slot_of-some}
@@ -110,20 +109,10 @@ no_cube_asks : (asked : ℕ) → AsksWithin asked no_cube
 no_cube_asks asked input on = let z = bit_at-zero input in absurd (false≢true (sym (ne_eqb _ 1 (omega arith)) ∙ on))
 
 pub own_asked : (asked : ℕ) (cube : Cube) → AsksWithin (bit_or asked cube.care) cube
-own_asked asked cube input on =
-    let o = bit_at_or asked cube.care input in
-    let c : bit_at cube.care input ≡ 1 = eqb-true (bit_at cube.care input) 1 on in
-    let a = bit_at-lt asked input in
-    eq-eqb _ 1 (omega arith)
+own_asked asked cube input on = grind (arith, bit_at_or, eqb-true, bit_at-lt, eq-eqb)
 
 pub more_asked : (asked : ℕ) (cube : Cube) (slots : List Cube) → All (AsksWithin asked) slots → All (AsksWithin (bit_or asked cube.care)) slots
-more_asked asked cube slots all =
-    All-weaker (AsksWithin asked) (AsksWithin (bit_or asked cube.care))
-    (λ c h input on.
-    let o = bit_at_or asked cube.care input in
-    let a : bit_at asked input ≡ 1 = eqb-true (bit_at asked input) 1 (h input on) in
-    let k = bit_at-lt cube.care input in
-    eq-eqb _ 1 (omega arith)) slots all
+more_asked asked cube slots all = grind (arith, bit_at_or, eqb-true, bit_at-lt, eq-eqb)
 
 pub slotted_open : (find : ℕ × ℕ → Option ℕ) (asked n : ℕ) (slots : List Cube) → IsSlotted find asked n slots → IsSlotted find asked n (slots ++ no_cube ∷ [])
 slotted_open find asked n slots h = grind (arith, common_steps, All-push, no_cube_valid, at_open, no_cube_asks)

@@ -315,10 +315,7 @@ pub exorlinking : (old : Slotted) (p o c n : ℕ) (own rest third : Cube) (r : �
     → IsExorlinked old.inputs old.cubes p o c own rest → third ≡ at old.cubes c → n ≡ old.inputs
     → ◌≡◌ {A = ℕ × Option Cube} r (cond (nat_lt p c) (p, merge_by (differing n own third) own third) (c, merge_by (differing n third own) third own))
     → Exorlinking old.inputs old.cubes p o c own rest third r.0 r.1
-exorlinking old p o c n own rest third r valid keyed given et en er =
-    let R : ℕ → Type 0 = λ m.
-    ◌≡◌ {A = ℕ × Option Cube} r (cond (nat_lt p c) (p, merge_by (differing m own third) own third) (c, merge_by (differing m third own) third own)) in
-    record { valid = valid; keyed = keyed; exorlinked = given; third_is = et; low_one = subst R en er }
+exorlinking old p o c n own rest third r valid keyed given et en er = grind (arith)
 
 -- what is asked where the cubes come in
 pub comes_in : (old bare : Slotted) (p o c : ℕ) (own rest third : Cube) (low : ℕ) (x : Option Cube) → Exorlinking old.inputs old.cubes p o c own rest third low x

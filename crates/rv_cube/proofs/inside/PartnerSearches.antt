@@ -1,7 +1,7 @@
 -- What the search for a partner among the full slots finds, and so the first merge and the first exorlink of a slot.
 use Rattle.std.proofs.Common.{◌≡◌, ℕ, ◌≤◌, Bool, true, not, ◌&&◌, eqb, List, length, sym, ◌∙◌, arith, ◌≢◌, ◌<◌, get_or, inl, inr, eq-eqb, ne_eqb, ◌∷◌, []}
 use Rattle.std.specs.Prelude.{None, Some, Option, All, MatchOption}
-use Rattle.std.proofs.lemmas.Bool.{eqb-false, and_parts, not-true, cases_lt, cases_Bool, false≢true, eqb-true, and_from, or_cases, or_right}
+use Rattle.std.proofs.lemmas.Bool.{eqb-false, and_parts, not-true, eqb-true, and_from, or_cases, or_right}
 use Rattle.std.proofs.lemmas.Option.{none-some}
 use Rattle.rv_pla.specs.declared.cube.Cube.{Cube}
 use Rattle.rv_cube.specs.Reduction.{at, can_merge, are_adjacent, have_same_inputs}
@@ -25,10 +25,7 @@ partner_test n slots a b cube c = (not (eqb c a) && not (eqb c b)) && can_merge 
 
 pub test_partner : (n : ℕ) (slots : List Cube) (a b : ℕ) (cube : Cube) (c : ℕ) → full slots c ≡ true → partner_test n slots a b cube c ≡ true
     → IsPartner n slots a b cube c
-test_partner n slots a b cube c f e =
-    let h = and_parts _ _ e in
-    let k = and_parts _ _ h.0 in
-    record { other = record { stands = f; other_a = eqb-false c a (not-true _ k.0); other_b = eqb-false c b (not-true _ k.1) }; one = h.1 }
+test_partner n slots a b cube c f e = grind (arith, eqb-false, not-true)
 
 at_none : (n : ℕ) (slots : List Cube) (a b : ℕ) (f s : Cube) (place : ℕ) (cube : Cube) (c : ℕ) → (IsPartner n slots a b cube c → ⊥)
     → partner_in_at n slots a b f s place cube c ≡ None
@@ -70,11 +67,7 @@ meeting : (n : ℕ) (slots : List Cube) (a b : ℕ) → b ≢ a → full slots b
 meeting n slots a b ne f j = record { other = record { stands = f; other_a = ne; other_b = ne }; one = or_right (have_same_inputs n (at slots a) (at slots b)) _ j }
 
 meets_none : (n : ℕ) (slots : List Cube) (a : ℕ) → ((c : ℕ) → IsPartner n slots a a (at slots a) c → ⊥) → MergesNone n slots a
-meets_none n slots a h b ab fa fb =
-    elim (cases_Bool (are_adjacent n (at slots a) (at slots b))) [
-      | inl on ↦ absurd (h b (meeting n slots a b (omega arith) fb on))
-      | inr off ↦ off
-    ]
+meets_none n slots a h b ab fa fb = grind (arith, meeting)
 
 by_outputs : (n : ℕ) (slots : List Cube) (a b : ℕ) → All (IsCube n MOST_OUTPUTS) slots → IsKeyed slots → full slots a ≡ true
     → IsPartner n slots a a (at slots a) b → are_adjacent n (at slots a) (at slots b) ≡ true
@@ -89,24 +82,7 @@ by_outputs n slots a b valid keyed fa h =
 merge_some : (n : ℕ) (slots : List Cube) (a b : ℕ) → All (IsCube n MOST_OUTPUTS) slots → IsKeyed slots → full slots a ≡ true
     → ((i : ℕ) → i < a → MergesNone n slots i) → IsPartner n slots a a (at slots a) b → ((d : ℕ) → IsPartner n slots a a (at slots a) d → b ≤ d)
     → IsFirstMerge n slots a b
-merge_some n slots a b valid keyed fa before h least =
-    let j : are_adjacent n (at slots a) (at slots b) ≡ true = by_outputs n slots a b valid keyed fa h in
-    let ne = h.other.other_a in
-    record {
-      order = elim (cases_lt a b) [
-        | inl lt ↦ lt
-        | inr ge ↦
-            absurd (false≢true (sym (before b (omega arith) a (omega arith) h.other.stands fa) ∙ outputs-comm n (at slots a) (at slots b) j))
-      ];
-      full_a = fa;
-      full_b = h.other.stands;
-      meets = j;
-      before = before;
-      between = λ i ai ib fi. elim (cases_Bool (are_adjacent n (at slots a) (at slots i))) [
-        | inl on ↦ absurd (let le = least i (meeting n slots a i (omega arith) fi on) in omega arith)
-        | inr off ↦ off
-      ];
-    }
+merge_some n slots a b valid keyed fa before h least = grind (arith, by_outputs, outputs-comm, meeting)
 
 pub merge_found : (n : ℕ) (slots : List Cube) (a : ℕ) (cube : Cube) (o : Option ℕ) → cube ≡ at slots a → All (IsCube n MOST_OUTPUTS) slots → IsKeyed slots
     → cube.outs ≢ 0 → ((i : ℕ) → i < a → MergesNone n slots i)

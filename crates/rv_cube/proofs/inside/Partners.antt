@@ -1,7 +1,7 @@
 -- The least partner of a cube is among the slots with the inputs of its neighbours.
-use Rattle.std.proofs.Common.{◌≡◌, ℕ, ◌+◌, ◌<◌, ◌≤◌, Bool, true, cond, eqb, List, refl, sym, ◌∙◌, ap, subst, inl, inr, arith, eq-eqb, ◌∷◌, [], length}
+use Rattle.std.proofs.Common.{◌≡◌, ℕ, ◌+◌, ◌<◌, ◌≤◌, Bool, true, cond, eqb, List, refl, sym, ◌∙◌, ap, inl, inr, arith, eq-eqb, ◌∷◌, [], length}
 use Rattle.std.specs.Prelude.{Option, None, Some, nat_lt, ◌⊎◌, All}
-use Rattle.std.proofs.lemmas.Bool.{cases_eq, false≢true, ltb-true, ltb-false, eqb-true, and_parts, and_from, or_cases, or_left, or_right}
+use Rattle.std.proofs.lemmas.Bool.{false≢true, ltb-true, ltb-false, eqb-true, and_parts, and_from, or_cases, or_left, or_right}
 use Rattle.std.proofs.lemmas.Option.{none-some}
 use Rattle.rv_pla.specs.Cube.{symbol, IsCube}
 use Rattle.rv_pla.specs.declared.cube.Cube.{Cube}
@@ -88,28 +88,11 @@ least_neighbour n slots a b cube one other p o q l all own e f h k =
 -- ---- all inputs
 
 pub least_start : (n : ℕ) (slots : List Cube) (a b : ℕ) (cube : Cube) (o : Option ℕ) → IsOnly (IsTwin slots a b cube) o → IsLeast (IsPartnerBelow n slots a b cube 0) o
-least_start n slots a b cube o h =
-    least_same (IsTwin slots a b cube) (IsPartnerBelow n slots a b cube 0) o (λ c t. inl t)
-    (λ c x. elim x [ inl t ↦ t | inr y ↦ absurd (let l = y.1 in omega arith) ]) (only_least (IsTwin slots a b cube) o h)
+least_start n slots a b cube o h = grind (arith, least_same, only_least)
 
 pub least_more : (n : ℕ) (slots : List Cube) (a b : ℕ) (cube : Cube) (p : ℕ) (o q : Option ℕ) → IsLeast (IsPartnerBelow n slots a b cube p) o
     → IsLeast (IsNeighbour n slots a b cube p) q → IsLeast (IsPartnerBelow n slots a b cube (p + 1)) (least_of o q)
-least_more n slots a b cube p o q h k =
-    let P : ℕ → Type 0 = IsPartnerBelow n slots a b cube p in
-    let Q : ℕ → Type 0 = IsNeighbour n slots a b cube p in
-    least_same (λ c. P c ⊎ Q c) (IsPartnerBelow n slots a b cube (p + 1)) (least_of o q)
-    (λ c x. elim x [
-      | inl y ↦ (elim y [ inl t ↦ inl t | inr z ↦ inr (z.0, (let l = z.1 in omega arith), z.2) ])
-      | inr y ↦ inr (p, omega arith, y)
-    ])
-    (λ c x. elim x [
-      | inl t ↦ inl (inl t)
-      | inr z ↦ (elim (cases_eq z.0 p) [
-        | inl e ↦ inr (subst (λ i. IsNeighbour n slots a b cube i c) e z.2)
-        | inr ne ↦ inl (inr (z.0, (let l = z.1 in omega arith), z.2))
-      ])
-    ])
-    (least_or P Q o q h k)
+least_more n slots a b cube p o q h k = grind (arith, least_same, least_or)
 
 pub one_is : (x : List ℕ) → eqb (length x) 1 ≡ true → (q : ℕ) × (x ≡ q ∷ [])
 one_is (q ∷ []) h = (q, refl)
@@ -118,12 +101,7 @@ one_is o h = absurd (false≢true h)
 
 below_partner : (n : ℕ) (slots : List Cube) (a b : ℕ) (cube : Cube) (c : ℕ) → IsPartnerBelow n slots a b cube n c → IsPartner n slots a b cube c
 below_partner n slots a b cube c (inl t) = grind (arith, common_steps, or_left, alike_same_inputs, key_alike)
-below_partner n slots a b cube c (inr y) =
-    let x = y.2 in
-    record {
-      other = x.0;
-      one = grind (arith, common_steps, or_right, and_from, eq-eqb);
-    }
+below_partner n slots a b cube c (inr y) = grind (arith, or_right, and_from, eq-eqb)
 
 partner_below : (n : ℕ) (slots : List Cube) (a b : ℕ) (cube : Cube) (c : ℕ) → All (IsCube n MOST_OUTPUTS) slots → IsCube n MOST_OUTPUTS cube
     → IsPartner n slots a b cube c → IsPartnerBelow n slots a b cube n c

@@ -37,9 +37,7 @@ place_xor a b c d = ap (bit_xor (bit_xor a c)) (ones_place-xor b d) ∙ both a c
 place_moved : (from cube to : Cube)
     → filter_place (key_of (moved_as from cube to)) ≡ bit_xor (bit_xor (filter_place (key_of from)) (filter_place (key_of cube))) (filter_place (key_of to))
 unfolding filter_place
-place_moved from cube to =
-    place_xor (bit_xor from.care cube.care) (bit_xor from.want cube.want) to.care to.want
-    ∙ ap (λ n. bit_xor n (filter_place (key_of to))) (place_xor from.care from.want cube.care cube.want)
+place_moved from cube to = grind (arith, place_xor)
 
 -- the place of inputs that differ from `from` as `to` does from the cube
 pub place_after : (from cube to : Cube) (place step : ℕ) → place ≡ filter_place (key_of from) → IsStep cube to step

@@ -119,19 +119,7 @@ pub rank_set-before : (slots : List Cube) (i j : ℕ) (cube : Cube) → j ≤ i 
 rank_set-before slots i j cube h = ap (λ l. length (terms_of l)) (take-set-le j slots i cube h)
 
 pub rank_set : (slots : List Cube) (i j : ℕ) (cube : Cube) → full slots i ≡ true → carries cube ≡ true → list_place (set slots i cube) j ≡ list_place slots j
-rank_set slots i j cube h c =
-    grind (
-      arith,
-      cases_lt,
-      get_or-take,
-      no_cube,
-      terms_of,
-      take-set-lt,
-      terms_of-set,
-      length-set,
-      list_place,
-      rank_set-before,
-    )
+rank_set slots i j cube h c = grind (arith, get_or-take, take-set-lt, terms_of-set, length-set, rank_set-before)
 
 -- ---- a search of the list is a search of the full slots
 
@@ -151,11 +139,7 @@ first-rank_end f slots k h = grind (arith, rank-end, first_end, list_place, term
 first-rank_for : {A : Type 0} (f : ℕ → Option A) (slots : List Cube) (k m : ℕ) → length slots ≤ k + m
     → first f (list_place slots k) (length (terms_of slots) - list_place slots k) ≡ first (by_rank f slots) k (length slots - k)
 first-rank_for f slots k zero h = first-rank_end f slots k (omega arith)
-first-rank_for f slots k (suc m) h =
-    elim (cases_lt k (length slots)) [
-      | inl lt ↦ first-rank_at f slots k (full slots k) refl lt (first-rank_for f slots (k + 1) m (omega arith))
-      | inr ge ↦ first-rank_end f slots k ge
-    ]
+first-rank_for f slots k (suc m) h = let i0 = first-rank_for f slots (k + 1) m in grind (arith, i0, first-rank_at, first-rank_end)
 
 first-rank : {A : Type 0} (f : ℕ → Option A) (slots : List Cube) (k : ℕ)
     → first f (list_place slots k) (length (terms_of slots) - list_place slots k) ≡ first (by_rank f slots) k (length slots - k)

@@ -6,7 +6,7 @@ use Rattle.std.specs.List.{fold, range_with_len}
 use Rattle.std.proofs.lemmas.Nat.Bits.{bit_at_above}
 use Rattle.std.proofs.lemmas.List.{get_or-take, get_or-drop, get_or_append_left, get_or_default, take-append-drop}
 use Rattle.std.proofs.lemmas.List.FromFn.{filter_of_map_range_with_len_more}
-use Rattle.std.proofs.lemmas.List.Elements.{All-append, All-cons, All-drop, All-nil, All-take}
+use Rattle.std.proofs.lemmas.List.Elements.{All-append, All-drop, All-nil, All-take}
 use Rattle.std.proofs.lemmas.Nat.{xor_lt}
 use Rattle.std.proofs.Math.Seq.{get_or-append_right}
 use Rattle.std.proofs.Math.Nat.{pow-suc}
@@ -128,11 +128,7 @@ length-mended n table h =
 pub length-transformed : (n : ℕ) (table : List ℕ) → length table ≡ 2 ^ n → length (transformed n table) ≡ 2 ^ n
 unfolding transformed
 length-transformed zero table h = h
-length-transformed (suc n) table h =
-    let a = length-transformed n (take (2 ^ n) table) (length-low n table h) in
-    let b = length-transformed n (xor_each (take (2 ^ n) table) (drop (2 ^ n) table)) (length-mended n table h) in
-    let p = pow-suc 2 n in
-    omega (arith, length-append (transformed n (take (2 ^ n) table)) (transformed n (xor_each (take (2 ^ n) table) (drop (2 ^ n) table))))
+length-transformed (suc n) table h = let i0 = length-transformed n in grind (arith, i0, length-low, length-mended, pow-suc, length-append)
 
 -- a set of the lower half, and one of the upper half
 word_of-low : (n i : ℕ) → i < 2 ^ n → word_of (suc n) i ≡ false ∷ word_of n i
@@ -289,9 +285,7 @@ transformed_at o table v h l = absurd (omega (arith, l))
 
 map-range_same : (f g : ℕ → Cube) (k m : ℕ) → ((i : ℕ) → k ≤ i → i < k + m → f i ≡ g i) → map f (range_with_len k m) ≡ map g (range_with_len k m)
 map-range_same f g k zero h = refl
-map-range_same f g k (suc m) h =
-    ap (λ x. x ∷ map f (range_with_len (k + 1) m)) (h k (omega arith) (omega arith))
-    ∙ ap (λ l. g k ∷ l) (map-range_same f g (k + 1) m (λ i l u. h i (omega arith) (omega arith)))
+map-range_same f g k (suc m) h = let i0 = map-range_same f g (k + 1) m in grind (arith, i0)
 
 -- the form is what the transform gives
 pub reed_muller-transformed : (n : ℕ) (table : List ℕ) → length table ≡ 2 ^ n → terms_of (set_cubes n (transformed n table) (2 ^ n)) ≡ reed_muller n table
@@ -363,9 +357,7 @@ filling_none n outs s cubes f z = record {
 
 All-map_range : (P : Cube → Type 0) (f : ℕ → Cube) (k m : ℕ) → ((i : ℕ) → k ≤ i → i < k + m → P (f i)) → All P (map f (range_with_len k m))
 All-map_range P f k zero h = All-nil P
-All-map_range P f k (suc m) h =
-    All-cons P (f k) (map f (range_with_len (k + 1) m)) (h k (omega arith) (omega arith))
-    (All-map_range P f (k + 1) m (λ i l u. h i (omega arith) (omega arith)))
+All-map_range P f k (suc m) h = let i0 = All-map_range P f (k + 1) m in grind (arith, i0)
 
 -- the cubes of sets are cubes
 pub set_cubes_valid : (n outputs : ℕ) (outs : List ℕ) (m : ℕ) → m ≤ length outs → All (λ y. y < 2 ^ outputs) outs → All (IsTerm n outputs) (terms_of (set_cubes n outs m))

@@ -51,23 +51,7 @@ NoThird u i j cube = (k : ℕ) → k ≢ i → k ≢ j → (k < i) ⊎ (k < j) �
 pair_kept : (n : ℕ) (u : List Cube) (i j : ℕ) (cube : Cube) → All (IsCube n MOST_OUTPUTS) u → i ≢ j → full u i ≡ true → full u j ≡ true
     → is_alike (at u i) cube ≡ true → is_alike (at u j) cube ≡ true → NoThird u i j cube
     → reduced n (terms_of (merged_in_any n u i j)) ≡ reduced n (terms_of u)
-pair_kept n u i j cube valid ne fi fj ai aj lone =
-    cond_both (nat_lt i j) (merged_in n u i j) (merged_in n u j i) (λ l. reduced n (terms_of l) ≡ reduced n (terms_of u))
-    (λ l.
-    let lt : i < j = ltb-true i j l in
-    merges_anyway n u i j valid lt fi fj (is_alike-trans (at u i) cube (at u j) ai (is_alike-comm (at u j) cube aj))
-    (λ k b o f a. elim (cases_eq k j) [
-      | inl s ↦ omega arith
-      | inr nj ↦ lone k o nj (inr b) f (is_alike-trans (at u k) (at u j) cube a aj)
-    ]))
-    (λ l.
-    let ge : j ≤ i = ltb-false i j l in
-    let lt : j < i = omega arith in
-    merges_anyway n u j i valid lt fj fi (is_alike-trans (at u j) cube (at u i) aj (is_alike-comm (at u i) cube ai))
-    (λ k b o f a. elim (cases_eq k i) [
-      | inl s ↦ omega arith
-      | inr ni ↦ lone k ni o (inl b) f (is_alike-trans (at u k) (at u i) cube a ai)
-    ]))
+pair_kept n u i j cube valid ne fi fj ai aj lone = grind (arith, cond_both, ltb-true, merges_anyway, is_alike-trans, is_alike-comm, ltb-false)
 
 -- the same, seen in a longer list
 pair_within : (n : ℕ) (W : List Cube → List Cube) (slots : List Cube) (i j : ℕ) (cube : Cube) → Settles n slots i cube → full slots j ≡ true
@@ -165,11 +149,7 @@ settled_beside n slots i k cube other h lk ki empty own differing =
     ))
 
 keyed_more : (slots : List Cube) → IsKeyed slots → IsKeyed (slots ++ no_cube ∷ [])
-keyed_more slots h p q fp fq e =
-    let ep = at_open slots p in
-    let eq = at_open slots q in
-    h p q (ap carries (sym ep) ∙ fp) (ap carries (sym eq) ∙ fq)
-    (ap (λ x. is_alike x (at slots q)) (sym ep) ∙ ap (is_alike (at (slots ++ no_cube ∷ []) p)) (sym eq) ∙ e)
+keyed_more slots h p q fp fq e = grind (arith, at_open)
 
 filled : (n : ℕ) (slots : List Cube) (cube : Cube) (rest : List Cube) → All (IsCube n MOST_OUTPUTS) slots → IsKeyed slots → IsTerm n MOST_OUTPUTS cube
     → All (IsCube n MOST_OUTPUTS) rest

@@ -41,9 +41,7 @@ row_found f slots a b x ab fa fb is between =
 row_none : (f : ℕ → ℕ → Option Step) (slots : List Cube) (a : ℕ) → full slots a ≡ true
     → ((j : ℕ) → a < j → full slots j ≡ true → f (list_place slots a) (list_place slots j) ≡ None)
     → row f (length (terms_of slots)) (list_place slots a) ≡ None
-row_none f slots a fa none =
-    let g : ℕ → Option Step = f (list_place slots a) in
-    first-rank_after g slots a fa ∙ none_first (by_rank g slots) (a + 1) (length slots - (a + 1)) (λ j l u. by_rank-none g slots j (none j (omega arith)))
+row_none f slots a fa none = grind (arith, first-rank_after, none_first, by_rank, by_rank-none)
 
 pairs_found : (f : ℕ → ℕ → Option Step) (slots : List Cube) (a b : ℕ) (x : Step) → a < b → full slots a ≡ true → full slots b ≡ true
     → f (list_place slots a) (list_place slots b) ≡ Some x
@@ -167,20 +165,7 @@ merge_carries d x y cube h h2 = grind (arith, same_Some, carrying_carries)
 pub merged_in_list : (n : ℕ) (slots : List Cube) (a b : ℕ) → a < b → full slots a ≡ true → full slots b ≡ true
     → terms_of (merged_in n slots a b) ≡ merged n (terms_of slots) (list_place slots a) (list_place slots b)
 unfolding merged
-merged_in_list n slots a b ab fa fb =
-    grind (
-      arith,
-      terms_of,
-      merge_by,
-      no_cube,
-      full_set-other,
-      put_list,
-      merge_carries,
-      rank_set-before,
-      list_place,
-      terms_of-remove,
-      at-rank,
-    )
+merged_in_list n slots a b ab fa fb = grind (arith, full_set-other, put_list, merge_carries, rank_set-before, terms_of-remove, at-rank)
 
 merged_in_choice : (n : ℕ) (slots : List Cube) (a b : ℕ) (t : Bool) → a ≢ b → full slots a ≡ true → full slots b ≡ true → nat_lt a b ≡ t
     → terms_of (cond t (merged_in n slots a b) (merged_in n slots b a))
@@ -195,22 +180,7 @@ merged_in_any_list n slots a b ne fa fb = grind (arith, merged_in_choice, terms_
 pub moved_list : (n : ℕ) (slots : List Cube) (a b : ℕ) (f s : Cube) (place partner : ℕ) → a < b → full slots a ≡ true → full slots b ≡ true
     → carries f ≡ true → carries s ≡ true → (place ≡ a) ⊎ (place ≡ b) → full slots partner ≡ true → partner ≢ a → partner ≢ b
     → terms_of (moved n slots (Exorlink a b f s place partner)) ≡ changed n (terms_of slots) (ranked slots (Exorlink a b f s place partner))
-moved_list n slots a b f s place partner ab fa fb cf cs which fp na nb =
-    let one : List Cube = set slots a f in
-    let both : List Cube = set one b s in
-    let one_b : full one b ≡ true = full_set slots a b f fa cf ∙ fb in
-    let same_full : (i : ℕ) → full both i ≡ full slots i = λ i. full_set one b i s one_b cs ∙ full_set slots a i f fa cf in
-    let same_rank : (i : ℕ) → list_place both i ≡ list_place slots i = λ i. rank_set one b i s one_b cs ∙ rank_set slots a i f fa cf in
-    let place_full : full slots place ≡ true = elim which [ inl e ↦ ap (full slots) e ∙ fa | inr e ↦ ap (full slots) e ∙ fb ] in
-    let other : place ≢ partner = elim which [ inl e ↦ λ h. na (sym h ∙ e) | inr e ↦ λ h. nb (sym h ∙ e) ] in
-    let list : terms_of both ≡ set (set (terms_of slots) (list_place slots a) f) (list_place slots b) s =
-    terms_of-set one b s one_b cs
-    ∙ ap (λ r. set (terms_of one) r s) (rank_set slots a b f fa cf)
-    ∙ ap (λ l. set l (list_place slots b) s) (terms_of-set slots a f fa cf) in
-    merged_in_any_list n both place partner other (same_full place ∙ place_full) (same_full partner ∙ fp)
-    ∙ ap (λ l. merged_any n l (list_place both place) (list_place both partner)) list
-    ∙ ap (λ r. merged_any n (set (set (terms_of slots) (list_place slots a) f) (list_place slots b) s) r (list_place both partner)) (same_rank place)
-    ∙ ap (merged_any n (set (set (terms_of slots) (list_place slots a) f) (list_place slots b) s) (list_place slots place)) (same_rank partner)
+moved_list n slots a b f s place partner ab fa fb cf cs which fp na nb = grind (arith, full_set, rank_set, terms_of-set, merged_in_any_list)
 
 keyed_none : (n : ℕ) (slots : List Cube) → All (IsCube n MOST_OUTPUTS) slots → IsKeyed slots → first_merge (have_same_inputs n) (terms_of slots) ≡ None
 keyed_none n slots all keyed =

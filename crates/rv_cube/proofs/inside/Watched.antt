@@ -6,7 +6,7 @@ use Rattle.std.proofs.lemmas.Bool.{cases_eq, eqb-true, false≢true, false_from_
 use Rattle.rv_pla.specs.declared.cube.Cube.{Cube}
 use Rattle.rv_cube.specs.Distance.{differing, with_third}
 use Rattle.rv_cube.specs.Reduction.{no_cube, at, can_merge, are_adjacent}
-use Rattle.rv_cube.specs.inside.Slots.{carries, full, is_alike, merge_in, merged_in, settled, partner_in, form_in, exorlink_in_by, exorlink_in, is_due, IsWatched, StaysDue, IsPartner}
+use Rattle.rv_cube.specs.inside.Slots.{carries, full, is_alike, merged_in, settled, partner_in, form_in, exorlink_in_by, exorlink_in, is_due, IsWatched, StaysDue, IsPartner}
 use Rattle.rv_cube.specs.declared.step.Step.{Step}
 use Rattle.rv_cube.specs.Settled.{DifferInTwo}
 use Rattle.rv_cube.proofs.inside.Differing.{IsDiffering, differing_is, differing-comm, both_from, both_back, both_other}
@@ -81,30 +81,11 @@ put_merges : (n : ℕ) (old new : List Cube) (k : ℕ) (merging exorlinking : Li
     → (a b : ℕ) → a < b → full new a ≡ true → full new b ≡ true → is_due merging a ≡ false
     → (full old a ≡ true → full old b ≡ true → are_adjacent n (at old a) (at old b) ≡ false)
     → are_adjacent n (at new a) (at new b) ≡ false
-put_merges n old new k merging exorlinking p a b ab fa fb nd h =
-    grind (
-      arith,
-      cases_eq,
-      false_from_ne_true,
-      not_lower,
-      lower_less,
-      lower_more,
-      outputs-comm,
-      are_adjacent,
-      full_other,
-    )
+put_merges n old new k merging exorlinking p a b ab fa fb nd h = grind (arith, false_from_ne_true, not_lower, lower_less, lower_more, outputs-comm, full_other)
 
 stays_lonely : (n : ℕ) (old new : List Cube) (k : ℕ) (merging exorlinking : List Bool) → IsPut n old new k merging exorlinking
     → (a b : ℕ) (cube : Cube) → ((c : ℕ) → c ≡ k → full new c ≡ true → can_merge n cube (at new c) ≡ true → ⊥) → StaysLonely n old new a b cube
-stays_lonely n old new k merging exorlinking p a b cube far h c x =
-    let fc = x.other.stands in
-    elim (cases_eq c k) [
-      | inl e ↦ far c e fc x.one
-      | inr ne ↦ h c (record {
-        other = record { stands = full_other n old new k merging exorlinking p c fc ne; other_a = x.other.other_a; other_b = x.other.other_b };
-        one = ap (can_merge n cube) (sym (p.others c fc ne)) ∙ x.one;
-      })
-    ]
+stays_lonely n old new k merging exorlinking p a b cube far h c x = grind (arith, full_other)
 
 -- slot k in the pair itself
 pair_none : (n : ℕ) (new : List Cube) (a b : ℕ) → ((p q : ℕ) → (at new a).outs ≡ (at new b).outs → differing n (at new a) (at new b) ≡ p ∷ q ∷ [] → ⊥)
@@ -182,32 +163,14 @@ near_put : (n : ℕ) (old new : List Cube) (k : ℕ) (cube : Cube) (merging exor
     → ((a : ℕ) → full new a ≡ true → a ≢ k → at new a ≡ at old a)
     → (full new k ≡ true → is_alike (at new k) cube ≡ true)
     → IsPut n old new k merging exorlinking
-near_put n old new k cube merging exorlinking d others here =
-    let same : (c : ℕ) → c ≡ k → full new c ≡ true → is_alike (at new c) cube ≡ true = λ c e f.
-    let P : ℕ → Type 0 = λ x. full new x ≡ true → is_alike (at new x) cube ≡ true in subst P (sym e) here f in
-    record {
-      others = others;
-      merging_due = λ c e f g fg m. d.merging_due c f (same c e f) g fg m;
-      pair_due = λ c e f g p q ne fg o r. d.pair_due c f (same c e f) g p q (others g fg (λ x. ne (x ∙ sym e))) fg o r;
-      third_due = λ c e f x y u w ne fx fy o r m. d.third_due c f (same c e f) x y u w ne (others x fx (λ z. ne (z ∙ sym e))) fx fy o r m;
-    }
+near_put n old new k cube merging exorlinking d others here = grind (arith)
 
 -- two slots with the inputs of the cube become one
 merged_in_put : (n : ℕ) (old slots : List Cube) (a b : ℕ) (cube : Cube) (merging exorlinking : List Bool) → b ≢ a → a < length slots → b < length slots
     → ((c : ℕ) → c ≢ a → c ≢ b → at slots c ≡ at old c)
     → is_alike (at slots a) cube ≡ true → is_alike (at slots b) cube ≡ true
     → PairsDue n cube old (merged_in n slots a b) merging exorlinking → IsPut n old (merged_in n slots a b) a merging exorlinking
-merged_in_put n old slots a b cube merging exorlinking ba la lb others ea eb d =
-    near_put n old (merged_in n slots a b) a cube merging exorlinking d
-    (λ c f na. elim (cases_eq c b) [
-      | inl e ↦ absurd (merged_in_gone n slots a b c ba lb f e)
-      | inr nb ↦ merged_in_other n slots a b c na nb ∙ others c na nb
-    ])
-    (λ f.
-    let e = merged_in_first n slots a b la in
-    let both : is_alike (at slots a) (at slots b) ≡ true = is_alike-trans (at slots a) cube (at slots b) ea (is_alike-comm (at slots b) cube eb) in
-    let t : is_alike (merge_in n (at slots a) (at slots b)) (at slots a) ≡ true = merge_in_alike n (at slots a) (at slots b) both (sym (ap carries e) ∙ f) in
-    ap (λ x. is_alike x cube) e ∙ is_alike-trans (merge_in n (at slots a) (at slots b)) (at slots a) cube t ea)
+merged_in_put n old slots a b cube merging exorlinking ba la lb others ea eb d = grind (arith, near_put, merged_in_gone, merged_in_other, merged_in_first, is_alike-trans, is_alike-comm, merge_in_alike)
 
 pub watched_settled : (n : ℕ) (slots : List Cube) (i : ℕ) (cube : Cube) (merges exorlinks new_merges new_exorlinks : List Bool)
     → i < length slots → full slots i ≡ false → IsWatched n slots merges exorlinks → StaysDue merges new_merges → StaysDue exorlinks new_exorlinks

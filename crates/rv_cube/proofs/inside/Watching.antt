@@ -70,17 +70,7 @@ from_marks slots e p n cube one other old mid new c h k =
 pub third_two : (n : ℕ) (slots : List Cube) (k e p q : ℕ) (x y a b : Cube) (old mid new : List Bool) → x ≡ at slots k → y ≡ at slots e → differing n x y ≡ p ∷ q ∷ []
     → a ≡ with_third y x p → b ≡ with_third y x q
     → Marks (IsLinkAcross slots e a n) old mid → Marks (IsLinkAcross slots e b n) mid new → Marks (IsThird n slots k e) old new
-third_two n slots k e p q x y a b old mid new ex ey d ea eb =
-    let turned : (i : ℕ) → with_third y x i ≡ with_third (at slots e) (at slots k) i = λ i. ap (λ c. with_third c x i) ey ∙ ap (λ c. with_third (at slots e) c i) ex in
-    marks_then (IsLinkAcross slots e a n) (IsLinkAcross slots e b n) (IsThird n slots k e) old mid new
-    (λ row t.
-    let T : List ℕ → Type 0 = λ r. IsThirdBy r n slots k e row in
-    let A : Cube → Type 0 = λ c. IsLinkAcross slots e c n row in
-    let s = subst T (as_named n x y (at slots k) (at slots e) ex ey ∙ d) t in
-    elim s.1 [
-      | inl l ↦ inl (subst A (sym (ea ∙ turned p)) l)
-      | inr l ↦ inr (subst A (sym (eb ∙ turned q)) l)
-    ])
+third_two n slots k e p q x y a b old mid new ex ey d ea eb = grind (arith, marks_then, as_named)
 
 -- ---- the rows that have to be due
 

@@ -2,7 +2,7 @@
 use Rattle.std.proofs.Common.{◌≡◌, ◌≢◌, ℕ, zero, suc, ◌+◌, ◌^◌, ◌<◌, ◌≤◌, Bool, true, false, not, ◌&&◌, cond, eqb, List, length, set, get_or, refl, sym, ◌∙◌, ap, subst, inl, inr, arith, eq-eqb, ne_eqb, add-one, length-set, get_or-set_same, get_or-set_other, ext_get_or}
 use Rattle.std.specs.Prelude.{◌⊎◌}
 use Rattle.std.specs.List.{count_by, range_with_len}
-use Rattle.std.proofs.lemmas.Bool.{cases_Bool, cases_eq, false≢true}
+use Rattle.std.proofs.lemmas.Bool.{cases_Bool, cases_eq}
 use Rattle.std.proofs.lemmas.List.{map-id}
 use Rattle.std.proofs.lemmas.List.FromFn.{length-range_with_len, length-map-range_with_len, get_or-map-range_with_len, sum_by-map-range_with_len_more}
 use Rattle.std.proofs.lemmas.List.Sums.{count_by-le-length}
@@ -57,30 +57,8 @@ Known-none pla counts len zeros = record { len = len; counted = λ y h. zeros y 
 -- one more input word, counted where its row has no free entry
 pub Known-row : (pla : TwoLevel) (counts new : List ℕ) (n : ℕ) (r : Row) → Known pla counts n → r ≡ entries_row (row pla n) pla.outputs → r.want < 2 ^ pla.outputs
     → (r.free ≡ 0) × (new ≡ set counts r.want (get_or counts r.want 0 + 1)) ⊎ ((r.free ≢ 0) × (new ≡ counts)) → Known pla new (n + 1)
-Known-row pla counts new n r k e small (inl own) =
-    let ef : r.free ≡ (entries_row (row pla n) pla.outputs).free = ap (λ (t : Row). t.free) e in
-    let ew : r.want ≡ own_word pla n = ap (λ (t : Row). t.want) e ∙ want_own pla n in
-    let unfree : is_open pla n ≡ false = (free_is (row pla n) pla.outputs).0 (sym ef ∙ own.0) in
-    rw own.1 (record {
-      len = length-set counts r.want _ ∙ k.len;
-      counted = λ y h.
-          let t = set_hit counts r.want y (omega (arith, k.len)) in
-          let m = known_more pla n y in
-          let a : cond {A = ℕ} (counts_it pla y n) 1 0 ≡ hit r.want y = rw (unfree, ew) refl in
-          omega (arith, k.counted y h);
-    })
-Known-row pla counts new n r k e small (inr other) =
-    let ef : r.free ≡ (entries_row (row pla n) pla.outputs).free = ap (λ (t : Row). t.free) e in
-    rw other.1 (elim (cases_Bool (is_open pla n)) [
-      | inl free ↦ record {
-        len = k.len;
-        counted = λ y h.
-            let m = known_more pla n y in
-            let a : cond {A = ℕ} (counts_it pla y n) 1 0 ≡ 0 = rw free refl in
-            omega (arith, k.counted y h);
-      }
-      | inr unfree ↦ absurd (other.0 (ef ∙ (free_is (row pla n) pla.outputs).1 unfree))
-    ])
+Known-row pla counts new n r k e small (inl own) = grind (arith, want_own, free_is, length-set, set_hit, known_more)
+Known-row pla counts new n r k e small (inr other) = grind (arith, known_more, free_is)
 
 pub Known-all : (pla : TwoLevel) (counts : List ℕ) → Known pla counts (2 ^ pla.inputs) → counts ≡ uses pla 0
 unfolding uses
@@ -95,11 +73,7 @@ Known-all pla counts k =
 pub length-uses : (pla : TwoLevel) (x : ℕ) → length (uses pla x) ≡ 2 ^ pla.outputs
 unfolding uses
 length-uses pla zero = length-map-range_with_len (known_uses pla) 0 (2 ^ pla.outputs)
-length-uses pla (suc x) =
-    elim (cases_Bool (is_open pla x)) [
-      | inl free ↦ rw free (length-set (uses pla x) _ _ ∙ length-uses pla x)
-      | inr unfree ↦ rw unfree (length-uses pla x)
-    ]
+length-uses pla (suc x) = let i0 = length-uses pla x in grind (arith, i0, length-set)
 
 uses_first : (pla : TwoLevel) (y : ℕ) → y < 2 ^ pla.outputs → get_or (uses pla 0) y 0 ≡ known_uses pla y
 unfolding uses
@@ -161,21 +135,4 @@ pub found : (pla : TwoLevel) (counts new : List ℕ) (n v : ℕ) (r : Row) → c
     → (r.free ≡ 0 → v ≡ r.want) → (r.free ≡ 0 → new ≡ counts)
     → (r.free ≢ 0 → IsLeastUsed (fits r.care r.want) (λ y. get_or counts y 0) (2 ^ pla.outputs) v) → (r.free ≢ 0 → new ≡ raised counts v)
     → Found pla new n v
-found pla counts new n v r so_far e own kept least counted =
-    let ef : r.free ≡ (entries_row (row pla n) pla.outputs).free = ap (λ (t : Row). t.free) e in
-    let ew : r.want ≡ own_word pla n = ap (λ (t : Row). t.want) e ∙ want_own pla n in
-    elim (cases_Bool (is_open pla n)) [
-      | inl free ↦
-          let some : r.free ≢ 0 = λ z. false≢true (sym ((free_is (row pla n) pla.outputs).0 (sym ef ∙ z)) ∙ free) in
-          let is : v ≡ taken_word pla (uses pla n) n = least_taken pla counts n v r e (least some) ∙ ap (λ l. taken_word pla l n) so_far in
-          record {
-            word = rw free is;
-            counts_after = counted some ∙ ap (λ l. raised l v) so_far ∙ ap (raised (uses pla n)) is ∙ sym (uses_open pla n free);
-          }
-      | inr unfree ↦
-          let none : r.free ≡ 0 = ef ∙ (free_is (row pla n) pla.outputs).1 unfree in
-          record {
-            word = rw unfree (own none ∙ ew);
-            counts_after = kept none ∙ so_far ∙ sym (uses_own pla n unfree);
-          }
-    ]
+found pla counts new n v r so_far e own kept least counted = grind (arith, want_own, free_is, least_taken, uses_open, uses_own)

@@ -108,13 +108,7 @@ abbrev Differs : TwoLevel → Marked → ℕ → ℕ → ℕ → Type 0
 Differs pla m y a b = get_or (zeros pla) a 0 ≡ y → get_or (zeros pla) b 0 ≡ y → garbage_of pla m a ≢ garbage_of pla m b
 
 differ_all : (pla : TwoLevel) (m : Marked) (y : ℕ) → HasNoFree pla → IsEmbedding pla m → AllPairs (Differs pla m y) (range_with_len 0 (2 ^ pla.inputs))
-differ_all pla m y unfree e i j d l h ea eb same =
-    let words : ℕ = 2 ^ pla.inputs in
-    let j_in : j < words = omega (arith, length-range_with_len 0 words) in
-    let at_i : get_or (range_with_len 0 words) i d ≡ 0 + i = get_or-range_with_len 0 words i d (omega arith) in
-    let at_j : get_or (range_with_len 0 words) j d ≡ 0 + j = get_or-range_with_len 0 words j d j_in in
-    let one : get_or (range_with_len 0 words) i d ≡ get_or (range_with_len 0 words) j d = apart_in_class pla m _ _ unfree e (omega arith) (omega arith) (ea ∙ sym eb) same in
-    omega arith
+differ_all pla m y unfree e i j d l h ea eb same = grind (arith, length-range_with_len, get_or-range_with_len, apart_in_class)
 
 class_apart : (pla : TwoLevel) (m : Marked) (y : ℕ) → HasNoFree pla → IsEmbedding pla m → IsDistinct eqb (map (garbage_of pla m) (class_of pla y))
 class_apart pla m y unfree e =

@@ -200,13 +200,7 @@ greedy_at : (pla : TwoLevel) (x d : ℕ) → x < 2 ^ pla.inputs → get_or (gree
 greedy_at pla x d h = get_or-map-range_with_len (greedy_word pla) 0 (2 ^ pla.inputs) x x d h (omega arith)
 
 pub greedy_fills : (pla : TwoLevel) → IsFilling pla (greedy pla)
-greedy_fills pla =
-    let len : length (greedy pla) ≡ 2 ^ pla.inputs = length-map-range_with_len (greedy_word pla) 0 (2 ^ pla.inputs) in
-    record {
-      size = len;
-      below = λ x d h. rw (greedy_at pla x d (omega arith)) (greedy_fits pla x).0;
-      agree = λ x h. rw (greedy_at pla x 0 h) (greedy_fits pla x).1;
-    }
+greedy_fills pla = grind (arith, length-map-range_with_len, greedy_at, greedy_fits)
 
 -- ---- the better one
 

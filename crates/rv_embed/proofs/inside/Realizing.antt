@@ -31,17 +31,7 @@ in_row a n x y h = omega (arith, length-append (replicate a x) (replicate (n - a
 -- ---- the word to which an input word goes
 
 number_put_in : (x : List Bool) (i m : ℕ) → length x ≡ i → number_of (with_constants (replicate i Input ++ replicate m Zero) x) ≡ number_of x * 2 ^ m
-number_put_in x i m len =
-    grind (
-      arith,
-      number_of,
-      with_constants,
-      with_constants-first,
-      number_of-append,
-      length-replicate,
-      number_of-zeros,
-      add-zero,
-    )
+number_put_in x i m len = grind (arith, with_constants-first, number_of-append, length-replicate, number_of-zeros, add-zero)
 
 outputs_left : (a o m : ℕ) (v : List Bool) → without_garbage (replicate o false ++ replicate m true) (word_of o a ++ v) ≡ word_of o a
 outputs_left a o m v = ap (λ n. without_garbage (replicate n false ++ replicate m true) (word_of o a ++ v)) (sym (length-word_of o a)) ∙ without_garbage-first (word_of o a) v m

@@ -87,14 +87,7 @@ next_bit c w n z t k b zb tb hk hb hz ht fit ends s =
 
 -- a free entry with a 0
 next_even : (c w n z : ℕ) → z < 2 ^ n → bit_and z c ≡ w → Next (c * 2 + 0) (w * 2 + 0) (suc n) (z * 2 + 0) (z * 2 + 1)
-next_even c w n z h f =
-    let p = pow-suc 2 n in
-    let half : (z * 2 + 1) / 2 ≡ z = omega arith in
-    record {
-      within = omega arith;
-      fit = joined_halves c w (z * 2 + 1) 0 0 (omega arith) (ap (λ v. bit_and v c) half ∙ f) (and_zero_r ((z * 2 + 1) % 2));
-      first = λ y u g l. (omega arith, omega arith);
-    }
+next_even c w n z h f = grind (arith, pow-suc, joined_halves)
 
 -- ---- the masks of a row
 
@@ -271,18 +264,7 @@ starts n r counts is = record {
 
 pub goes_on : (n : ℕ) (r : Row) (counts : List ℕ) (c : Cursor) (t : ℕ) → IsRow n r → IsCursor r.care r.want (2 ^ n) counts c → t ≡ row_next r c.word → c.level < get_or counts c.word 0 → c.word < t
     → IsCursor r.care r.want (2 ^ n) counts (record { level = c.level; word = t })
-goes_on n r counts c t is b e more l =
-    let s = row_after n r c.word is b.within b.passed in
-    record {
-      within = omega (arith, s.within);
-      passed = eq-eqb _ _ (ap (λ v. bit_and v r.care) e ∙ s.fit);
-      level = b.level;
-      before = λ z h f. elim (cases_order z c.word) [
-        | inl same ↦ (let s = ap (λ k. get_or counts k 0) same in omega arith)
-        | inr (inl below) ↦ b.before z below f
-        | inr (inr above) ↦ absurd (let n = s.first z (omega (arith, s.within)) (eqb-true _ _ f) above in omega (arith, n.1))
-      ];
-    }
+goes_on n r counts c t is b e more l = grind (arith, row_after, eq-eqb, cases_order, eqb-true)
 
 pub wraps : (n : ℕ) (r : Row) (counts : List ℕ) (c : Cursor) (t : ℕ) → IsRow n r → IsCursor r.care r.want (2 ^ n) counts c → t ≡ row_next r c.word → c.level < get_or counts c.word 0 → t ≤ c.word
     → IsCursor r.care r.want (2 ^ n) counts (record { level = c.level + 1; word = r.want })

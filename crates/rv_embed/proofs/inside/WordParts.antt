@@ -14,9 +14,7 @@ pub number_of-append : (u v : List Bool) → number_of (u ++ v) ≡ number_of u 
 unfolding number_of
 number_of-append [] v = omega arith
 number_of-append (false ∷ u) v = omega (arith, number_of-append u v)
-number_of-append (true ∷ u) v =
-    let p : 2 ^ length (u ++ v) ≡ 2 ^ length u * 2 ^ length v = ap (λ k. 2 ^ k) (length-append u v) ∙ pow-add 2 (length u) (length v) in
-    omega (arith, number_of-append u v, p)
+number_of-append (true ∷ u) v = let i0 = number_of-append u v in grind (arith, i0, length-append, pow-add)
 
 pub number_of-zeros : (m : ℕ) → number_of (replicate m false) ≡ 0
 unfolding number_of
@@ -45,13 +43,4 @@ with_constants-first x m =
     ∙ ap (λ w. x ++ w) (with_constants-zeros m [])
 
 pub without_garbage-first : (u v : List Bool) (m : ℕ) → without_garbage (replicate (length u) false ++ replicate m true) (u ++ v) ≡ u
-without_garbage-first u v m =
-    grind (
-      arith,
-      without_garbage-append,
-      length-replicate,
-      without_garbage,
-      without_garbage-outputs,
-      without_garbage-all,
-      append-nil,
-    )
+without_garbage-first u v m = grind (arith, without_garbage-append, length-replicate, without_garbage-outputs, without_garbage-all, append-nil)

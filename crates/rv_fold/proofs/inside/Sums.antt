@@ -155,13 +155,8 @@ module _ (n : ℕ) (ops : List Op) where
 pub parts_more : (f : ℕ → Op → List Op) (ops : List Op) (m j : ℕ) (o : Op) → slice_get ops j ≡ Some o → parts f m (take (suc j) ops) ≡ parts f m (take j ops) ++ f (m + j) o
 unfolding parts
 parts_more f [] m j o e = absurd (none-some o e)
-parts_more f (x ∷ ops) m zero o e =
-    let same : x ≡ o = same_Some _ _ e in
-    append-nil (f m x) ∙ ap₂ (λ k p. f k p) (let q : m ≡ m + 0 = omega arith in q) same
-parts_more f (x ∷ ops) m (suc j) o e =
-    ap (λ l. f m x ++ l) (parts_more f ops (suc m) j o e)
-    ∙ sym (append_assoc (f m x) (parts f (suc m) (take j ops)) (f (suc m + j) o))
-    ∙ ap (λ k. (f m x ++ parts f (suc m) (take j ops)) ++ f k o) (let q : suc m + j ≡ m + suc j = omega arith in q)
+parts_more f (x ∷ ops) m zero o e = grind (arith, same_Some, append-nil, ap₂)
+parts_more f (x ∷ ops) m (suc j) o e = let i0 = parts_more f ops (suc m) j o e in grind (arith, i0, append_assoc)
 
 pub sent_is_part : (n : ℕ) (ops : List Op) (j : ℕ) (o : Op) → sent o (sum_at n ops (length ops) j) ≡ part n ops j o
 sent_is_part n ops j o =
@@ -184,11 +179,7 @@ unfolding parts
 parts_within f [] m zero = omega arith
 parts_within f [] m (suc k) = omega arith
 parts_within f (o ∷ ops) m zero = omega arith
-parts_within f (o ∷ ops) m (suc k) =
-    let a = length-append (f m o) (parts f (suc m) (take k ops)) in
-    let b = length-append (f m o) (parts f (suc m) ops) in
-    let ih = parts_within f ops (suc m) k in
-    omega arith
+parts_within f (o ∷ ops) m (suc k) = let i0 = parts_within f ops (suc m) k in grind (arith, i0, length-append)
 
 -- what is sent at a place makes the parts one longer
 module _ (n : ℕ) (ops : List Op) (place : ℕ) (op : Op) (at : slice_get ops place ≡ Some op) where

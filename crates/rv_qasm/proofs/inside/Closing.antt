@@ -8,7 +8,7 @@ use Rattle.std.proofs.lemmas.List.{length-append}
 use Rattle.rv_text.specs.Bytes.{line_feed, quote, dot}
 use Rattle.rv_text.specs.Tokens.{is_blank}
 use Rattle.rv_text.proofs.inside.Spelled.{list_all-weaken, list_all-push}
-use Rattle.rv_qasm.specs.Tokens.{TokenOnLine, minus, greater, slash, begins_name, is_in_name, token_length, begins_comment, tokens_after, number_length, string_length}
+use Rattle.rv_qasm.specs.Tokens.{TokenOnLine, minus, greater, slash, begins_name, is_in_name, token_length, begins_comment, tokens_after, number_length}
 use Rattle.rv_text.specs.Lines.{first_end}
 use Rattle.rv_qasm.specs.inside.Lexing.{goes_on, semicolon}
 use Rattle.rv_qasm.specs.declared.lexer.Mode.{Mode}
@@ -149,10 +149,7 @@ closes_quoted : (r rest : List ℕ) (line : ℕ) → list_all in_string r ≡ tr
 closes_quoted r rest line all stop = one_token quote r rest line refl refl (omega (arith, unclosed_string r rest all stop)) (weaken_line in_string r refl all)
 
 pub string_token : (r : List ℕ) → list_all in_string r ≡ true → IsToken quote (r ++ quote ∷ [])
-string_token r all line rest =
-    one_token quote (r ++ quote ∷ []) rest line refl refl
-    (omega (arith, ap string_length (append_assoc r (quote ∷ []) rest), closed_string r rest all, length-append r (quote ∷ [])))
-    (list_all-push in_line r quote (weaken_line in_string r refl all) refl)
+string_token r all line rest = grind (arith, one_token, append_assoc, closed_string, length-append, list_all-push, weaken_line)
 
 pub arrow_token : IsToken minus (greater ∷ [])
 arrow_token line rest = one_token minus (greater ∷ []) rest line refl refl refl refl

@@ -138,6 +138,4 @@ pub no_string : (starts bytes : List ℕ) → list_any is_quote bytes ≡ false 
 unfolding cut_at
 no_string [] bytes none = refl
 no_string (start ∷ []) bytes none = rw (none_first (drop start bytes) (none_dropped start bytes none)) refl
-no_string (start ∷ next ∷ starts) bytes none =
-    rw (none_first (take (next - start) (drop start bytes)) (none_taken (next - start) (drop start bytes) (none_dropped start bytes none)))
-    (no_string (next ∷ starts) bytes none)
+no_string (start ∷ next ∷ starts) bytes none = let i0 = no_string (next ∷ starts) bytes none in grind (arith, i0, none_first, none_taken, none_dropped)

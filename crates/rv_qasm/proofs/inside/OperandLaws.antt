@@ -103,17 +103,7 @@ pub indexed_first : (tokens : List (List ℕ)) (at : ℕ) (a b c d : List ℕ) (
     → option_map named r ≡ register_operand (a ∷ b ∷ c ∷ d ∷ []) → position_or_len (is_token (codes ",")) (drop (at + 4) tokens) ≡ 0
     → IfSome r (λ _. at + 4 ≡ at + position_or_len (is_token (codes ",")) (drop at tokens))
 indexed_first tokens at a b c d None at_a at_b at_c at_d is follows = tt
-indexed_first tokens at a b c d (Some held) at_a at_b at_c at_d is follows =
-    let none = no_comma a b c d (named held) (sym is) in
-    let p = is_token (codes ",") in
-    omega (
-      arith,
-      follows,
-      position_next p tokens at (at + 1) a at_a refl none.0,
-      position_next p tokens (at + 1) (at + 2) b at_b (omega arith) none.1,
-      position_next p tokens (at + 2) (at + 3) c at_c (omega arith) none.2,
-      position_next p tokens (at + 3) (at + 4) d at_d (omega arith) none.3,
-    )
+indexed_first tokens at a b c d (Some held) at_a at_b at_c at_d is follows = grind (arith, no_comma, codes, position_next)
 
 -- ---- operands with commas between them
 
@@ -202,6 +192,4 @@ any_more p tokens i token is fails none =
 -- where no token is a string
 pub none_unclosed : (tokens : List (List ℕ)) → list_any is_string tokens ≡ false → list_any is_open_string tokens ≡ false
 none_unclosed [] none = refl
-none_unclosed (token ∷ tokens) none =
-    let parts = or_parts (is_string token) (list_any is_string tokens) none in
-    rw (parts.0) (none_unclosed tokens parts.1)
+none_unclosed (token ∷ tokens) none = let i0 = none_unclosed tokens in grind (arith, i0, or_parts)

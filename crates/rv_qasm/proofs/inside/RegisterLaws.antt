@@ -19,11 +19,7 @@ first_size register registers = sum_by-cons (λ (r : Register). r.size) register
 pub looked_up : (name : List ℕ) (entries : List (Vec ℕ × Extent))
     → option_map (λ (e : Extent). e.size) (lookup (λ (key : Vec ℕ). bytes_eq name key.items) entries) ≡ declared_size name (registers_of entries)
 looked_up name [] = refl
-looked_up name (entry ∷ entries) =
-    elim (bytes_eq name entry.0.items) as (λ t. option_map (λ (e : Extent). e.size) (cond t (Some entry.1) (lookup (λ (key : Vec ℕ). bytes_eq name key.items) entries)) ≡ cond t (Some entry.1.size) (declared_size name (registers_of entries))) [
-      | true ↦ refl
-      | false ↦ looked_up name entries
-    ]
+looked_up name (entry ∷ entries) = let i0 = looked_up name entries in grind (arith, i0, option_map)
 
 -- the qubits of a register by where it lies
 abbrev pub whole : Extent → Qubits
@@ -85,10 +81,7 @@ pushed old new name extent none e = ap registers_of (e ∙ inserted old name ext
 pub only_register : (registers : List Register) (name : List ℕ) → length registers ≡ 1 → option_map (λ r. r.name) (slice_get registers 0) ≡ Some name
     → registers ≡ record { name = name; size = size_of_all registers } ∷ []
 only_register [] name one is = absurd (omega (arith, one))
-only_register (r ∷ []) name one is =
-    let a : r.name ≡ name = cc is in
-    let b : r.size ≡ size_of_all (r ∷ []) = omega (arith, first_size r []) in
-    (λ i. record { name = a i; size = b i } ∷ [])
+only_register (r ∷ []) name one is = grind (arith, first_size)
 only_register (r ∷ s ∷ registers) name one is = absurd (omega (arith, one))
 
 -- a size among those of all

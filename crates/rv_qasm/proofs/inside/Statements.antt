@@ -94,9 +94,7 @@ quoted_grow : (tokens : List (List ℕ)) (first line : ℕ) (begun : List TokenO
     → Opened (record { tokens = with_byte tokens c; first = first; line = line; mode = cond t Done Quoted }) begun (text ++ c ∷ [])
 quoted_grow tokens first line begun text c true e o on =
     grown tokens first line Done begun text o.head o.rest c (λ r. refl) (λ r. refl) o.tokens o.first o.text_is (rw (o.is_open.0, eqb-true c quote e) (refl, string_token o.rest o.is_open.1))
-quoted_grow tokens first line begun text c false e o on =
-    grown tokens first line Quoted begun text o.head o.rest c (λ r. refl) (λ r. refl) o.tokens o.first o.text_is
-    (o.is_open.0, list_all-push in_string o.rest c o.is_open.1 (rw (e, not-true (nat_eq c line_feed) on) refl))
+quoted_grow tokens first line begun text c false e o on = grind (arith, grown, list_all-push, in_string, not-true, nat_eq)
 
 grows : (tokens : List (List ℕ)) (first line : ℕ) (mode : Mode) (begun : List TokenOnLine) (text : List ℕ) (c : ℕ) → let b : Begun = record { tokens = tokens; first = first; line = line; mode = mode } in
     Opened b begun text → goes_on mode c ≡ true → Opened (continued b mode c) begun (text ++ c ∷ [])
@@ -243,15 +241,7 @@ statement_has s all h = grind arith
 stops_here : (b : Begun) (c : ℕ) (cs : List ℕ) (begun : List TokenOnLine) → goes_on b.mode c ≡ false → nat_eq c semicolon ≡ true
     → Has (with_nothing_open b b.mode) begun → Cut (begun_on b.line) cs [] (tokens_after 0 b.line cs) → Cut b (c ∷ cs) begun (tokens_after 0 b.line (c ∷ cs))
 unfolding ended_by begun_by ended_statements unended_tokens
-stops_here b c cs begun off is_end has cut =
-    let is : tokens_after 0 b.line (c ∷ cs) ≡ on_its_line b.line (semicolon ∷ []) ∷ tokens_after 0 b.line cs =
-    ap (λ k. tokens_after 0 b.line (k ∷ cs)) (eqb-true c semicolon is_end) ∙ single semicolon refl refl refl refl b.line cs refl refl in
-    let first : statement_at (with_nothing_open b b.mode) ≡ statement_of begun b.line =
-    statement_has (with_nothing_open b b.mode) begun has ∙ ap (statement_of begun) (ap (λ s. s.line) (with_nothing_open-mode b b.mode)) in
-    rw is (record {
-      ended = rw (off, is_end) (ap (λ l. statement_at (with_nothing_open b b.mode) ∷ l) cut.ended ∙ ap (λ l. l ∷ ended_statements [] (tokens_after 0 b.line cs)) first);
-      unended = rw (off, is_end) cut.unended;
-    })
+stops_here b c cs begun off is_end has cut = grind (arith, on_its_line, eqb-true, single, statement_has, with_nothing_open-mode)
 
 begins : (b : Begun) (c : ℕ) (cs : List ℕ) (begun ts : List TokenOnLine) → goes_on b.mode c ≡ false → nat_eq c semicolon ≡ false
     → Cut (with_first (with_nothing_open b b.mode) c) cs begun ts → Cut b (c ∷ cs) begun ts

@@ -119,9 +119,7 @@ stays_stopped text more f h = steps-append nothing_reached text more ∙ ap (λ 
 -- a fault that was kept
 pub kept_stopped : (reader : QasmFeeding) (fault : QasmFault) (text piece : List ℕ) → refused fault ≡ reader.progress → StandsForText reader text → HasStopped fault (text ++ piece)
 unfolding HasStopped
-kept_stopped reader fault text piece kept stood =
-    let found = gave-refused (steps nothing_reached text) fault (kept ∙ stood.progress) in
-    inr (found.0, found.1, stays_stopped text piece found.0 found.2)
+kept_stopped reader fault text piece kept stood = grind (arith, gave-refused, stays_stopped)
 
 pub kept_at_end : (reader : QasmFeeding) (fault : QasmFault) (text : List ℕ) → refused fault ≡ reader.progress → StandsForText reader text → HasStopped fault text
 unfolding HasStopped

@@ -1,11 +1,9 @@
 -- The statements of what is written of a network, and what each gives.
 use Rattle.std.proofs.Common.{◌≡◌, ◌≢◌, ℕ, ◌+◌, ◌<◌, ◌^◌, Bool, true, false, List, [], ◌∷◌, ◌++◌, length, nat_lt, refl, arith, ap, subst, sym, ◌∙◌, decimal, codes, ne_eqb, append_assoc, append-nil, Some, Ok}
 use Rattle.std.specs.Prelude.{bytes_eq}
-use Rattle.std.specs.Char.{is_ascii_digit}
 use Rattle.std.specs.List.{list_any}
 use Rattle.std.specs.Int.{IsInRange}
-use Rattle.std.specs.Str.{all_ascii_digits}
-use Rattle.std.proofs.lemmas.Bool.{and_parts, cond-true, lt-ltb}
+use Rattle.std.proofs.lemmas.Bool.{cond-true, lt-ltb}
 use Rattle.std.proofs.lemmas.Nat.Bits.{bit_at-zero}
 use Rattle.rv_text.specs.Decimal.{is_decimal, decimal_value}
 use Rattle.rv_text.proofs.inside.Decimal.{is_decimal-decimal, decimal_value-decimal}
@@ -53,9 +51,7 @@ pub record IsWritten (digits : List ℕ) (n : ℕ) : Type 0 where
 
 -- its first byte is a digit
 first_digit : (d : ℕ) (digits : List ℕ) → is_decimal (d ∷ digits) ≡ true → IsInRange 48 57 d
-first_digit d digits h =
-    let all = (and_parts (nat_lt 0 (length (d ∷ digits))) (all_ascii_digits (d ∷ digits)) h).1 in
-    digit_range d (and_parts (is_ascii_digit d) (all_ascii_digits digits) all).0
+first_digit d digits h = grind (arith, nat_lt, digit_range)
 
 apart : (digits : List ℕ) (c : ℕ) → is_decimal digits ≡ true → (IsInRange 48 57 c → ⊥) → bytes_eq digits (c ∷ []) ≡ false
 apart [] c h other = refl
@@ -66,14 +62,7 @@ no_string [] h = refl
 no_string (d ∷ digits) h = let r = first_digit d digits h in rw (ne_eqb d 34 (λ e. omega (arith, e, r.0))) refl
 
 pub written : (n : ℕ) → n < 2 ^ 64 → IsWritten (decimal n) n
-written n small =
-    let is = is_decimal-decimal n small in record {
-      decimal = is;
-      value = decimal_value-decimal n small;
-      no_comma = apart (decimal n) 44 is (λ r. omega (arith, r.0));
-      no_semicolon = apart (decimal n) 59 is (λ r. omega (arith, r.1));
-      closed = no_string (decimal n) is;
-    }
+written n small = grind (arith, is_decimal-decimal, decimal, decimal_value-decimal, apart, no_string)
 
 -- ---- operands
 

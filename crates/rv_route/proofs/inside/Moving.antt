@@ -111,21 +111,13 @@ pub swaps_of-down : (a b : ℕ) → b ≤ a → swaps_of a b ≡ swaps_down a b
 swaps_of-down a b le = ap (λ l. l ++ swaps_down a b) (none a b le)
 
 pub length-swaps_of : (a b : ℕ) → length (swaps_of a b) ≡ (b - a) + (a - b)
-length-swaps_of a b =
-    length-append (swaps_up a b) (swaps_down a b)
-    ∙ (let e = length-range_with_len a (b - a) in let f = length-reverse (range_with_len b (a - b)) in let g = length-range_with_len b (a - b) in omega arith)
+length-swaps_of a b = grind (arith, length-append, length-range_with_len, length-reverse)
 
 pub swaps_up-within : (n a b : ℕ) → b < n → All (IsSwap n) (swaps_up a b)
 swaps_up-within n a b lt i d h = let l = length-range_with_len a (b - a) in let e = get_or-range_with_len a (b - a) i d (omega arith) in omega arith
 
 pub swaps_down-within : (n a b : ℕ) → a < n → All (IsSwap n) (swaps_down a b)
-swaps_down-within n a b lt i d h =
-    let r : List ℕ = range_with_len b (a - b) in
-    let l = length-range_with_len b (a - b) in
-    let m = length-reverse r in
-    let e = get_or-reverse r i d (omega arith) in
-    let f = get_or-range_with_len b (a - b) (length r - 1 - i) d (omega arith) in
-    omega arith
+swaps_down-within n a b lt i d h = grind (arith, length-range_with_len, length-reverse, get_or-reverse, get_or-range_with_len)
 
 pub swaps_of-within : (n a b : ℕ) → a < n → b < n → All (IsSwap n) (swaps_of a b)
 swaps_of-within n a b la lb = All-append (IsSwap n) (swaps_up a b) (swaps_down a b) (swaps_up-within n a b lb) (swaps_down-within n a b la)
@@ -137,11 +129,7 @@ pub travels_fall : (a b q : ℕ) → b ≤ a → travels (swaps_down a b) q ≡ 
 travels_fall a b q le = let e : b + (a - b) ≡ a = omega arith in travels_down b (a - b) q ∙ ap (λ k. shifted k b q) e
 
 travels_of : (a b q : ℕ) → travels (swaps_of a b) q ≡ shifted a b q
-travels_of a b q =
-    elim (cases_lt b a) [
-      | inl down ↦ ap (λ l. travels l q) (swaps_of-down a b (omega arith)) ∙ travels_fall a b q (omega arith)
-      | inr up ↦ ap (λ l. travels l q) (swaps_of-up a b up) ∙ travels_rise a b q up
-    ]
+travels_of a b q = grind (arith, swaps_of-down, travels_fall, swaps_of-up, travels_rise)
 
 -- ---- one move
 
@@ -186,9 +174,7 @@ pub swaps_by-next : (moves : List Move) (k : ℕ) (d : Move) → k < length move
 swaps_by-next moves k d lt = swaps_by-more (take k moves) (take (k + 1) moves) (get_or moves k d) (take_more moves k d lt)
 
 pub Stands-first : (moves : List Move) (row places : List ℕ) → moves ≡ [] → Stands row places → Stands (swapped (swaps_by moves) row) places
-Stands-first moves row places e s =
-    let P : List ℕ → Type 0 = λ r. Stands r places in
-    subst P (sym (ap (λ l. swapped (swaps_by l) row) e ∙ ap (λ l. swapped l row) swaps_by_none ∙ swapped_none row)) s
+Stands-first moves row places e s = grind (arith, swaps_by_none, swapped_none)
 
 pub Stands-next : (moves : List Move) (k : ℕ) (d : Move) (row old new : List ℕ) → k < length moves → AreMoves (length old) moves → length new ≡ length old
     → ((line : ℕ) → line < length old → get_or new line 0 ≡ shifted (get_or moves k d).from (get_or moves k d).to (get_or old line 0))
@@ -221,11 +207,7 @@ down_more a b p old now next g some le so_far is pushed =
     (ap (λ l. swaps_up a b ++ l) (falling-more a p some le) ∙ sym (append_assoc (swaps_up a b) (swaps_down a p) ((p - 1) ∷ [])))
 
 pub down_all : (a b p : ℕ) → p ≤ b → a - p ≤ a - b → swaps_down a p ≡ swaps_down a b
-down_all a b p le few =
-    elim (cases_lt b a) [
-      | inl some ↦ let e : p ≡ b = omega arith in ap (swaps_down a) e
-      | inr past ↦ ap reverse (none p a (omega arith) ∙ sym (none b a past))
-    ]
+down_all a b p le few = grind (arith, reverse, none)
 
 pub down_none : (a : ℕ) → swaps_down a a ≡ []
 down_none a = ap reverse (none a a (omega arith))
@@ -263,15 +245,7 @@ moves_down_none bottom = refl
 -- the line at place j - 1 of those below the middle one
 pub one_up : (ps : List ℕ) (m j c to : ℕ) → 0 < j → j ≤ m → m ≤ length ps → to ≡ c - (m - (j - 1)) → get_or ps (j - 1) 0 ≤ to
     → moves_up (drop (j - 1) (take m ps)) c ≡ moves_up (drop j (take m ps)) c ++ swaps_of (get_or ps (j - 1) 0) to
-one_up ps m j c to some le few is up =
-    let len : length (take m ps) ≡ m = length-take-le m ps few in
-    let rest = length-drop j (take m ps) in
-    let cut = drop_more (take m ps) (j - 1) 0 (omega arith) in
-    let back : j - 1 + 1 ≡ j = omega arith in
-    let there : c - suc (length (drop j (take m ps))) ≡ to = omega arith in
-    let read = get_or-take m ps (j - 1) 0 (omega arith) in
-    let is = swaps_of-up (get_or ps (j - 1) 0) to up in
-    grind (arith, moves_up_first)
+one_up ps m j c to some le few is up = grind (arith, length-take-le, length-drop, drop_more, get_or-take, swaps_of-up, moves_up_first)
 
 pub up_start : (ps : List ℕ) (m c : ℕ) → moves_up (drop m (take m ps)) c ≡ []
 up_start ps m c = at_drop_all (λ l. moves_up l c) (take m ps) m (omega (arith, length-take m ps)) ∙ moves_up_none c
@@ -296,24 +270,12 @@ AreAscending-wider low n m (p ∷ rest) le h = (h.0, omega (arith, h.1), AreAsce
 length-moves_up : (ps : List ℕ) (top : ℕ) → length (moves_up ps top) ≤ length ps * top
 unfolding moves_up
 length-moves_up [] top = omega arith
-length-moves_up (p ∷ rest) top =
-    let r = length-moves_up rest top in
-    let e = length-append (moves_up rest top) (swaps_up p (top - length (p ∷ rest))) in
-    let f = length-range_with_len p (top - length (p ∷ rest) - p) in
-    omega arith
+length-moves_up (p ∷ rest) top = let i0 = length-moves_up rest top in grind (arith, i0, length-append, length-range_with_len)
 
 length-moves_down : (low b : ℕ) (ps : List ℕ) → AreAscending low 64 ps → length (moves_down ps b) ≤ length ps * (63 - b)
 unfolding moves_down
 length-moves_down low b [] h = omega arith
-length-moves_down low b (p ∷ rest) h =
-    let r = length-moves_down (p + 1) (b + 1) rest h.2 in
-    let e = length-append (swaps_down p (b + 1)) (moves_down rest (b + 1)) in
-    let f = length-reverse (range_with_len (b + 1) (p - (b + 1))) in
-    let g = length-range_with_len (b + 1) (p - (b + 1)) in
-    let lt = h.1 in
-    let fewer : 63 - (b + 1) ≤ 63 - b = omega arith in
-    let m = mul-le-mul_left (length rest) fewer in
-    omega arith
+length-moves_down low b (p ∷ rest) h = let i0 = length-moves_down (p + 1) (b + 1) rest h.2 in grind (arith, i0, length-append, length-reverse, length-range_with_len, mul-le-mul_left)
 
 -- no more than 31 positions from below, no more than 32 from above
 few_in_all : (below above centre one two : ℕ) → below ≤ 31 → above ≤ 32 → centre ≤ 63 → one ≤ below * centre → two ≤ above * (63 - centre) → one + two ≤ 2016

@@ -200,13 +200,7 @@ neighbours_touch : (p k : ℕ) → touches (neighbours p) k ≡ true → (p ≤ 
 neighbours_touch p k on = grind arith
 
 near_neighbours : (p : ℕ) → IsNear (neighbours p)
-near_neighbours p first line last a b lo hi =
-    let x = (neighbours_touch p first a).0 in
-    let y = (neighbours_touch p last b).1 in
-    elim (cases_eq line p) [
-      | inl at ↦ or_left (has 0 line || eqb line p) (eqb line (p + 1)) (or_right (has 0 line) _ (eq-eqb line p at))
-      | inr ne ↦ or_right (has 0 line || eqb line p) _ (eq-eqb line (p + 1) (omega arith))
-    ]
+near_neighbours p first line last a b lo hi = grind (arith, neighbours_touch, or_left, or_right, eq-eqb)
 
 -- near, a gate, and on n lines
 pub record IsPlaced (n : ℕ) (g : Shape) : Type 0 where

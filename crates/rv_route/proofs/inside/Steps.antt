@@ -1,6 +1,5 @@
 -- One more line of a set, one more line home, one more gate.
-use Rattle.std.proofs.Common.{◌≡◌, ℕ, zero, suc, ◌+◌, ◌-◌, ◌<◌, ◌≤◌, Bool, false, cond, List, [], ◌∷◌, ◌++◌, ◌*◌, ◌^◌, ◌%◌, ◌||◌, eqb, eq-eqb, ne_eqb, bit_or, length, get_or, map, take, drop, refl, sym, ◌∙◌, ap, inl, inr, subst, arith, append_assoc, length-append, ext_get_or}
-use Rattle.std.proofs.lemmas.Bool.{cases_eq}
+use Rattle.std.proofs.Common.{◌≡◌, ℕ, zero, suc, ◌+◌, ◌-◌, ◌<◌, ◌≤◌, Bool, false, List, [], ◌∷◌, ◌++◌, ◌*◌, ◌^◌, ◌%◌, ◌||◌, eqb, eq-eqb, ne_eqb, bit_or, length, get_or, map, take, drop, refl, sym, ◌∙◌, ap, subst, arith, append_assoc, length-append, ext_get_or}
 use Rattle.std.proofs.lemmas.List.{append-nil, drop_more, at_drop_all, length-map, length-take-le, get_or-take, get_or-map}
 use Rattle.std.proofs.lemmas.List.FromFn.{length-range_with_len, get_or-range_with_len}
 use Rattle.std.specs.List.{filter, range_with_len}
@@ -21,17 +20,13 @@ use Rattle.rv_route.proofs.inside.Running.{stands, eqb-position, has-positions_o
 use Rattle.rv_route.proofs.inside.Gathers.{few}
 use Rattle.rv_route.proofs.inside.Routes.{IsPlacement-home, home_at, routed_none, routed_first, AreHome, one_home}
 use Rattle.rv_route.proofs.inside.Shifts.{swapped_none, swapped-append}
-use Rattle.rv_route.proofs.inside.Moving.{swaps_of-down, swaps_by_none, Stands-first, Stands-moved, place_of}
+use Rattle.rv_route.proofs.inside.Moving.{swaps_of-down, swaps_by_none, Stands-moved, place_of}
 
 -- ---- positions
 
 -- what is left of a set, and the lowest line of it
 left_of : (left line rest k : ℕ) → IsLowest left line rest → k < 64 → has left k ≡ (eqb k line || has rest k)
-left_of left line rest k l lt =
-    elim (cases_eq k line) [
-      | inl at ↦ rw (at, l.there, eq-eqb line line refl) refl
-      | inr other ↦ rw (l.same k lt other, ne_eqb k line other) refl
-    ]
+left_of left line rest k l lt = grind (arith, eq-eqb, ne_eqb)
 
 -- the positions of the lines of a set that were passed, where some are left
 pub record Placing (row : List ℕ) (n set left positions : ℕ) : Type 0 where
@@ -68,9 +63,7 @@ placed_all row places set left positions s z w =
 
 same_pass : (p q : ℕ → Bool) (n : ℕ) → ((k : ℕ) → k < n → q k ≡ p k) → filter q (range_with_len 0 n) ≡ filter p (range_with_len 0 n)
 same_pass p q zero same = refl
-same_pass p q (suc n) same =
-    filter-suc q n ∙ ap (λ l. l ++ cond (q n) (n ∷ []) []) (same_pass p q n (λ k lt. same k (omega arith)))
-    ∙ ap (λ (b : Bool). filter p (range_with_len 0 n) ++ cond b (n ∷ []) []) (same n (omega arith)) ∙ sym (filter-suc p n)
+same_pass p q (suc n) same = let i0 = same_pass p q n in grind (arith, i0, filter-suc)
 
 pub touched_all : (row places : List ℕ) (g : Shape) (set positions : ℕ) → Stands row places → ((line : ℕ) → has set line ≡ touches g line) → positions ≡ positions_of row set
     → filter (has positions) (range_with_len 0 (length places)) ≡ touched_positions row g
@@ -123,15 +116,7 @@ unfolding way_home
 home_end n l s now all le so_far = grind (arith, append-nil, way_home, range_with_len)
 
 pub going_none : (s places : List ℕ) (moves : List Move) → moves ≡ [] → Stands s places → Going (length places) 0 s places moves
-going_none s places moves e w =
-    let none : swaps_by moves ≡ [] = ap swaps_by e ∙ swaps_by_none in
-    let n : ℕ = length places in
-    let all : n - 0 ≡ n = omega arith in
-    record {
-      swaps = ap (λ l. l ++ way_home (range_with_len 0 (n - 0)) (swapped l s)) none ∙ ap (λ k. way_home (range_with_len 0 k) (swapped [] s)) all ∙ ap (way_home (home n)) (swapped_none s);
-      stands = Stands-first moves s places e w;
-      home = λ k lt. absurd (omega arith);
-    }
+going_none s places moves e w = grind (arith, swaps_by_none, swapped_none, stands)
 
 pub going_more : (n l : ℕ) (s old new : List ℕ) (moves next : List Move) (m : Move) → l < n → n ≡ length old → length new ≡ length old → m.to ≡ l → m.from ≡ get_or old l 0
     → swaps_by next ≡ swaps_by moves ++ swaps_of m.from m.to → ((line : ℕ) → line < length old → get_or new line 0 ≡ shifted m.from m.to (get_or old line 0)) → Going n l s old moves → Going n (l + 1) s new next

@@ -2,7 +2,7 @@
 -- so does one that goes on with another.
 use Rattle.std.proofs.Common.{◌≡◌, ◌≢◌, ℕ, zero, suc, ◌+◌, ◌-◌, ◌<◌, ◌≤◌, Bool, true, false, cond, eqb, List, [], ◌∷◌, ◌++◌, length, take, drop, refl, sym, ◌∙◌, ap, inl, inr, arith, subst, take-append-drop, length-append, append_assoc, leb-true}
 use Rattle.std.specs.Prelude.{bit_or, Option, Some, None}
-use Rattle.std.proofs.lemmas.Bool.{cases_eq, cases_lt, cases_Bool, false≢true, and_parts, cond-true, cond-false, false_from_ne_true}
+use Rattle.std.proofs.lemmas.Bool.{cases_eq, cases_Bool, false≢true, cond-true, cond-false, false_from_ne_true}
 use Rattle.std.proofs.lemmas.List.{get_or-append-add, length-take-le, length-map, append-nil}
 use Rattle.rv_gate.specs.declared.word.TheConstants.{MOST_LINES}
 use Rattle.rv_gate.proofs.LineSets.{same_lines}
@@ -34,16 +34,10 @@ pub record Even (g : Shape) (v u : ℕ) : Type 0 where
   pub target : eqb v (target_of g) ≡ eqb u (target_of g)
 
 role_parts : (g h : Shape) (v i : ℕ) → same_role g v h i ≡ true → (has (controls g) v ≡ has (controls h) i) × (has (wanted g) v ≡ has (wanted h) i) × (eqb v (target_of g) ≡ eqb i (target_of h))
-role_parts g h v i e =
-    let two = and_parts _ _ e in
-    let one = and_parts _ _ two.0 in
-    (same_true _ _ one.0, same_true _ _ one.1, same_true _ _ two.1)
+role_parts g h v i e = grind (arith, same_true)
 
 even_roles : (g h : Shape) (v u i : ℕ) → same_role g v h i ≡ true → same_role g u h i ≡ true → Even g v u
-even_roles g h v u i a b =
-    let p = role_parts g h v i a in
-    let q = role_parts g h u i b in
-    record { control = p.0 ∙ sym q.0; value = p.1 ∙ sym q.1; target = p.2 ∙ sym q.2 }
+even_roles g h v u i a b = grind (arith, role_parts)
 
 even_touches : (g : Shape) (v u : ℕ) → IsFlip g → Even g v u → touches g v ≡ touches g u
 even_touches g v u h h1 = grind arith
@@ -156,9 +150,7 @@ length-traded_rest own v u j (x ∷ rest) = ap suc (length-traded_rest own v u (
 rest_at : (own v u j d : ℕ) (rest : List ℕ) → d < length rest → new_line (traded_rest own v u j rest) d ≡ cond (has own (j + d)) (traded v u (new_line rest d)) (new_line rest d)
 rest_at own v u j d [] h = absurd (omega arith)
 rest_at own v u j zero (x ∷ rest) h = let e : j ≡ j + 0 = omega arith in ap (λ n. cond (has own n) (traded v u x) x) e
-rest_at own v u j (suc d) (x ∷ rest) h =
-    let e : suc j + d ≡ j + suc d = omega arith in
-    rest_at own v u (suc j) d rest (omega arith) ∙ ap (λ n. cond (has own n) (traded v u (new_line rest d)) (new_line rest d)) e
+rest_at own v u j (suc d) (x ∷ rest) h = let i0 = rest_at own v u (suc j) d rest in grind (arith, i0, traded)
 
 -- a line after the one that a renaming goes on with
 line_after : (to : List ℕ) (i v d : ℕ) (rest : List ℕ) → length to ≡ 6 → i < 6 → new_line (gone_on to i v rest) (suc (i + d)) ≡ new_line rest d
@@ -171,20 +163,7 @@ length-gone_on to i v rest len h r =
 -- what holds of each line of two renamings that go on from one with a line each
 both_lines : (P : ℕ → ℕ → ℕ → Type 0) (to : List ℕ) (i u v : ℕ) (rest rest2 : List ℕ) → length to ≡ 6 → i < 6 → length rest ≡ 6 - (i + 1) → ((j : ℕ) → j < i → P j (new_line to j) (new_line to j)) → P i u v
     → ((d : ℕ) → d < length rest → P (suc i + d) (new_line rest d) (new_line rest2 d)) → (j : ℕ) → j < 6 → P j (new_line (gone_on to i u rest) j) (new_line (gone_on to i v rest2) j)
-both_lines P to i u v rest rest2 len h lr before here after j hj =
-    elim (cases_lt j i) [
-      | inl lt ↦ rw (line_before to i u j rest len h lt, line_before to i v j rest2 len h lt) (before j lt)
-      | inr ge ↦ (elim (cases_eq j i) [
-        | inl s ↦ rw (s, next_line to i u rest len h, next_line to i v rest2 len h) here
-        | inr ne ↦
-            let d : ℕ = j - suc i in
-            let at : j ≡ suc i + d = omega arith in
-            let there : j ≡ suc (i + d) = omega arith in
-            let x : new_line (gone_on to i u rest) j ≡ new_line rest d = ap (new_line (gone_on to i u rest)) there ∙ line_after to i u d rest len h in
-            let y : new_line (gone_on to i v rest2) j ≡ new_line rest2 d = ap (new_line (gone_on to i v rest2)) there ∙ line_after to i v d rest2 len h in
-            rw (x, y) (subst (λ (k : ℕ). P k (new_line rest d) (new_line rest2 d)) (sym at) (after d (omega arith)))
-      ])
-    ]
+both_lines P to i u v rest rest2 len h lr before here after j hj = grind (arith, line_before, next_line, gone_on, line_after)
 
 -- one line of two renamings, before and after the trade
 record Trades (own v u j x y : ℕ) : Type 0 where
@@ -231,10 +210,7 @@ trade_from window template to i v u rest len h lines hv hu lr small on unused e 
 -- no list of small lines that goes on so passes
 least_dead_small : (ok : List ℕ → Bool) (n : ℕ) (begun : List ℕ) → ((rest : List ℕ) → length rest ≡ n → Small rest → ok (begun ++ rest) ≡ false) → least ok n begun ≡ None
 least_dead_small ok zero begun h = least_end ok begun ∙ cond-false (ok begun) (Some begun) None (sym (ap ok (append-nil begun)) ∙ h [] refl tt)
-least_dead_small ok (suc n) begun h =
-    least_step ok n begun
-    ∙ none_first (λ v. least ok n (begun ++ (v ∷ []))) 0 MOST_LINES (λ v a b.
-    least_dead_small ok n (begun ++ (v ∷ [])) (λ rest len small. ap ok (append_assoc begun (v ∷ []) rest) ∙ h (v ∷ rest) (ap suc len) (omega arith, small)))
+least_dead_small ok (suc n) begun h = let i0 = least_dead_small ok n in grind (arith, i0, least_step, none_first, append_assoc)
 
 -- where going on with a line that may be taken comes to nothing, so does going on with another
 pub alike_none : (window template : List Shape) (to : List ℕ) (i v u : ℕ) → IsTemplate template → 0 < length window → length window ≤ length template → length to ≡ 6 → i < 6

@@ -1,8 +1,8 @@
 -- Unions, sums and first answers, step by step.
-use Rattle.std.proofs.Common.{◌≡◌, ℕ, zero, suc, ◌+◌, ◌<◌, ◌≤◌, Bool, true, false, cond, List, [], ◌∷◌, ◌++◌, length, refl, sym, ◌∙◌, ap, inl, inr, arith, append_assoc}
+use Rattle.std.proofs.Common.{◌≡◌, ℕ, zero, suc, ◌+◌, ◌<◌, ◌≤◌, Bool, true, false, cond, List, [], ◌∷◌, ◌++◌, length, refl, sym, ◌∙◌, ap, arith, append_assoc}
 use Rattle.std.specs.Option.{option_or}
 use Rattle.std.specs.Prelude.{bit_or, Option, Some, None}
-use Rattle.std.proofs.lemmas.Bool.{cases_eq, cases_lt, false≢true, or_cases, or_left, or_right, cond-false}
+use Rattle.std.proofs.lemmas.Bool.{false≢true, or_left, or_right, cond-false}
 use Rattle.std.proofs.lemmas.Option.{none-some}
 use Rattle.rv_gate.specs.declared.word.TheConstants.{MOST_LINES}
 use Rattle.rv_gate.proofs.LineSets.{has-none, has-or}
@@ -32,21 +32,12 @@ sum_more f i = let e : i + 1 ≡ suc i = omega arith in ap (sum_below f) e
 pub union_part : (f : ℕ → ℕ) (n i line : ℕ) → i < n → has (f i) line ≡ true → has (union_below f n) line ≡ true
 unfolding union_below
 union_part f zero i line h e = absurd (omega arith)
-union_part f (suc n) i line h e =
-    has-or (union_below f n) (f n) line
-    ∙ (elim (cases_lt i n) [
-      | inl lt ↦ or_left (has (union_below f n) line) _ (union_part f n i line lt e)
-      | inr ge ↦ let s : n ≡ i = omega arith in or_right (has (union_below f n) line) _ (ap (λ k. has (f k) line) s ∙ e)
-    ])
+union_part f (suc n) i line h e = let i0 = union_part f n i line in grind (arith, i0, has-or, or_left, or_right)
 
 pub part_of_union : (f : ℕ → ℕ) (n line : ℕ) → has (union_below f n) line ≡ true → (i : ℕ) × (i < n) × (has (f i) line ≡ true)
 unfolding union_below
 part_of_union f zero line e = absurd (false≢true (sym (has-none line) ∙ e))
-part_of_union f (suc n) line e =
-    elim (or_cases (has (union_below f n) line) (has (f n) line) (sym (has-or (union_below f n) (f n) line) ∙ e)) [
-      | inl l ↦ let p = part_of_union f n line l in (p.0, omega (arith, p.1), p.2)
-      | inr r ↦ (n, omega arith, r)
-    ]
+part_of_union f (suc n) line e = let i0 = part_of_union f n line in grind (arith, i0, has-or)
 
 pub sum_each : (f g : ℕ → ℕ) (n : ℕ) → ((i : ℕ) → i < n → f i ≤ g i) → sum_below f n ≤ sum_below g n
 unfolding sum_below
@@ -63,15 +54,7 @@ first_case : {A : Type 0} (f : ℕ → Option A) (k m : ℕ) (x : A) (o : Option
     → (first f (k + 1) m ≡ Some x → FirstAt f (k + 1) m x) → FirstAt f k (suc m) x
 first_case f k m x (Some y) h e later =
     (k, omega arith, omega arith, h ∙ (sym (first_suc f k m ∙ ap (λ o. option_or o (first f (k + 1) m)) h) ∙ e), λ j a b. absurd (omega arith))
-first_case f k m x None h e later =
-    let r = later (sym (first_suc f k m ∙ ap (λ o. option_or o (first f (k + 1) m)) h) ∙ e) in (
-      r.0,
-      omega (arith, r.1),
-      omega (arith, r.2),
-      r.3,
-      λ j a b.
-          elim (cases_eq k j) [ inl s ↦ sym (ap f s) ∙ h | inr ne ↦ r.4 j (omega arith) b ],
-    )
+first_case f k m x None h e later = grind (arith, first_suc)
 
 pub first_some : {A : Type 0} (f : ℕ → Option A) (k m : ℕ) (x : A) → first f k m ≡ Some x → FirstAt f k m x
 first_some f k zero x e = absurd (none-some x (sym (first_zero f k) ∙ e))

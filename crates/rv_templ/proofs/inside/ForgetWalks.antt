@@ -118,17 +118,10 @@ second_off nodes low place a b s d le =
     place_off nodes low far b d (subst (λ (k : ℕ). Some b ≡ head (ids_in (drop k nodes))) at (second_here nodes a b m))
 
 pub none_ended : (notes : List ℕ) (nodes : List Node) (low i count : ℕ) (at : Option ℕ) → at ≡ None → at ≡ head (ids_in (drop (low + i) nodes)) → i ≤ count → NoneNoted notes (take i (drop low nodes)) → NoneNoted notes (take count (drop low nodes))
-none_ended notes nodes low i count at e h le none =
-    let past = all_passed nodes (low + i) (sym e ∙ h) in
-    let few : length (drop low nodes) ≤ i = omega (arith, past, length-drop low nodes) in
-    subst (λ (l : List Node). NoneNoted notes l) (take_all i (drop low nodes) few ∙ sym (take_all count (drop low nodes) (omega (arith, few, le)))) none
+none_ended notes nodes low i count at e h le none = grind (arith, all_passed, length-drop, take_all)
 
 pub none_more : (old new : List ℕ) (nodes : List Node) (low i a : ℕ) → Some a ≡ head (ids_in (drop (low + i) nodes)) → Fewer old new → noted a new ≡ 0 → NoneNoted old (take i (drop low nodes)) → NoneNoted new (take (i + 1) (drop low nodes))
-none_more old new nodes low i a e f z none =
-    let p = head_at nodes (low + i) a e in
-    let one : take 1 (drop i (drop low nodes)) ≡ p.0 ∷ [] = ap (take 1) (drop-drop i low nodes ∙ p.2) in
-    subst (λ (l : List Node). NoneNoted new l) (sym (take-add i 1 (drop low nodes) ∙ ap (λ l. take i (drop low nodes) ++ l) one))
-    (unknown_append new (take i (drop low nodes)) (p.0 ∷ []) (fewer_unknown old new (take i (drop low nodes)) f none) (ap (λ x. noted x new) p.1 ∙ z, tt))
+none_more old new nodes low i a e f z none = grind (arith, head_at, drop-drop, take-add, unknown_append, fewer_unknown)
 
 pub place_more : (nodes : List Node) (next at : Option ℕ) (low i a : ℕ) → NoTwice (ids_in nodes) → next ≡ next_in a (ids_in nodes) → at ≡ Some a → at ≡ head (ids_in (drop (low + i) nodes)) → next ≡ head (ids_in (drop (low + (i + 1)) nodes))
 place_more nodes next at low i a d e ea h = let s : low + i + 1 ≡ low + (i + 1) = omega arith in node_more a nodes next at (low + i) d e ea h ∙ ap (λ k. head (ids_in (drop k nodes))) s

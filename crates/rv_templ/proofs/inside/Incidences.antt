@@ -24,9 +24,7 @@ incidences-nil = refl
 
 pub incidences-append : (xs ys : List Shape) → incidences (xs ++ ys) ≡ incidences xs + incidences ys
 incidences-append [] ys = let z = incidences-nil in omega arith
-incidences-append (x ∷ xs) ys =
-    let r = incidences-append xs ys in
-    omega (arith, incidences-cons x (xs ++ ys), incidences-cons x xs, r)
+incidences-append (x ∷ xs) ys = let i0 = incidences-append xs ys in grind (arith, i0, incidences-cons)
 
 pub incidences-reverse : (xs : List Shape) → incidences (reverse xs) ≡ incidences xs
 incidences-reverse [] = refl

@@ -1,5 +1,5 @@
 -- What the chosen window is, and what its replacement keeps.
-use Rattle.std.proofs.Common.{◌≡◌, ℕ, zero, suc, ◌*◌, ◌<◌, ◌≤◌, true, List, [], ◌++◌, length, take, drop, sym, ◌∙◌, ap, inl, inr, arith, subst, take-append-drop, length-append}
+use Rattle.std.proofs.Common.{◌≡◌, ℕ, zero, suc, ◌*◌, ◌<◌, ◌≤◌, true, List, [], ◌++◌, length, take, drop, sym, ◌∙◌, ap, arith, subst, take-append-drop, length-append}
 use Rattle.std.specs.Prelude.{Some}
 use Rattle.std.proofs.lemmas.Bool.{and_parts, leb-true, ltb-true}
 use Rattle.std.proofs.lemmas.Option.{none-some}
@@ -39,11 +39,7 @@ most_some : (gates : List Shape) (library : List (List Shape)) (k : ℕ) (found 
     → (j : ℕ) × (0 < j) × (j ≤ k) × (at_count gates library j ≡ Some found)
 unfolding at_most
 most_some gates library zero found e = absurd (none-some found e)
-most_some gates library (suc k) found e =
-    elim (or_some (at_count gates library (suc k)) (at_most gates library k) found e) [
-      | inl l ↦ (suc k, omega arith, omega arith, l)
-      | inr r ↦ let p = most_some gates library k found r in (p.0, p.1, omega (arith, p.2), p.3)
-    ]
+most_some gates library (suc k) found e = let i0 = most_some gates library k found in grind (arith, i0, or_some)
 
 count_some : (gates : List Shape) (library : List (List Shape)) (k : ℕ) (found : Found) → at_count gates library k ≡ Some found
     → (t : ℕ) × (t < length library) × (at_template (take k gates) library t ≡ Some found)

@@ -41,23 +41,16 @@ second_is nodes a b m d = gate_split nodes (m.before ++ (m.first ∷ m.between))
 
 without_middle : (x : ℕ) (before : List Node) (f : Node) (rest : List Node) → lists x (ids_in (before ++ (f ∷ rest))) ≡ false → lists x (ids_in (before ++ rest)) ≡ false
 without_middle x [] f rest e = (or_parts (eqb x f.id) (lists x (ids_in rest)) e).1
-without_middle x (m ∷ before) f rest e =
-    let p = or_parts (eqb x m.id) (lists x (ids_in (before ++ (f ∷ rest)))) e in
-    or_from (eqb x m.id) (lists x (ids_in (before ++ rest))) p.0 (without_middle x before f rest p.1)
+without_middle x (m ∷ before) f rest e = let i0 = without_middle x before f rest in grind (arith, i0, or_parts, or_from)
 
 pub gates_row : (xs ys : List Node) → gates_in (xs ++ ys) ≡ gates_in xs ++ gates_in ys
 gates_row xs ys = map-append (λ (n : Node). n.gate) xs ys
 
 second_apart : (nodes : List Node) (a b : ℕ) (m : Mate nodes a b) → NoTwice (ids_in nodes) → lists m.second.id (ids_in (m.before ++ m.between)) ≡ false
-second_apart nodes a b m d =
-    without_middle m.second.id m.before m.first m.between
-    (apart (m.before ++ (m.first ∷ m.between)) m.second m.after (subst (λ (l : List Node). NoTwice (ids_in l)) (m.split ∙ regroup m.before m.between m.after m.first m.second) d))
+second_apart nodes a b m d = grind (arith, without_middle, apart, regroup)
 
 first_gone : (nodes : List Node) (a b : ℕ) (m : Mate nodes a b) → NoTwice (ids_in nodes) → erased a nodes ≡ (m.before ++ m.between) ++ (m.second ∷ m.after)
-first_gone nodes a b m d =
-    ap (erased a) m.split ∙ ap (λ x. erased x (row m.before m.first m.between m.second m.after)) (sym m.is_first)
-    ∙ gone_at m.before m.first (m.between ++ (m.second ∷ m.after)) (apart m.before m.first (m.between ++ (m.second ∷ m.after)) (subst (λ (l : List Node). NoTwice (ids_in l)) m.split d))
-    ∙ sym (append_assoc m.before m.between (m.second ∷ m.after))
+first_gone nodes a b m d = grind (arith, gone_at, apart, append_assoc)
 
 pub still_live : (nodes new : List Node) (a b : ℕ) → NoTwice (ids_in nodes) → Mate nodes a b → new ≡ erased a nodes → live b new ≡ true
 still_live nodes new a b d m e =

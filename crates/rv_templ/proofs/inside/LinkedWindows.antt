@@ -111,22 +111,10 @@ window_front : (a c : ℕ) (gs : List Shape) (nodes : List Node) (place : ℕ) �
 unfolding from_node window_set
 window_front a c gs nodes zero le = refl
 window_front a c gs [] (suc place) le = refl
-window_front a c gs (n ∷ rest) (suc place) le =
-    elim (cases_eq a n.id) [
-      | inl e ↦
-          let whole = ap (λ l. length (gates_in l)) (cond-true (eqb a n.id) (n ∷ rest) (from_node a rest) (eq-eqb a n.id e)) in
-          absurd (omega (arith, le, whole, length-map (n ∷ rest) (λ (n : Node). n.gate)))
-      | inr ne ↦
-          let t = ne_eqb a n.id ne in
-          let f = ap (λ l. length (gates_in l)) (cond-false (eqb a n.id) (n ∷ rest) (from_node a rest) t) in
-          ap (take (suc place)) (cond-false (eqb a n.id) (with_gates c gs (n ∷ rest)) (n ∷ window_set a c gs rest) t)
-          ∙ ap (λ l. n ∷ l) (window_front a c gs rest place (omega (arith, le, f)))
-    ]
+window_front a c gs (n ∷ rest) (suc place) le = let i0 = window_front a c gs rest place in grind (arith, i0, cond-true, eq-eqb, length-map, ne_eqb, cond-false)
 
 pub spot_front : (library : List (List Shape)) (nodes : List Node) (place a : ℕ) (found : Found) (gs : List Shape) → IsSpot library nodes place a found → take place (window_set a found.count gs nodes) ≡ take place nodes
-spot_front library nodes place a found gs spot =
-    window_front a found.count gs nodes place
-    (let within = spot.within in let e = ap length spot.here in omega (arith, within, e, length-drop place (gates_in nodes), length-map nodes (λ (n : Node). n.gate)))
+spot_front library nodes place a found gs spot = grind (arith, window_front, here, length-drop, length-map)
 
 -- ---- the walk along all nodes
 
@@ -151,11 +139,7 @@ pub shorter_next : (a : ℕ) (nodes : List Node) (next at : Option ℕ) → NoTw
 shorter_next a nodes next at d on e ea = grind (arith, coming_next, node_gate)
 
 pub clean_more : (library : List (List Shape)) (gates here : List Shape) (place : ℕ) → Clean library gates place → here ≡ drop place gates → window_at here library ≡ None → Clean library gates (place + 1)
-clean_more library gates here place clean e none i lt =
-    elim (cases_eq i place) [
-      | inl same ↦ ap (λ k. window_at (drop k gates) library) same ∙ ap (λ l. window_at l library) (sym e) ∙ none
-      | inr other ↦ clean i (omega arith)
-    ]
+clean_more library gates here place clean e none i lt = grind (arith)
 
 -- the node at a place, and at the next one
 pub head_at : (nodes : List Node) (place a : ℕ) → Some a ≡ head (ids_in (drop place nodes)) → (n : Node) × (n.id ≡ a) × (drop place nodes ≡ n ∷ drop (place + 1) nodes)

@@ -1,10 +1,10 @@
 -- What look-ups tell of the gates that join with a flip.
-use Rattle.std.proofs.Common.{◌≡◌, ◌≢◌, ℕ, suc, ◌<◌, ◌≤◌, ◌^◌, true, false, eqb, List, [], ◌∷◌, ◌++◌, refl, sym, subst, ◌∙◌, ap, inl, inr, arith, eq-eqb, ne_eqb, Bool}
+use Rattle.std.proofs.Common.{◌≡◌, ◌≢◌, ℕ, suc, ◌<◌, ◌≤◌, ◌^◌, true, false, List, [], ◌∷◌, ◌++◌, refl, sym, subst, ◌∙◌, ap, inl, inr, arith, eq-eqb, ne_eqb, Bool}
 use Rattle.std.specs.Prelude.{◌⊎◌, Option, Some, None, IfSome, bit_or, bit_xor}
 use Rattle.rv_gate.specs.declared.circuit.TheConstants.{MOST_GATES}
 use Rattle.rv_links.specs.Doubt.{IsBefore}
 use Rattle.std.proofs.lemmas.Nat.{or_comm, xor_comm}
-use Rattle.std.proofs.lemmas.Bool.{cases_Bool, cases_eq, cases_order, cond-true, cond-false, false≢true, or_left, or_cases, false_from_ne_true}
+use Rattle.std.proofs.lemmas.Bool.{cases_Bool, cases_eq, cases_order, cond-true, cond-false, false≢true, or_left, false_from_ne_true}
 use Rattle.rv_gate.specs.Word.{has}
 use Rattle.rv_gate.specs.Gate.{IsGate, controls, wanted, is_flip, xor}
 use Rattle.rv_templ.specs.Images.{target_of}
@@ -12,7 +12,7 @@ use Rattle.rv_gate.specs.declared.gate.Shape.{Shape}
 use Rattle.rv_gate.specs.declared.gate.Shape.TheVariants.{Flip}
 use Rattle.rv_gate.specs.declared.word.TheConstants.{MOST_LINES}
 use Rattle.rv_gate.proofs.LineSets.{same_lines, has-or, has-xor, has-line, has-none, bit_xor-back}
-use Rattle.rv_links.specs.Order.{lists, head, next_in, Rising, NoTwice}
+use Rattle.rv_links.specs.Order.{head, next_in, Rising, NoTwice}
 use Rattle.rv_links.specs.Nodes.{Node, ids_in, live, node_gate, gates_in, noted}
 use Rattle.rv_links.specs.declared.sought.Sought.{Sought}
 use Rattle.rv_links.specs.declared.sought.Sought.TheVariants.{Unknown, Nowhere, At}
@@ -42,13 +42,7 @@ tells_found nodes gate from (At b) t = (t.on, t.late)
 pub live_gate : (n : ℕ) (nodes : List Node) (x : ℕ) → NoTwice (ids_in nodes) → AreGates n (gates_in nodes) → live x nodes ≡ true → IsGate (node_gate x nodes)
 unfolding node_gate
 live_gate n [] x d g on = absurd (false≢true on)
-live_gate n (m ∷ rest) x d g on =
-    elim (cases_Bool (eqb x m.id)) [
-      | inl t ↦ subst IsGate (sym (cond-true (eqb x m.id) m.gate (node_gate x rest) t)) g.0
-      | inr f ↦
-          subst IsGate (sym (cond-false (eqb x m.id) m.gate (node_gate x rest) f))
-          (live_gate n rest x d.1 g.2 (elim (or_cases (eqb x m.id) (lists x (ids_in rest)) on) [ inl t ↦ absurd (false≢true (sym f ∙ t)) | inr l ↦ l ]))
-    ]
+live_gate n (m ∷ rest) x d g on = let i0 = live_gate n rest x d.1 g.2 in grind (arith, i0, cond-true, cond-false)
 
 -- ---- flips that differ on one line
 
@@ -83,19 +77,7 @@ flip_is : (c w c2 w2 t : ℕ) → c ≡ c2 → w ≡ w2 → Flip c w t ≡ Flip 
 flip_is c w c2 w2 t e f = ap (λ x. Flip x w t) e ∙ ap (λ x. Flip c2 x t) f
 
 variant : (c w c2 w2 t line : ℕ) → apart_on c w c2 w2 ≡ 2 ^ line → (c ≡ c2 → w ≡ w2 → ⊥) → Variant c w t line (Flip c2 w2 t)
-variant c w c2 w2 t line e other =
-    elim (half (bit_xor c c2) (bit_xor w w2) line e) [
-      | inl z ↦
-          (elim (half (bit_xor w w2) (bit_xor c c2) line (or_comm (bit_xor w w2) (bit_xor c c2) ∙ e)) [
-            | inl z2 ↦ absurd (other (sym (stays c c2 z)) (sym (stays w w2 z2)))
-            | inr o2 ↦ inr (inl (flip_is _ _ _ _ t (stays c c2 z) (back w w2 (2 ^ line) o2)))
-          ])
-      | inr o ↦
-          (elim (half (bit_xor w w2) (bit_xor c c2) line (or_comm (bit_xor w w2) (bit_xor c c2) ∙ e)) [
-            | inl z2 ↦ inl (flip_is _ _ _ _ t (back c c2 (2 ^ line) o) (stays w w2 z2))
-            | inr o2 ↦ inr (inr (flip_is _ _ _ _ t (back c c2 (2 ^ line) o) (back w w2 (2 ^ line) o2)))
-          ])
-    ]
+variant c w c2 w2 t line e other = grind (arith, half, or_comm, stays, flip_is, back)
 
 -- a gate that joins with the flip is the same, or another on one line that one of both has as a control
 pub record Joining (g h : Shape) : Type 0 where
@@ -183,11 +165,7 @@ some_or (Some m) = inr (m, refl)
 
 -- a note is gone, or the gate does not join
 pub loose_or : (c w t : ℕ) (h : Shape) (z : ℕ) → IsGate (Flip c w t) → IsGate h → (h ≡ Flip c w t → z ≡ 0) → (Joining (Flip c w t) h → z ≡ 0) → (z ≡ 0) ⊎ (paired h (Flip c w t) ≡ None)
-loose_or c w t h z v v2 same other =
-    elim (some_or (paired h (Flip c w t))) [
-      | inl none ↦ inr none
-      | inr some ↦ inl (elim (joining_back (Flip c w t) h some.0 refl v v2 some.1) [ inl e ↦ same e | inr k ↦ other k ])
-    ]
+loose_or c w t h z v v2 same other = grind (arith, some_or, joining_back)
 
 apart_each : (notes : List ℕ) (g : Shape) (l : List Node) → Each (λ x h. (noted x notes ≡ 0) ⊎ (paired h g ≡ None)) l → Apart notes (g ∷ []) l
 unfolding Each

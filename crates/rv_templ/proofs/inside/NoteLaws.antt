@@ -1,9 +1,8 @@
 -- Notes of gates without a partner, and when they stay right.
 use Rattle.std.proofs.Common.{◌≡◌, ◌≢◌, ℕ, zero, suc, ◌<◌, ◌≤◌, true, false, eqb, List, map, [], ◌∷◌, ◌++◌, length, take, refl, sym, ◌∙◌, ap, inl, inr, arith, subst, append_assoc, length-append}
 use Rattle.std.specs.Prelude.{None}
-use Rattle.std.proofs.lemmas.Bool.{cases_Bool, cases_eq, false≢true, and_parts, or_parts}
+use Rattle.std.proofs.lemmas.Bool.{cases_eq, false≢true, or_parts}
 use Rattle.rv_gate.specs.declared.gate.Shape.{Shape}
-use Rattle.rv_gate.specs.Commuting.{rule}
 use Rattle.rv_links.specs.Order.{lists, NoTwice}
 use Rattle.rv_links.specs.Nodes.{Node, ids_in, gates_in, noted, with_gates}
 use Rattle.rv_templ.specs.Pairs.{paired, partner, after_gates, pair_step}
@@ -30,11 +29,7 @@ quiet_more note g (n ∷ rest) (suc far) (suc more) le q = (q.0, elim q.1 [ inl 
 pub quiet_none : (note : ℕ) (g : Shape) (l : List Node) (far : ℕ) → Quiet note g l far → partner g (gates_in l) ≡ None
 quiet_none note g [] far q = partner_nil g
 quiet_none note g (n ∷ rest) zero q = absurd q
-quiet_none note g (n ∷ rest) (suc far) q =
-    elim (cases_Bool (rule g n.gate)) [
-      | inl free ↦ (elim q.1 [ inl s ↦ absurd (false≢true (sym s.1 ∙ free)) | inr r ↦ partner_pass g n.gate (gates_in rest) q.0 free ∙ ap (after_gates (n.gate ∷ [])) (quiet_none note g rest far r) ])
-      | inr stop ↦ partner_none g n.gate (gates_in rest) q.0 stop
-    ]
+quiet_none note g (n ∷ rest) (suc far) q = let i0 = quiet_none note g rest far in grind (arith, i0, partner_pass, partner_none)
 
 -- a node goes
 pub quiet_erased : (note : ℕ) (g : Shape) (xs : List Node) (a : Node) (ys : List Node) (far : ℕ) → Unnamed note g a → Quiet note g (xs ++ (a ∷ ys)) far → Quiet note g (xs ++ ys) far
@@ -62,10 +57,7 @@ quiet_front note g (x ∷ xs) y ys zs (suc far) le q = (q.0, elim q.1 [ inl s �
 -- the gate commutes with all
 pub free_quiet : (g : Shape) (l : List Node) → partner g (gates_in l) ≡ None → passes g (gates_in l) ≡ true → Quiet 1 g l (length l)
 free_quiet g [] e free = refl
-free_quiet g (n ∷ rest) e free =
-    let p = and_parts (rule g n.gate) (passes g (gates_in rest)) free in
-    let apart = not_joined g n.gate (gates_in rest) e in
-    (apart, inr (free_quiet g rest (after_none (n.gate ∷ []) (partner g (gates_in rest)) (sym (partner_pass g n.gate (gates_in rest) apart p.0) ∙ e)) p.1))
+free_quiet g (n ∷ rest) e free = let i0 = free_quiet g rest in grind (arith, i0, not_joined, after_none, partner_pass)
 
 -- ---- all notes
 
@@ -98,9 +90,7 @@ noted_far notes (p ∷ ps) ns y ys zs far le k now = (
 -- the first pair is after nodes that have notes
 pub known_skip : (notes : List ℕ) (xs ys : List Node) (far : ℕ) → Noted notes (xs ++ ys) far → AllNoted notes xs → pair_step (gates_in (xs ++ ys)) ≡ after_gates (gates_in xs) (pair_step (gates_in ys))
 known_skip notes [] ys far k some = sym (after_nothing (pair_step (gates_in ys)))
-known_skip notes (x ∷ xs) ys far k some =
-    let none : partner x.gate (gates_in (xs ++ ys)) ≡ None = elim k.0 [ inl z ↦ absurd (some.0 z) | inr q ↦ quiet_none (noted x.id notes) x.gate (xs ++ ys) far q ] in
-    step_pass x.gate (gates_in (xs ++ ys)) none ∙ ap (after_gates (x.gate ∷ [])) (known_skip notes xs ys far k.1 some.1) ∙ after_twice (x.gate ∷ []) (gates_in xs) (pair_step (gates_in ys))
+known_skip notes (x ∷ xs) ys far k some = let i0 = known_skip notes xs ys far k.1 some.1 in grind (arith, i0, quiet_none, step_pass, after_twice)
 
 -- ---- a pair is made
 
@@ -210,21 +200,12 @@ known_others old new node (n ∷ rest) off o k = (
 
 pub noted_others : (old new : List ℕ) (node : ℕ) (l : List Node) (far : ℕ) → lists node (ids_in l) ≡ false → Others node old new → Noted old l far → Noted new l far
 noted_others old new node [] far off o k = tt
-noted_others old new node (n ∷ rest) far off o k =
-    let same = o n.id (not_listed 0 node rest n off) in (
-      elim k.0 [ inl z ↦ inl (same ∙ z) | inr q ↦ inr (subst (λ (x : ℕ). Quiet x n.gate rest far) (sym same) q) ],
-      noted_others old new node rest far (or_parts (eqb node n.id) (lists node (ids_in rest)) off).1 o k.1,
-    )
+noted_others old new node (n ∷ rest) far off o k = let i0 = noted_others old new node rest far in grind (arith, i0, not_listed, or_parts)
 
 -- the note of a node is made
 pub noted_at : (old new : List ℕ) (xs : List Node) (n : Node) (ys : List Node) (far : ℕ) → NoTwice (ids_in (xs ++ (n ∷ ys))) → Others n.id old new → Quiet (noted n.id new) n.gate ys far → Noted old (xs ++ (n ∷ ys)) far → Noted new (xs ++ (n ∷ ys)) far
 noted_at old new [] n ys far d o q k = (inr q, noted_others old new n.id ys far d.0 o k.1)
-noted_at old new (x ∷ xs) n ys far d o q k =
-    let ne : x.id ≢ n.id = λ e. false≢true (sym d.0 ∙ ap (λ i. lists i (ids_in (xs ++ (n ∷ ys)))) e ∙ listed_at xs n ys) in
-    let same = o x.id ne in (
-      elim k.0 [ inl z ↦ inl (same ∙ z) | inr r ↦ inr (subst (λ (y : ℕ). Quiet y x.gate (xs ++ (n ∷ ys)) far) (sym same) r) ],
-      noted_at old new xs n ys far d.1 o q k.1,
-    )
+noted_at old new (x ∷ xs) n ys far d o q k = let i0 = noted_at old new xs n ys far d.1 o q k.1 in grind (arith, i0, listed_at)
 
 pub known_append : (notes : List ℕ) (xs ys : List Node) → AllNoted notes xs → AllNoted notes ys → AllNoted notes (xs ++ ys)
 known_append notes [] ys k r = r

@@ -4,7 +4,7 @@ use Rattle.std.proofs.Common.{◌≡◌, ℕ, zero, suc, ◌+◌, ◌-◌, ◌<�
 use Rattle.std.specs.Prelude.{◌⊎◌, Some, None, bit_and, bit_xor}
 use Rattle.std.proofs.Math.Seq.{take-add}
 use Rattle.std.proofs.lemmas.Nat.{and_comm, xor_comm}
-use Rattle.std.proofs.lemmas.Bool.{false≢true, and_parts, or_cases, eqb-true, cases_eq}
+use Rattle.std.proofs.lemmas.Bool.{false≢true, or_cases, eqb-true, cases_eq}
 use Rattle.std.proofs.lemmas.List.{drop-drop, append-nil, length-take-le, take-take}
 use Rattle.rv_gate.specs.declared.gate.Shape.{Shape}
 use Rattle.rv_gate.specs.Gate.{controls, wanted, is_flip}
@@ -38,15 +38,7 @@ rule_comm g h = grind (arith, common_steps, is_flip, opposed_comm)
 -- where both nodes' gates commute with all, no note names one of them
 pub kept_free : (notes : List ℕ) (first second : Node) (gates : List Shape) (l : List Node) → passes first.gate (gates_in l) ≡ true → passes second.gate (gates_in l) ≡ true → Apart notes gates l → Kept notes first second gates l
 kept_free notes first second gates [] p q k = tt
-kept_free notes first second gates (n ∷ rest) p q k =
-    let a = and_parts (rule first.gate n.gate) (passes first.gate (gates_in rest)) p in
-    let b = and_parts (rule second.gate n.gate) (passes second.gate (gates_in rest)) q in (
-      elim k.0 [
-        | inl z ↦ inl z
-        | inr j ↦ inr ((λ e stop. false≢true (sym stop ∙ rule_comm n.gate first.gate ∙ a.0)), (λ e stop. false≢true (sym stop ∙ rule_comm n.gate second.gate ∙ b.0)), j)
-      ],
-      kept_free notes first second gates rest a.1 b.1 k.1,
-    )
+kept_free notes first second gates (n ∷ rest) p q k = let i0 = kept_free notes first second gates rest in grind (arith, i0, rule_comm)
 
 -- ---- a pair is made
 

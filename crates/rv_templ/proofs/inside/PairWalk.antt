@@ -19,9 +19,7 @@ use Rattle.rv_templ.proofs.NodeLists.{apart, listed_at, next_at, from_at, stands
 -- ---- a node, and those after it
 
 pub from_split : (nodes before : List Node) (n : Node) (rest : List Node) (a : ℕ) → NoTwice (ids_in nodes) → nodes ≡ before ++ (n ∷ rest) → n.id ≡ a → from_node a nodes ≡ n ∷ rest
-from_split nodes before n rest a d s i =
-    let off = apart before n rest (subst (λ (l : List Node). NoTwice (ids_in l)) s d) in
-    ap (from_node a) s ∙ ap (λ x. from_node x (before ++ (n ∷ rest))) (sym i) ∙ from_at before n rest off
+from_split nodes before n rest a d s i = grind (arith, apart, from_at)
 
 heads : (x y : Node) (xs ys : List Node) → ◌≡◌ {A = List Node} (x ∷ xs) (y ∷ ys) → (x ≡ y) × (xs ≡ ys)
 heads x y xs ys e = (cc, cc)
@@ -61,18 +59,14 @@ head_is [] a e = absurd (none-some a (sym e))
 head_is (n ∷ rest) a e = (n, rest, refl, sym (same_Some a n.id e))
 
 pub there : (nodes before after : List Node) (at : Option ℕ) (a : ℕ) → nodes ≡ before ++ after → at ≡ head (ids_in after) → at ≡ Some a → There nodes before after a
-there nodes before after at a s h e =
-    let p = head_is after a (sym e ∙ h) in
-    record { node = p.0; rest = p.1; here = p.2; is = p.3; split = s ∙ ap (λ l. before ++ l) p.2 }
+there nodes before after at a s h e = grind (arith, head_is)
 
 pub there_live : (nodes before after : List Node) (a : ℕ) → There nodes before after a → live a nodes ≡ true
 there_live nodes before after a t = ap (live a) t.split ∙ ap (λ x. live x (before ++ (t.node ∷ t.rest))) (sym t.is) ∙ listed_at before t.node t.rest
 
 -- the next one
 pub there_next : (nodes before after : List Node) (a : ℕ) (t : There nodes before after a) → NoTwice (ids_in nodes) → next_in a (ids_in nodes) ≡ head (ids_in t.rest)
-there_next nodes before after a t d =
-    let off = apart before t.node t.rest (subst (λ (l : List Node). NoTwice (ids_in l)) t.split d) in
-    ap (λ x. next_in x (ids_in nodes)) (sym t.is) ∙ ap (λ l. next_in t.node.id (ids_in l)) t.split ∙ next_at before t.node t.rest off
+there_next nodes before after a t d = grind (arith, apart, next_at)
 
 -- it stands nowhere before
 pub there_off : (nodes before after : List Node) (a : ℕ) → There nodes before after a → NoTwice (ids_in nodes) → lists a (ids_in before) ≡ false
@@ -115,9 +109,7 @@ none_in [] e = refl
 none_in (n ∷ rest) e = absurd (none-some n.id e)
 
 pub along_all : (nodes : List Node) (notes : List ℕ) (place : ℕ) (at : Option ℕ) → Along nodes notes place at → at ≡ None → AllNoted notes nodes
-along_all nodes notes place at w e =
-    let whole : nodes ≡ w.before = w.split ∙ ap (λ l. w.before ++ l) (none_in w.after (sym e ∙ w.at_is)) ∙ append-nil w.before in
-    subst (λ (l : List Node). AllNoted notes l) (sym whole) w.known
+along_all nodes notes place at w e = grind (arith, none_in, append-nil)
 
 -- where all have notes there is no pair
 pub no_pair : (nodes : List Node) (notes : List ℕ) (far : ℕ) → Noted notes nodes far → AllNoted notes nodes → pair_step (gates_in nodes) ≡ None

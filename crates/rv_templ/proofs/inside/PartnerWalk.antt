@@ -1,7 +1,7 @@
 -- The search for the partner of a node.
-use Rattle.std.proofs.Common.{◌≡◌, ◌<◌, ◌≤◌, ℕ, true, false, List, [], ◌∷◌, ◌++◌, refl, sym, ◌∙◌, ap, inl, inr, arith}
+use Rattle.std.proofs.Common.{◌≡◌, ◌<◌, ◌≤◌, ℕ, true, false, List, [], ◌∷◌, ◌++◌, refl, sym, ◌∙◌, ap, arith}
 use Rattle.std.specs.Prelude.{Option, Some, None}
-use Rattle.std.proofs.lemmas.Bool.{cases_Bool, and_parts, and_from}
+use Rattle.std.proofs.lemmas.Bool.{and_from}
 use Rattle.std.proofs.lemmas.List.{append-nil, map-append}
 use Rattle.rv_gate.specs.Commuting.{rule}
 use Rattle.rv_gate.specs.declared.gate.Shape.{Shape}
@@ -17,11 +17,7 @@ use Rattle.rv_templ.proofs.NodeLists.{stands, gate_split, after_each, between_of
 -- no partner after them, no partner
 none_after : (g : Shape) (xs ys : List Shape) → Joinless g xs → partner g ys ≡ None → partner g (xs ++ ys) ≡ None
 none_after g [] ys j e = e
-none_after g (x ∷ xs) ys j e =
-    elim (cases_Bool (rule g x)) [
-      | inl free ↦ partner_pass g x (xs ++ ys) j.0 free ∙ ap (after_gates (x ∷ [])) (none_after g xs ys j.1 e)
-      | inr stop ↦ partner_none g x (xs ++ ys) j.0 stop
-    ]
+none_after g (x ∷ xs) ys j e = let i0 = none_after g xs ys j.1 e in grind (arith, i0, partner_pass, partner_none)
 
 none_among : (g : Shape) (xs : List Shape) → Joinless g xs → partner g xs ≡ None
 none_among g xs j = ap (partner g) (sym (append-nil xs)) ∙ none_after g xs [] j (partner_nil g)
@@ -29,9 +25,7 @@ none_among g xs j = ap (partner g) (sym (append-nil xs)) ∙ none_after g xs [] 
 -- it passes them
 passed : (g : Shape) (xs ys : List Shape) → Joinless g xs → passes g xs ≡ true → partner g (xs ++ ys) ≡ after_gates xs (partner g ys)
 passed g [] ys j free = sym (after_nothing (partner g ys))
-passed g (x ∷ xs) ys j free =
-    let p = and_parts (rule g x) (passes g xs) free in
-    partner_pass g x (xs ++ ys) j.0 p.0 ∙ ap (after_gates (x ∷ [])) (passed g xs ys j.1 p.1) ∙ after_twice (x ∷ []) xs (partner g ys)
+passed g (x ∷ xs) ys j free = let i0 = passed g xs ys j.1 in grind (arith, i0, partner_pass, after_twice)
 
 pub joinless_each : (g : Shape) (l : List Node) → Each (λ x h. paired g h ≡ None) l → Joinless g (gates_in l)
 unfolding Each

@@ -47,11 +47,7 @@ drop_span window template to i v is room len h on off rest =
 
 pub drop_used : (window template : List Shape) (to : List ℕ) (i v j : ℕ) → length to ≡ 6 → i < 6 → has (span template) i ≡ true → j < i → has (span template) j ≡ true → new_line to j ≡ v
     → Dropped window template (take i to ++ (v ∷ []))
-drop_used window template to i v j len h on lt on_j same rest =
-    false_from_ne_true _ (λ e.
-    let a = allowed_parts window template (gone_on to i v rest) e in
-    let s : i ≡ j = apart_from (span template) (gone_on to i v rest) a.distinct i j h (omega arith) on on_j (next_line to i v rest len h ∙ sym same ∙ sym (line_before to i v j rest len h lt)) in
-    omega arith)
+drop_used window template to i v j len h on lt on_j same rest = grind (arith, false_from_ne_true, allowed_parts, apart_from, next_line, line_before)
 
 pub eqb_same : (a b d e : ℕ) → (a ≡ b → d ≡ e) → (d ≡ e → a ≡ b) → eqb a b ≡ eqb d e
 eqb_same a b d e f g = grind arith

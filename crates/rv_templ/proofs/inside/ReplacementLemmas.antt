@@ -17,18 +17,7 @@ length-replacement window t r to = grind (arith, fresh_care, fresh_want, length-
 
 pub other_is : (window t : List Shape) (r i : ℕ) (to : List ℕ) → length window ≤ length t → i < length t - length window
     → gate_in (replacement window (turned r t) to) i ≡ image_of to (fresh_care window (span (turned r t)) to) (fresh_want window (span (turned r t)) to) (gate_in (turned r t) (length t - 1 - i))
-other_is window t r i to room h =
-    grind (
-      arith,
-      fresh_care,
-      fresh_want,
-      length-turned_others,
-      get_or-reverse,
-      other_at,
-      length-turned,
-      image_of,
-      gate_in,
-    )
+other_is window t r i to room h = grind (arith, length-turned_others, get_or-reverse, other_at, length-turned)
 
 pub other_gate : (window t : List Shape) (r i : ℕ) (to : List ℕ) → Replaced window t r to → i < length t - length window → IsGate (gate_in (replacement window (turned r t) to) i)
 other_gate window t r i to k h =

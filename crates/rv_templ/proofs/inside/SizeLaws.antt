@@ -1,8 +1,7 @@
 -- What the sizes of templates say of windows.
 use Rattle.std.proofs.Common.{◌≡◌, ℕ, zero, suc, ◌+◌, ◌*◌, ◌<◌, ◌≤◌, true, List, ◌∷◌, length, take, drop, refl, sym, ◌∙◌, ap, arith}
-use Rattle.std.specs.Option.{option_or}
 use Rattle.std.specs.Prelude.{bit_or, count_ones, Option, Some, None}
-use Rattle.std.proofs.lemmas.Bool.{cases_lt, or_left}
+use Rattle.std.proofs.lemmas.Bool.{or_left}
 use Rattle.std.proofs.lemmas.List.{length-take, length-take-le, get_or-take, get_or-drop, drop-drop}
 use Rattle.std.proofs.lemmas.Nat.{ones_le_self}
 use Rattle.rv_gate.specs.Word.{has}
@@ -10,7 +9,7 @@ use Rattle.rv_gate.specs.declared.gate.Shape.{Shape}
 use Rattle.rv_gate.proofs.FirstAnswer.{none_first}
 use Rattle.rv_links.specs.Order.{NoTwice, next_in}
 use Rattle.rv_links.specs.Nodes.{Node, live, node_gate, ids_in}
-use Rattle.rv_templ.specs.Choices.{template_in, window_at, at_count, at_most, at_template}
+use Rattle.rv_templ.specs.Choices.{template_in, window_at, at_count, at_most}
 use Rattle.rv_templ.specs.Folds.{union_below}
 use Rattle.rv_templ.specs.Gates.{gate_in, no_gate}
 use Rattle.rv_templ.specs.Templates.{AreTemplates}
@@ -72,21 +71,7 @@ reach_rest a b i at next nodes g d on e eg en rest =
 wide_none : (most least wide : ℕ) (library : List (List Shape)) (gates : List Shape) (k : ℕ) → AreTemplates library → AreSizes most least wide library → 0 < k → k ≤ length gates
     → (k ≤ most → wide < count_ones (varied gates k)) → at_count gates library k ≡ None
 unfolding at_count
-wide_none most least wide library gates k are sizes some le more =
-    grind (
-      arith,
-      length-take-le,
-      none_first,
-      at_template,
-      cases_lt,
-      template_in,
-      too_short,
-      count_ones,
-      varied_taken,
-      none_wide,
-      are_at,
-      too_long,
-    )
+wide_none most least wide library gates k are sizes some le more = grind (arith, length-take-le, none_first, too_short, varied_taken, none_wide, are_at, too_long)
 
 -- the window at a place is one of its first gates, if in more of them too many lines vary
 pub window_near : (most least wide n : ℕ) (library : List (List Shape)) (gates : List Shape) → AreTemplates library → AreSizes most least wide library
@@ -97,12 +82,7 @@ window_near most least wide n library gates are sizes beyond =
 few_none : (least n : ℕ) (library : List (List Shape)) (gates : List Shape) → ((t : ℕ) → t < length library → least ≤ length (template_in library t)) → 2 * n ≤ least → at_most gates library n ≡ None
 unfolding at_most at_count
 few_none least zero library gates long few = refl
-few_none least (suc n) library gates long few =
-    ap (λ o. option_or o (at_most gates library n))
-    (none_first (at_template (take (suc n) gates) library) 0 (length library) (λ t a b.
-    let at = long t (omega arith) in
-    too_long (take (suc n) gates) library t (omega (arith, at, few, length-take (suc n) gates))))
-    ∙ few_none least n library gates long (omega arith)
+few_none least (suc n) library gates long few = let i0 = few_none least n library gates long in grind (arith, i0, none_first, too_long, length-take)
 
 -- so few gates are no window
 pub window_few : (most least wide n : ℕ) (library : List (List Shape)) (gates : List Shape) → AreSizes most least wide library → 2 * n ≤ least → window_at (take n gates) library ≡ None

@@ -10,7 +10,7 @@ use Rattle.std.proofs.lemmas.List.{length-take-le, map-append}
 use Rattle.std.proofs.Math.Nat.{pow-le-pow_right}
 use Rattle.rv_gate.specs.Word.{number_of, word_of}
 use Rattle.rv_gate.specs.inside.WordLaws.{word_of-number_of, number_of-lt}
-use Rattle.rv_gate.specs.Gate.{act, run, is_flip, run_on_number, FitsIn}
+use Rattle.rv_gate.specs.Gate.{run, is_flip, run_on_number}
 use Rattle.rv_gate.specs.Circuit.{Cascade, IsCascade}
 use Rattle.rv_gate.specs.declared.gate.Shape.{Shape}
 use Rattle.rv_gate.proofs.inside.GateLemmas.{length-act, length-run}
@@ -29,9 +29,7 @@ use Rattle.rv_templ.proofs.Options.{map_none}
 
 run_append : (n : ℕ) (gates : List Shape) (word more : List Bool) → Flips gates → AreGates n gates → length word ≡ n → run gates (word ++ more) ≡ run gates word ++ more
 run_append n [] word more flips are len = refl
-run_append n (g ∷ rest) word more flips are len =
-    ap (run rest) (act_append g word more flips.0 (subst (λ (k : ℕ). FitsIn g k) (sym len) are.1))
-    ∙ run_append n rest (act g word) more flips.1 are.2 (length-act g word ∙ len)
+run_append n (g ∷ rest) word more flips are len = let i0 = run_append n rest in grind (arith, i0, act_append, length-act)
 
 wider : (n m : ℕ) (gates : List Shape) → n ≤ m → AreGates n gates → AreGates m gates
 wider n m [] le are = tt
