@@ -68,9 +68,7 @@ turn_once m f a x y w hx hy e =
 
 after_once : (m : ℕ) (f a : ℕ → ℕ) (k x y : ℕ) → Walks m f a → x < m → y < m → iterate (turn f a) k x ≡ iterate (turn f a) k y → x ≡ y
 after_once m f a zero x y w hx hy e = e
-after_once m f a (suc k) x y w hx hy e =
-    turn_once m f a x y w hx hy
-    (after_once m f a k (f (a x)) (f (a y)) w (w.first.within (a x) (w.second.within x hx)) (w.first.within (a y) (w.second.within y hy)) e)
+after_once m f a (suc k) x y w hx hy e = let i0 = after_once m f a k (f (a x)) (f (a y)) w (w.first.within (a x) (w.second.within x hx)) (w.first.within (a y) (w.second.within y hy)) e in grind (arith, i0, turn_once)
 
 -- ---- the walk comes back
 
@@ -109,9 +107,7 @@ period m f a x w h =
 
 after-times : (step : ℕ → ℕ) (p q x : ℕ) → iterate step p x ≡ x → iterate step (p * q) x ≡ x
 after-times step p zero x e = let z : p * 0 ≡ 0 = omega arith in ap (λ i. iterate step i x) z
-after-times step p (suc q) x e =
-    let s : p * suc q ≡ p + p * q = omega arith in
-    ap (λ i. iterate step i x) s ∙ after-add step p (p * q) x ∙ ap (iterate step (p * q)) e ∙ after-times step p q x e
+after-times step p (suc q) x e = let i0 = after-times step p q x e in grind (arith, i0, after-add)
 
 -- each word of the walk is among the first m
 pub least_all : (m : ℕ) (f a : ℕ → ℕ) (k x : ℕ) → Walks m f a → x < m → least_from (turn f a) (m - 1) x ≤ iterate (turn f a) k x

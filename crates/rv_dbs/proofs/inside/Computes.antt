@@ -1,5 +1,5 @@
 -- The gates compute the permutation, and are few.
-use Rattle.std.proofs.Common.{◌≡◌, ℕ, zero, suc, ◌+◌, ◌-◌, ◌*◌, ◌^◌, ◌<◌, ◌≤◌, Bool, cond, eqb, List, [], ◌∷◌, ◌++◌, length, get_or, refl, ◌∙◌, ap, inl, inr, arith, eq-eqb, length-append, subst}
+use Rattle.std.proofs.Common.{◌≡◌, ℕ, zero, suc, ◌+◌, ◌-◌, ◌*◌, ◌^◌, ◌<◌, ◌≤◌, Bool, eqb, List, [], ◌∷◌, ◌++◌, length, get_or, refl, ◌∙◌, ap, inl, inr, arith, eq-eqb, length-append, subst}
 use Rattle.std.proofs.lemmas.Bool.{eqb-true, or_cases}
 use Rattle.std.proofs.Math.Nat.{mul-le-mul_right}
 use Rattle.std.proofs.Math.Pow.{pow_mono}
@@ -29,10 +29,7 @@ use Rattle.rv_dbs.proofs.inside.Gates.{Does, free_care, list_is, single_does}
 no_turn : (target : ℕ) (cubes : List Cube) → turn_count (2 ^ target) (flips_of target cubes) ≡ 0
 unfolding turn_count
 no_turn target [] = refl
-no_turn target (c ∷ rest) =
-    let e : cond {A = ℕ} (eqb (2 ^ target) (2 ^ target)) 0 1 ≡ 0 = ap (λ b. cond {A = ℕ} b 0 1) (eq-eqb (2 ^ target) (2 ^ target) refl) in
-    let r = no_turn target rest in
-    omega (arith, e, r)
+no_turn target (c ∷ rest) = let i0 = no_turn target rest in grind (arith, i0, eq-eqb)
 
 one_run : (target : ℕ) (cubes : List Cube) → run_count (flips_of target cubes) ≤ 1
 unfolding run_count

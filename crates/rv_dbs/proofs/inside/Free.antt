@@ -154,21 +154,13 @@ same_halves m t len free x h =
 
 -- without a lower bit, both halves are without it
 free_low : (m k : ℕ) (t : List ℕ) → k < m → IsFreeTable (suc m) k t → IsFreeTable m k (take (2 ^ m) t)
-free_low m k t hk free x h =
-    let two = pow-suc 2 m in
-    get_or-take (2 ^ m) t (other k x) 0 (other_within m k x hk h) ∙ free x (omega arith) ∙ sym (get_or-take (2 ^ m) t x 0 h)
+free_low m k t hk free x h = grind (arith, pow-suc, get_or-take, other_within)
 
 free_high : (m k : ℕ) (t : List ℕ) → k < m → IsFreeTable (suc m) k t → IsFreeTable m k (drop (2 ^ m) t)
-free_high m k t hk free x h =
-    let two = pow-suc 2 m in
-    get_or-drop (2 ^ m) t (other k x) 0 ∙ ap (λ v. get_or t v 0) (sym (other_high m k x hk h)) ∙ free (2 ^ m + x) (omega arith) ∙ sym (get_or-drop (2 ^ m) t x 0)
+free_high m k t hk free x h = grind (arith, pow-suc, get_or-drop, other_high)
 
 free_each : (m k : ℕ) (a b : List ℕ) → k < m → length a ≡ 2 ^ m → length b ≡ 2 ^ m → IsFreeTable m k a → IsFreeTable m k b → IsFreeTable m k (xor_each a b)
-free_each m k a b hk la lb fa fb x h =
-    let o = other_within m k x hk h in
-    get_or-xor_each a b (other k x) (la ∙ sym lb) (omega arith)
-    ∙ ap (λ v. bit_xor v (get_or b (other k x) 0)) (fa x h) ∙ ap (bit_xor (get_or a x 0)) (fb x h)
-    ∙ sym (get_or-xor_each a b x (la ∙ sym lb) (omega arith))
+free_each m k a b hk la lb fa fb x h = grind (arith, other_within, get_or-xor_each)
 
 zeros_stay : (m : ℕ) (t : List ℕ) → length t ≡ 2 ^ m → ((i : ℕ) → i < 2 ^ m → get_or t i 0 ≡ 0) → (i : ℕ) → i < 2 ^ m → get_or (transformed m t) i 0 ≡ 0
 zeros_stay m t len zeros i h =

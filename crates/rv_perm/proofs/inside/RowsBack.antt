@@ -102,16 +102,4 @@ number_lines_are ns h = rw (rows_are_from ns) (rows_lines (rows_from [] ns) (row
 -- the numbers of the text are read back
 pub numbers_read : (before : ℕ) (given : Given) (ns : List ℕ) → given.count + length ns ≤ 65536 → Small ns
     → lines_read line_rules before given (map words_line (number_lines ns)) ≡ Ok (record given { numbers = given.numbers ++ ns; count = given.count + length ns })
-numbers_read before given ns few h =
-    grind (
-      arith,
-      lines_read,
-      line_rules,
-      words_line,
-      rows_are_from,
-      rows_back,
-      rows_from,
-      rows_are,
-      rows_joined,
-      numbers_kept,
-    )
+numbers_read before given ns few h = grind (arith, rows_are_from, rows_back, rows_from, rows_are, rows_joined, numbers_kept)

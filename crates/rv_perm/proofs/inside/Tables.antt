@@ -1,8 +1,8 @@
 -- The table of a list of numbers: it is there exactly if the list is a permutation.
-use Rattle.std.proofs.Common.{◌≡◌, ◌≢◌, ℕ, zero, suc, ◌+◌, ◌^◌, ◌<◌, ◌≤◌, eqb, List, length, get_or, set, Option, Some, None, Result, Ok, Err, IfErr, refl, sym, ◌∙◌, ap, subst, inl, inr, arith, length-set, get_or-set_same, get_or-set_other, below_more}
+use Rattle.std.proofs.Common.{◌≡◌, ◌≢◌, ℕ, zero, suc, ◌+◌, ◌^◌, ◌<◌, ◌≤◌, List, length, get_or, set, Option, Some, None, Result, Ok, Err, IfErr, refl, sym, ◌∙◌, ap, subst, inl, inr, arith, length-set, get_or-set_same, get_or-set_other, below_more}
 use Rattle.std.specs.Prelude.{◌⊎◌}
 use Rattle.std.specs.Option.{MatchOption, option_or}
-use Rattle.std.proofs.lemmas.Bool.{cases_eq, cases_lt, cases_Bool, cond-true, cond-false, eqb-true, eqb-false}
+use Rattle.std.proofs.lemmas.Bool.{cases_eq, cases_lt, cond-true, cond-false, eqb-true, eqb-false}
 use Rattle.std.proofs.lemmas.Bool.Decides.{nat_tests}
 use Rattle.std.proofs.lemmas.Nat.{pow_below}
 use Rattle.std.proofs.lemmas.Result.{IfErr-at_err}
@@ -30,22 +30,13 @@ abbrev pub IsLines : ℕ → ℕ → Option ℕ → Type 0
 IsLines m count r = MatchOption r ((n : ℕ) → 1 ≤ n → n ≤ m → count ≢ 2 ^ n) (λ n. (1 ≤ n) × (n ≤ m) × (count ≡ 2 ^ n))
 
 lines_more : (m count : ℕ) (r : Option ℕ) → 2 ^ suc m ≢ count → IsLines m count r → IsLines (suc m) count r
-lines_more m count None ne h =
-    λ n one most e. elim (cases_eq n (suc m)) [
-      | inl top ↦ ne (ap (λ k. 2 ^ k) (sym top) ∙ sym e)
-      | inr below ↦ h n one (omega arith) e
-    ]
+lines_more m count None ne h = grind (arith)
 lines_more m count (Some n) ne h = (h.0, omega (arith, h.1), h.2)
 
 lines_up_to-is : (m count : ℕ) → IsLines m count (lines_up_to m count)
 unfolding lines_up_to
 lines_up_to-is zero count = λ n one most e. omega arith
-lines_up_to-is (suc m) count =
-    let P : Option ℕ → Type 0 = λ r. IsLines (suc m) count r in
-    elim (cases_Bool (eqb (2 ^ suc m) count)) [
-      | inl yes_it ↦ subst P (sym (cond-true (eqb (2 ^ suc m) count) _ _ yes_it)) (omega arith, omega arith, sym (eqb-true _ _ yes_it))
-      | inr other ↦ subst P (sym (cond-false (eqb (2 ^ suc m) count) _ _ other)) (lines_more m count _ (eqb-false _ _ other) (lines_up_to-is m count))
-    ]
+lines_up_to-is (suc m) count = let i0 = lines_up_to-is m count in grind (arith, i0, cond-true, eqb-true, cond-false, lines_more, eqb-false)
 
 pow_same : (a b : ℕ) → 2 ^ a ≡ 2 ^ b → a ≡ b
 pow_same a b e = grind (arith, cases_lt, pow_below, cases_eq)
@@ -115,9 +106,7 @@ placed_none numbers places len all = record {
 -- no number before one that is new
 new_number : (numbers places : List ℕ) (i y : ℕ) → i ≤ length numbers → length numbers ≤ get_or places y 0 → Placed numbers places i
     → (j : ℕ) → j < i → get_or numbers j 0 ≢ y
-new_number numbers places i y le new s j l e =
-    let at : get_or places y 0 ≡ j = ap (λ v. get_or places v 0) (sym e) ∙ s.back j l in
-    absurd (omega arith)
+new_number numbers places i y le new s j l e = grind (arith)
 
 pub placed_more : (numbers places : List ℕ) (i y : ℕ) → y ≡ get_or numbers i 0 → i < length numbers → y < length numbers → length numbers ≤ get_or places y 0
     → Placed numbers places i → Placed numbers (set places y i) (i + 1)
@@ -211,21 +200,12 @@ both_texts None later t a b = b
 both_texts (Some fault) later t a b = a
 
 place_text : (count number first place : ℕ) (t : TextFault) → place_fault count number first place ≢ Some (Text t)
-place_text count number first place t =
-    elim (cases_lt number count) [
-      | inl in_range ↦ elim (cases_lt first place) [
-        | inl again ↦ (let e = place_repeated count number first place in_range again in λ h. (let z = sym e ∙ h in cc))
-        | inr new ↦ (let e = place_in_range count number first place in_range new in λ h. (let z = sym e ∙ h in cc))
-      ]
-      | inr past ↦ (let e = place_out count number first place past in λ h. (let z = sym e ∙ h in cc))
-    ]
+place_text count number first place t = grind (arith, place_repeated, place_in_range, place_out)
 
 pub no_text : (xs : List ℕ) (n : ℕ) (t : TextFault) → fault_below xs n ≢ Some (Text t)
 unfolding first_below
 no_text xs zero t = λ h. (let z = h in cc)
-no_text xs (suc n) t =
-    both_texts (fault_below xs n) (fault_at xs n) t (no_text xs n t)
-    (place_text (length xs) (get_or xs n 0) (preimage_of xs (get_or xs n 0)) n t)
+no_text xs (suc n) t = let i0 = no_text xs n t in grind (arith, i0, both_texts, place_text)
 
 -- what a refusal of numbers of so many lines was for
 abbrev pub IsFaultOf : ℕ → List ℕ → PermFault → Type 0
@@ -252,11 +232,7 @@ pub refused_for : {T : Type 0} (n : ℕ) (xs : List ℕ) (r : Result T PermFault
 refused_for n xs r fault lines told other e = grind (arith, IfErr-at_err, table_some)
 
 pub refused_for_text : {T : Type 0} (n : ℕ) (xs : List ℕ) (r : Result T PermFault) (t : TextFault) → IfErr r (IsFaultOf n xs) → r ≢ Err (Text t)
-refused_for_text n xs r t told e =
-    elim (IfErr-at_err (IsFaultOf n xs) e told) [
-      | inl mem ↦ absurd (let z : Text t ≡ Mem = mem in cc)
-      | inr is ↦ checked_text n xs t is
-    ]
+refused_for_text n xs r t told e = grind (arith, checked_text)
 
 -- ---- the table and its fault, in words of permutations
 

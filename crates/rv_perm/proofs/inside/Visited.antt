@@ -71,11 +71,7 @@ care_has care k v h =
     has_all care v (λ i. let b = bits_of (bit_or care (2 ^ k)) v i h in let o = bit_at_or care (2 ^ k) i in omega arith)
 
 pub care_other : (care k v : ℕ) → bit_at care k ≡ 0 → HasAll care v → HasAll care (bit_xor v (2 ^ k))
-care_other care k v free h =
-    has_all care (bit_xor v (2 ^ k)) (λ i. elim (cases_eq i k) [
-      | inl at ↦ rw at (omega arith)
-      | inr ne ↦ (let c = kept_bit v k i ne in let b = bits_of care v i h in omega arith)
-    ])
+care_other care k v free h = grind (arith, has_all, kept_bit, bits_of)
 
 -- ---- what the loop keeps
 
