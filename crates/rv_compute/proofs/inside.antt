@@ -7,3 +7,4 @@ pub mod Standing
 pub mod Ends
 pub mod AllAsked
 pub mod Owning
+pub mod Computed

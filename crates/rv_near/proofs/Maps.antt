@@ -10,7 +10,7 @@ use Rattle.rv_net.specs.declared.net.TheConstants.{MOST_OPS}
 use Rattle.rv_net.proofs.inside.Network.{ArePlain}
 use Rattle.rv_near.specs.Near.{MapsNear, near_net, near_ops}
 use Rattle.rv_near.proofs.Flips.{carries-near}
-use Rattle.rv_near.proofs.Operations.{near-fits, on-neighbours}
+use Rattle.rv_near.proofs.inside.Operations.{near-fits, on-neighbours}
 use Rattle.rv_near.proofs.Routed.{decomposed-near}
 
 -- the law

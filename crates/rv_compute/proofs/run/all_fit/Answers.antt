@@ -1,5 +1,5 @@
 use Rattle.std.proofs.Common.{rules}
-use Rattle.rv_compute.proofs.Computed.{fit_none, fit_more, fit_all}
+use Rattle.rv_compute.proofs.inside.Computed.{fit_none, fit_more, fit_all}
 use Rattle.rv_compute.proofs.run.all_fit.Goals as goal
 
 pub loop-gate-init : goal.loop-gate-init

@@ -1,4 +1,4 @@
-use Rattle.rv_compute.proofs.Computed.{FitBelow}
+use Rattle.rv_compute.proofs.inside.Computed.{FitBelow}
 use Rattle.rv_compute.proofs.run.all_fit.Given as goal
 
 abbrev pub invariant-loop-gate : goal.invariant-loop-gate

@@ -1,7 +1,7 @@
 use Rattle.std.proofs.Common.{◌≡◌, length, ap, sym, ◌∙◌}
 use Rattle.rv_gate.specs.Circuit.{Cascade}
 use Rattle.rv_compute.specs.inside.Held.{line_count}
-use Rattle.rv_compute.proofs.Computed.{computed, valid_gates, fit_gates}
+use Rattle.rv_compute.proofs.inside.Computed.{computed, valid_gates, fit_gates}
 use Rattle.rv_compute.proofs.Marks.{length-line_names}
 use Rattle.rv_compute.proofs.run.circuit_of.Goals as goal
 

@@ -3,7 +3,7 @@ use Rattle.std.proofs.lemmas.List.{length-map}
 use Rattle.rv_exorlink.specs.Lists.{IsSameBut}
 use Rattle.rv_exorlink.proofs.Steps.{few_for}
 use Rattle.rv_esop.specs.inside.Basis.{linked_cube}
-use Rattle.rv_esop.proofs.Added.{turned_list}
+use Rattle.rv_esop.proofs.inside.Added.{turned_list}
 use Rattle.rv_esop.proofs.basis.turned.Goals as goal
 
 pub returns : goal.returns

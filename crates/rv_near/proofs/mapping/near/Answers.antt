@@ -1,6 +1,6 @@
 use Rattle.std.proofs.Common.{length}
 use Rattle.rv_near.proofs.Flips.{carries-near, denotes-near}
-use Rattle.rv_near.proofs.Operations.{on-neighbours}
+use Rattle.rv_near.proofs.inside.Operations.{on-neighbours}
 use Rattle.rv_near.proofs.mapping.near.Goals as goal
 
 pub returns-clause-near : goal.returns-clause-near

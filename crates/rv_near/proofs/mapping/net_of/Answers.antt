@@ -1,7 +1,7 @@
 use Rattle.std.proofs.Common.{◌≡◌, ◌∙◌, ap, arith, length}
 use Rattle.rv_net.proofs.inside.Network.{ArePlain}
 use Rattle.rv_near.specs.Near.{near_ops}
-use Rattle.rv_near.proofs.Operations.{near-fits}
+use Rattle.rv_near.proofs.inside.Operations.{near-fits}
 use Rattle.rv_near.proofs.mapping.net_of.Goals as goal
 
 pub of_ops-requires : goal.of_ops-requires
