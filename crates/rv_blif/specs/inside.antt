@@ -1,2 +1,2 @@
-pub mod Denotes
 pub mod State
+pub mod laws

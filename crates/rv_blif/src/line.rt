@@ -4,7 +4,7 @@ ghost use Rattle.std.specs.List.{list_any};
 ghost use Rattle.rv_text.specs.Bytes.{hash};
 ghost use Rattle.rv_text.specs.Tokens.{joined, tokens_of};
 ghost use Rattle.rv_reader.specs.Gives.{StepGives};
-ghost use Rattle.rv_blif.specs.inside.Denotes.{denotes, finds};
+ghost use Rattle.rv_blif.specs.inside.laws.Denotes.{denotes, finds};
 ghost use Rattle.rv_blif.specs.Line.{body_len, goes_on, is_dropped, is_latch, is_unsupported};
 ghost use Rattle.rv_blif.specs.Given.{closed, cover_given, cover_numbered, directive_of, input_given, inputs_given};
 ghost use Rattle.rv_blif.specs.Given.{line_by, line_rules, names_given, number_of, numbered, output_given};

@@ -9,7 +9,7 @@ use Rattle.rv_gate.proofs.FirstAnswer.{none_at, none_first, or_none}
 use Rattle.rv_gate.specs.FirstAnswer.{first}
 use Rattle.rv_gate.specs.Gate.{all_below}
 use Rattle.rv_gate.specs.Word.{word_of}
-use Rattle.rv_gate.specs.inside.WordLaws.{length-word_of}
+use Rattle.rv_gate.specs.inside.laws.WordLaws.{length-word_of}
 use Rattle.rv_pla.specs.declared.cube.Cube.{Cube}
 use Rattle.rv_pla.specs.Pla.{TwoLevel}
 use Rattle.rv_cube.specs.Distance.{differing, distance, with_third}

@@ -3,7 +3,7 @@ use Rattle.std.proofs.Common.{◌≡◌, ℕ, ◌<◌, ◌≤◌, ◌/◌, ◌^�
 use Rattle.std.specs.Prelude.{All, bit_and}
 use Rattle.std.proofs.lemmas.List.Elements.{All-head, All-tail, All-weaker}
 use Rattle.rv_gate.specs.Word.{has, number_of, word_of}
-use Rattle.rv_gate.specs.inside.WordLaws.{word_of-number_of, number_of-lt}
+use Rattle.rv_gate.specs.inside.laws.WordLaws.{word_of-number_of, number_of-lt}
 use Rattle.rv_gate.proofs.LineSets.{below-Within, Within-shr, subset_from_and}
 use Rattle.rv_pla.specs.Cube.{IsCube}
 use Rattle.rv_pla.specs.declared.cube.Cube.{Cube}

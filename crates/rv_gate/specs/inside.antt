@@ -1,5 +1,5 @@
 pub mod NamesView
 pub mod CircuitView
-pub mod WordLaws
 pub mod GateView
 pub mod Mirror
+pub mod laws

@@ -70,7 +70,8 @@ pub struct Gate {
 impl Model for Gate {
     ghost use Rattle.rv_gate.specs.declared.gate.Shape.{Shape as AnyShape};
     ghost use Rattle.rv_gate.specs.Gate.{IsGate};
-    ghost use Rattle.rv_gate.specs.inside.GateView.{held_of, shape_of, held_again};
+    ghost use Rattle.rv_gate.specs.inside.GateView.{held_of, shape_of};
+    ghost use Rattle.rv_gate.specs.inside.laws.HeldAgain.{held_again};
 
     ghost Value = { AnyShape };
 

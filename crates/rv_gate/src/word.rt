@@ -25,7 +25,7 @@ impl Model for Word {
     ghost use Rattle.std.specs.Prelude.{Bool, List, ◌^◌, ◌<◌, ◌≤◌, length};
     ghost use Rattle.rv_gate.specs.declared.word.TheConstants.{MOST_LINES};
     ghost use Rattle.rv_gate.specs.Word.{ones_of, word_with};
-    ghost use Rattle.rv_gate.specs.inside.WordLaws.{length-word_with, ones_of-word_with_small};
+    ghost use Rattle.rv_gate.specs.inside.laws.WordLaws.{length-word_with, ones_of-word_with_small};
 
     ghost Value = { List Bool };
 

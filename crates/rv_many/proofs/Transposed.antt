@@ -7,7 +7,7 @@ use Rattle.std.proofs.lemmas.Bool.{cases_eq, cases_lt, false≢true}
 use Rattle.std.proofs.lemmas.List.{ext_get_or, get_or-append_right, get_or-map, get_or-set_other, get_or-set_same, get_or-take, get_or_past, length-append, length-drop, length-map, length-take, length-take-le}
 use Rattle.std.proofs.lemmas.List.Edits.{get_or-between, length-between}
 use Rattle.rv_gate.specs.Word.{has, bit_of, word_with}
-use Rattle.rv_gate.specs.inside.WordLaws.{bit_of-word_with, length-word_with}
+use Rattle.rv_gate.specs.inside.laws.WordLaws.{bit_of-word_with, length-word_with}
 use Rattle.rv_gate.proofs.LineSets.{below-Within, has-above, has-none}
 use Rattle.rv_many.specs.Column.{column, row_bit}
 use Rattle.rv_many.specs.declared.row.Row.{Row}

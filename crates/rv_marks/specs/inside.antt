@@ -1,2 +1,2 @@
--- What the code alone needs.
-pub mod RowLaws
+-- What the code alone keeps.
+pub mod laws

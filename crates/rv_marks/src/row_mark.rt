@@ -1,6 +1,6 @@
 ghost use Rattle.std.specs.Prelude.{◌≡◌, ℕ, Option, Some};
 ghost use Rattle.rv_marks.specs.Row.{constant_of, constant_byte, garbage_of, garbage_byte};
-ghost use Rattle.rv_marks.specs.inside.RowLaws.{constant_of-constant_byte, garbage_of-garbage_byte};
+ghost use Rattle.rv_marks.specs.inside.laws.RowLaws.{constant_of-constant_byte, garbage_of-garbage_byte};
 
 use rv_gate::Mark;
 

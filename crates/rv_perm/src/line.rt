@@ -7,7 +7,7 @@ ghost use Rattle.rv_perm.specs.Reading.{fault_in, permutation_of};
 ghost use Rattle.rv_perm.specs.inside.State.{with_number};
 ghost use Rattle.rv_perm.specs.inside.Steps.{constants_given, garbage_given, directive_given, numbers_given};
 ghost use Rattle.rv_perm.specs.inside.Steps.{line_rules, end_given, as_fault};
-ghost use Rattle.rv_perm.specs.inside.Denotes.{denotes, finds};
+ghost use Rattle.rv_perm.specs.inside.laws.Denotes.{denotes, finds};
 
 use crate::code::{DIRECTIVE_OUT_OF_PLACE, NOT_A_NUMBER, UNKNOWN_DIRECTIVE, WRONG_MARK_ROW};
 use crate::end::end_of;

@@ -2,7 +2,7 @@ ghost use Rattle.std.specs.Prelude.{◌≡◌, ◌≤◌, false, drop, length, I
 ghost use Rattle.rv_text.specs.Tokens.{joined, tokens_of};
 ghost use Rattle.rv_reader.specs.Gives.{StepGives};
 ghost use Rattle.rv_reader.specs.inside.Answered.{GivesValue};
-ghost use Rattle.rv_pla.specs.inside.Denotes.{denotes, finds};
+ghost use Rattle.rv_pla.specs.inside.laws.Denotes.{denotes, finds};
 ghost use Rattle.rv_pla.specs.inside.State.{IsSize};
 ghost use Rattle.rv_pla.specs.inside.Next.{IsNext};
 ghost use Rattle.rv_pla.specs.inside.Steps.{directive_of, inputs_given, outputs_given, kind_given, term_sized, line_by};

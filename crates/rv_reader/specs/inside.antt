@@ -2,4 +2,4 @@
 pub mod Progress
 pub mod Fed
 pub mod Answered
-pub mod GivenLaws
+pub mod laws

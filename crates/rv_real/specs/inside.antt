@@ -9,7 +9,6 @@ pub mod LineByLine
 pub mod Kept
 pub mod LabelRows
 pub mod Operands
-pub mod HeaderLines
 pub mod Texts
 pub mod Places
-pub mod Denotes
+pub mod laws

@@ -13,7 +13,7 @@ ghost use Rattle.rv_real.specs.declared.line.State.{State};
 ghost use Rattle.rv_real.specs.inside.LineByLine.{no_end};
 ghost use Rattle.rv_real.specs.inside.Steps.{GivesState};
 ghost use Rattle.rv_real.specs.inside.State.{in_body, is_in_header, line_in, line_of, line_rules, end_of, as_fault};
-ghost use Rattle.rv_real.specs.inside.Denotes.{denotes, finds};
+ghost use Rattle.rv_real.specs.inside.laws.Denotes.{denotes, finds};
 
 use crate::begun::Begun;
 use crate::body::read_body_line;

@@ -7,7 +7,7 @@ use Rattle.std.proofs.lemmas.List.Elements.{All-head, All-tail, All-filter, All-
 use Rattle.std.specs.List.{list_all, list_any}
 use Rattle.std.specs.Prelude.{unsigned_abs}
 use Rattle.rv_gate.specs.Word.{number_of}
-use Rattle.rv_gate.specs.inside.WordLaws.{number_of-lt}
+use Rattle.rv_gate.specs.inside.laws.WordLaws.{number_of-lt}
 use Rattle.rv_net.specs.Cyclotomic.{Cyclotomic, nought, plus}
 use Rattle.rv_net.specs.Op.{OpFitsIn}
 use Rattle.rv_net.specs.declared.op.Op.{Op}

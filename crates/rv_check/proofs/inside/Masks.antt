@@ -10,7 +10,7 @@ use Rattle.std.proofs.lemmas.Nat.Bits.{and_pow, bit_at-lt}
 use Rattle.std.specs.Int.{bit_at}
 use Rattle.std.specs.Int.Bits.{bit_or, or_add_and, or_self, or_step, or_zero_r}
 use Rattle.rv_gate.specs.Word.{bit_of, number_of, word_of}
-use Rattle.rv_gate.specs.inside.WordLaws.{bit_of-word_of, number_of-lt, word_of-number_of}
+use Rattle.rv_gate.specs.inside.laws.WordLaws.{bit_of-word_of, number_of-lt, word_of-number_of}
 use Rattle.rv_net.specs.Cyclotomic.{Cyclotomic, nought}
 use Rattle.rv_check.specs.Reduced.{words}
 use Rattle.rv_check.specs.inside.Dense.{covers}

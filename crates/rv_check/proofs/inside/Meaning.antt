@@ -11,7 +11,7 @@ use Rattle.rv_gate.specs.FirstAnswer.{first}
 use Rattle.rv_gate.specs.Gate.{run}
 use Rattle.rv_gate.specs.Word.{number_of, word_of}
 use Rattle.rv_gate.specs.declared.gate.Shape.{Shape}
-use Rattle.rv_gate.specs.inside.WordLaws.{length-word_of, number_of-lt, word_of-number_of}
+use Rattle.rv_gate.specs.inside.laws.WordLaws.{length-word_of, number_of-lt, word_of-number_of}
 use Rattle.rv_net.specs.Amplitude.{amplitude}
 use Rattle.rv_net.specs.Denotes.{Denotes, amplitude_of_map}
 use Rattle.rv_net.specs.Op.{Network}

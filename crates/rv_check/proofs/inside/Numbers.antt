@@ -3,7 +3,7 @@ use Rattle.rv_gate.proofs.Lists.{map_map}
 use Rattle.std.proofs.Common.{◌≡◌, ℕ, zero, suc, ◌+◌, ◌^◌, ◌<◌, true, false, List, [], ◌∷◌, ◌++◌, map, length, get_or, All, refl, sym, ap, ap₂, ◌∙◌, arith, subst, ext_get_or, length-append}
 use Rattle.std.proofs.Math.Nat.{pow-suc}
 use Rattle.rv_gate.specs.Word.{number_of, word_of}
-use Rattle.rv_gate.specs.inside.WordLaws.{number_of-lt, word_of-number_of}
+use Rattle.rv_gate.specs.inside.laws.WordLaws.{number_of-lt, word_of-number_of}
 use Rattle.rv_net.specs.Cyclotomic.{Cyclotomic}
 use Rattle.rv_check.specs.Reduced.{words}
 use Rattle.rv_check.specs.inside.Dense.{members_from}

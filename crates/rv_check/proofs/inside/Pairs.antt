@@ -10,7 +10,7 @@ use Rattle.std.specs.List.{swap}
 use Rattle.std.specs.Int.Bits.{bit_or}
 use Rattle.rv_gate.specs.Gate.{xor}
 use Rattle.rv_gate.specs.Word.{bit_of, number_of, word_of}
-use Rattle.rv_gate.specs.inside.WordLaws.{length-word_of, number_of-lt, number_of-word_of_small}
+use Rattle.rv_gate.specs.inside.laws.WordLaws.{length-word_of, number_of-lt, number_of-word_of_small}
 use Rattle.rv_net.specs.Cyclotomic.{Cyclotomic, nought, plus}
 use Rattle.rv_net.specs.Op.{OpFitsIn, goes_to}
 use Rattle.rv_net.specs.declared.op.Op.TheVariants.{Swap}

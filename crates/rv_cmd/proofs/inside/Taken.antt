@@ -6,7 +6,7 @@ use Rattle.std.proofs.lemmas.List.Elements.{All-nil, All-cons, All-head, All-tai
 use Rattle.rv_gate.specs.Circuit.{Cascade}
 use Rattle.rv_gate.specs.Gate.{is_flip, run_on_number}
 use Rattle.rv_gate.specs.Word.{number_of, word_of}
-use Rattle.rv_gate.specs.inside.WordLaws.{length-word_of, number_of-word_of_small}
+use Rattle.rv_gate.specs.inside.laws.WordLaws.{length-word_of, number_of-word_of_small}
 use Rattle.rv_gate.specs.declared.gate.Shape.{Shape}
 use Rattle.rv_gate.proofs.FirstAnswer.{none_at, none_first, or_none}
 use Rattle.rv_templ.specs.Gates.{Flips, Identity, gate_in}

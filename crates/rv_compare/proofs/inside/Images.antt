@@ -6,7 +6,7 @@ use Rattle.rv_gate.specs.Circuit.{Cascade}
 use Rattle.rv_gate.specs.Gate.{run}
 use Rattle.rv_gate.specs.Marks.{input_count, output_count, with_constants, without_garbage}
 use Rattle.rv_gate.specs.Word.{number_of}
-use Rattle.rv_gate.specs.inside.WordLaws.{length-word_of, number_of-lt}
+use Rattle.rv_gate.specs.inside.laws.WordLaws.{length-word_of, number_of-lt}
 use Rattle.rv_gate.specs.declared.circuit.Mark.TheVariants.{Input}
 use Rattle.rv_gate.proofs.inside.GateLemmas.{length-run}
 use Rattle.rv_gate.proofs.Marks.{input_count-inputs, output_count-outputs, with_constants-inputs, without_garbage-outputs}

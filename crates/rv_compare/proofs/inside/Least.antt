@@ -4,7 +4,7 @@ use Rattle.std.specs.Prelude.{◌↔◌, IsTrue}
 use Rattle.rv_compare.specs.inside.Least.{IsFirstFailing}
 use Rattle.std.proofs.lemmas.Bool.{cases_lt}
 use Rattle.rv_gate.specs.Word.{number_of, word_of}
-use Rattle.rv_gate.specs.inside.WordLaws.{length-word_of, number_of-lt, word_of-number_of}
+use Rattle.rv_gate.specs.inside.laws.WordLaws.{length-word_of, number_of-lt, word_of-number_of}
 use Rattle.rv_compare.specs.Compare.{IsAnswer, IsLeastFailing, Size}
 use Rattle.rv_compare.specs.declared.comparison.Comparison.{Comparison}
 use Rattle.rv_compare.specs.declared.comparison.Comparison.TheVariants.{Same, Inputs, Outputs, Differs}

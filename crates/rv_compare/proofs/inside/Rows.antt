@@ -5,7 +5,7 @@ use mir.Val.{bool_byte}
 use Rattle.std.specs.Prelude.{All}
 use Rattle.std.proofs.lemmas.List.{append-nil, drop_all, drop_more, drop-set, drop-set-lt, ext_get_or, get_or-map, length-map, length-take-le, take-append-le, take_all, take_more_set}
 use Rattle.rv_gate.specs.declared.circuit.Mark.TheVariants.{Input}
-use Rattle.rv_gate.specs.inside.WordLaws.{length-word_of}
+use Rattle.rv_gate.specs.inside.laws.WordLaws.{length-word_of}
 use Rattle.rv_blif.specs.Logic.{Output}
 use Rattle.rv_gate.proofs.Marks.{input_count-inputs, with_constants-inputs, input_count-more, input_count-one, input_count-zero, length-without_garbage}
 use Rattle.rv_gate.specs.Marks.{input_count, output_count, takes_input, with_constants, without_garbage}

@@ -6,7 +6,7 @@ use Rattle.std.proofs.lemmas.Bool.{cases_eq, false_from_ne_true}
 use Rattle.std.proofs.lemmas.Nat.Bits.{bit_at_ones}
 use Rattle.rv_gate.specs.Word.{word_with}
 use Rattle.rv_gate.specs.Gate.{holds, same, xor}
-use Rattle.rv_gate.specs.inside.WordLaws.{bit_of-word_with, length-word_with}
+use Rattle.rv_gate.specs.inside.laws.WordLaws.{bit_of-word_with, length-word_with}
 use Rattle.rv_gate.proofs.LineSets.{same_lines_below}
 use Rattle.rv_gate.proofs.inside.GateLemmas.{holds_Decides}
 use Rattle.rv_blif.specs.Logic.{Node}

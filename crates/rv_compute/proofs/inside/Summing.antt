@@ -5,7 +5,7 @@ use Rattle.std.proofs.Math.Bool.{beq}
 use Rattle.std.proofs.lemmas.List.{at_drop_more, drop_all}
 use Rattle.rv_gate.specs.Word.{has, word_with, ones_of}
 use Rattle.rv_gate.specs.Gate.{holds, xor}
-use Rattle.rv_gate.specs.inside.WordLaws.{bit_of-word_with}
+use Rattle.rv_gate.specs.inside.laws.WordLaws.{bit_of-word_with}
 use Rattle.rv_gate.proofs.Bits.{xor_false, xor_assoc}
 use Rattle.rv_gate.proofs.inside.GateLemmas.{holds_none}
 use Rattle.rv_gate.proofs.inside.Ones.{word_with-ones_of, ones_of-lt}

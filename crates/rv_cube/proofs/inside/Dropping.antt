@@ -10,7 +10,7 @@ use Rattle.std.proofs.lemmas.List.Edits.{length-remove}
 use Rattle.std.proofs.lemmas.List.Elements.{All-set, All-get_or}
 use Rattle.std.proofs.lemmas.List.Sums.{sum_by-set, sum_by-remove}
 use Rattle.rv_gate.specs.Word.{has, number_of, word_of}
-use Rattle.rv_gate.specs.inside.WordLaws.{number_of-lt, word_of-number_of}
+use Rattle.rv_gate.specs.inside.laws.WordLaws.{number_of-lt, word_of-number_of}
 use Rattle.rv_pla.specs.Cube.{matches}
 use Rattle.rv_pla.specs.declared.cube.Cube.{Cube}
 use Rattle.rv_pla.specs.declared.entry.Entry.{Entry}

@@ -14,7 +14,7 @@ use Rattle.std.proofs.lemmas.Nat.Bits.{bit_at-lt, bit_at-zero, bit_at_xor}
 use Rattle.std.proofs.Math.Nat.{pow-suc}
 use Rattle.rv_gate.specs.Word.{has, number_of, word_of}
 use Rattle.rv_gate.proofs.inside.Ones.{has-ones_of, ones_of-lt}
-use Rattle.rv_gate.specs.inside.WordLaws.{number_of-lt, word_of-number_of}
+use Rattle.rv_gate.specs.inside.laws.WordLaws.{number_of-lt, word_of-number_of}
 use Rattle.rv_pla.specs.Cube.{matches, IsCube}
 use Rattle.rv_pla.specs.declared.cube.Cube.{Cube}
 use Rattle.rv_pla.specs.Zeros.{bit_for}

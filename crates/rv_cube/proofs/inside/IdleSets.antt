@@ -10,7 +10,7 @@ use Rattle.std.specs.List.{range_with_len}
 use Rattle.std.proofs.lemmas.List.FromFn.{get_or-map-range_with_len, length-map-range_with_len}
 use Rattle.rv_gate.specs.Gate.{all_below}
 use Rattle.rv_gate.specs.Word.{has, bit_of, ones_of, word_of}
-use Rattle.rv_gate.specs.inside.WordLaws.{length-word_of, bit_of-word_of}
+use Rattle.rv_gate.specs.inside.laws.WordLaws.{length-word_of, bit_of-word_of}
 use Rattle.rv_gate.proofs.inside.Ones.{has-ones_of}
 use Rattle.rv_gate.proofs.LineSets.{has-and, bit_at-shr, bits_from_has}
 use Rattle.rv_pla.specs.Cube.{symbol_of, symbol, agrees, matches}

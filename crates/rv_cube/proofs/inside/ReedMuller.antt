@@ -12,7 +12,7 @@ use Rattle.std.proofs.Math.Seq.{get_or-append_right}
 use Rattle.std.proofs.Math.Nat.{pow-suc}
 use Rattle.rv_gate.specs.Word.{has, bit_of, number_of, ones_of, word_of}
 use Rattle.rv_gate.proofs.inside.Ones.{has-ones_of, ones_of-lt}
-use Rattle.rv_gate.specs.inside.WordLaws.{length-word_of, number_of-lt, number_of-word_of_small, word_of-number_of}
+use Rattle.rv_gate.specs.inside.laws.WordLaws.{length-word_of, number_of-lt, number_of-word_of_small, word_of-number_of}
 use Rattle.rv_gate.specs.Gate.{all_below}
 use Rattle.rv_pla.specs.Cube.{symbol_of, agrees, matches, IsCube}
 use Rattle.rv_cube.specs.Esop.{esop_value, terms_of, IsTerm}

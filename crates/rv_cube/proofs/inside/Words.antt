@@ -6,7 +6,7 @@ use Rattle.std.proofs.lemmas.Bool.{cases_lt, eqb-true}
 use Rattle.std.proofs.lemmas.Bool.Decides.{same_from_decides}
 use Rattle.std.proofs.lemmas.Nat.Bits.{bit_at-zero, bit_at-lt, bit_at_xor, bit_at_and, bit_at_above, same_from_bits}
 use Rattle.rv_gate.specs.Word.{word_of}
-use Rattle.rv_gate.specs.inside.WordLaws.{length-word_of}
+use Rattle.rv_gate.specs.inside.laws.WordLaws.{length-word_of}
 use Rattle.rv_gate.proofs.LineSets.{bit_cases, has_one, bits_from_has}
 use Rattle.rv_gate.proofs.inside.Ones.{has-ones_of}
 use Rattle.rv_gate.proofs.inside.GateLemmas.{Hold, holds_Decides}

@@ -6,7 +6,7 @@ use Rattle.std.proofs.Math.Pow.{pow_mono}
 use Rattle.std.proofs.lemmas.List.{length-map}
 use Rattle.std.proofs.lemmas.List.Elements.{All-append, All-map}
 use Rattle.rv_gate.specs.Word.{has, number_of, word_of}
-use Rattle.rv_gate.specs.inside.WordLaws.{length-word_of, number_of-lt, number_of-word_of_small}
+use Rattle.rv_gate.specs.inside.laws.WordLaws.{length-word_of, number_of-lt, number_of-word_of_small}
 use Rattle.rv_gate.specs.Gate.{run, targets, IsGate, FitsIn, IsFlip}
 use Rattle.rv_gate.specs.declared.gate.Shape.{Shape}
 use Rattle.rv_gate.specs.declared.gate.Shape.TheVariants.{Flip}

@@ -10,7 +10,7 @@ use Rattle.std.proofs.lemmas.Nat.{pow_below, pow_pos, xor_block}
 use Rattle.std.proofs.lemmas.Nat.Bits.{bit_at_above, bit_at_cat_low}
 use Rattle.std.proofs.Math.Nat.{pow-suc}
 use Rattle.rv_gate.specs.Word.{has, word_of, ones_of}
-use Rattle.rv_gate.specs.inside.WordLaws.{bit_of-word_of}
+use Rattle.rv_gate.specs.inside.laws.WordLaws.{bit_of-word_of}
 use Rattle.rv_gate.proofs.inside.Ones.{has-ones_of}
 use Rattle.rv_pla.specs.Cube.{Dash, symbol, symbol_of}
 use Rattle.rv_pla.specs.declared.cube.Cube.{Cube}

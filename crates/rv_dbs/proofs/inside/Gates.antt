@@ -7,7 +7,7 @@ use Rattle.std.proofs.lemmas.List.Elements.{All-head, All-tail}
 use Rattle.std.proofs.lemmas.Nat.{xor_lt}
 use Rattle.std.proofs.lemmas.Nat.Bits.{bit_at-lt, bit_at_xor, bit_at-pow_other}
 use Rattle.rv_gate.specs.Word.{has, bit_of, number_of, word_of}
-use Rattle.rv_gate.specs.inside.WordLaws.{bit_of-word_of, number_of-lt, word_of-number_of}
+use Rattle.rv_gate.specs.inside.laws.WordLaws.{bit_of-word_of, number_of-lt, word_of-number_of}
 use Rattle.rv_gate.specs.Gate.{holds, flip, run}
 use Rattle.rv_gate.specs.declared.gate.Shape.{Shape}
 use Rattle.rv_gate.proofs.inside.GateLemmas.{holds-set, flip-flip}

@@ -5,7 +5,7 @@ use Rattle.std.proofs.lemmas.Bool.{cases_Bool, cases_eq, cases_lt, ltb-false, lt
 use Rattle.std.proofs.lemmas.List.{get_or_default}
 use Rattle.std.proofs.lemmas.List.FromFn.{get_or-map-range_with_len, length-map-range_with_len}
 use Rattle.rv_gate.specs.Word.{number_of, word_of, bit_of}
-use Rattle.rv_gate.specs.inside.WordLaws.{length-word_of, word_of-number_of}
+use Rattle.rv_gate.specs.inside.laws.WordLaws.{length-word_of, word_of-number_of}
 use Rattle.rv_pla.specs.Pla.{TwoLevel, IsTwoLevel, entry}
 use Rattle.rv_pla.specs.Zeros.{bit_for, output_word, zeros}
 use Rattle.rv_pla.specs.FreeEntries.{allows, HasNoFree}

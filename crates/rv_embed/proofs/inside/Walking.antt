@@ -9,7 +9,7 @@ use Rattle.std.proofs.Math.Nat.{pow-suc}
 use Rattle.rv_pla.specs.declared.entry.Entry.{Entry}
 use Rattle.rv_pla.specs.declared.entry.Entry.TheVariants.{One, Zero, Free}
 use Rattle.rv_gate.specs.Word.{has, number_of, word_of}
-use Rattle.rv_gate.specs.inside.WordLaws.{bit_of-word_of}
+use Rattle.rv_gate.specs.inside.laws.WordLaws.{bit_of-word_of}
 use Rattle.rv_pla.specs.Zeros.{bit_for}
 use Rattle.rv_pla.specs.FreeEntries.{is_dont_care, allows}
 use Rattle.rv_embed.specs.Filled.{suits, has_free, own_word, row}

@@ -5,7 +5,7 @@ use Rattle.std.proofs.lemmas.Nat.{pow-add}
 use Rattle.rv_gate.specs.declared.circuit.Mark.TheVariants.{Input, Zero}
 use Rattle.rv_gate.specs.Marks.{with_constants, without_garbage}
 use Rattle.rv_gate.specs.Word.{number_of, word_of}
-use Rattle.rv_gate.specs.inside.WordLaws.{length-word_of, number_of-word_of_small, word_of-number_of}
+use Rattle.rv_gate.specs.inside.laws.WordLaws.{length-word_of, number_of-word_of_small, word_of-number_of}
 use Rattle.rv_gate.proofs.Marks.{input_count-inputs, with_constants-append, with_constants-inputs, with_constants-zeros, without_garbage-append, without_garbage-all, without_garbage-outputs}
 
 -- ---- two words, one after another

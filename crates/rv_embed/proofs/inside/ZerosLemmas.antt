@@ -5,7 +5,7 @@ use Rattle.std.proofs.lemmas.List.{length_push}
 use Rattle.std.proofs.lemmas.List.FromFn.{length-map-range_with_len, get_or-map-range_with_len, map-range_with_len_more}
 use Rattle.std.proofs.Math.Nat.{pow-suc}
 use Rattle.rv_gate.specs.Word.{number_of, word_of}
-use Rattle.rv_gate.specs.inside.WordLaws.{number_of-lt, word_of-number_of}
+use Rattle.rv_gate.specs.inside.laws.WordLaws.{number_of-lt, word_of-number_of}
 use Rattle.rv_pla.specs.Pla.{TwoLevel, entry}
 use Rattle.rv_pla.specs.Zeros.{bit_for, output_word, zeros}
 

@@ -5,7 +5,7 @@ use Rattle.rv_gate.specs.Word.{has, number_of, word_of}
 use Rattle.rv_gate.specs.Gate.{act, act_on_number, run, FitsIn, IsGate}
 use Rattle.rv_gate.specs.Circuit.{Cascade}
 use Rattle.rv_gate.specs.declared.gate.Shape.{Shape}
-use Rattle.rv_gate.specs.inside.WordLaws.{word_of-number_of, number_of-lt}
+use Rattle.rv_gate.specs.inside.laws.WordLaws.{word_of-number_of, number_of-lt}
 use Rattle.rv_gate.proofs.inside.GateLemmas.{run-append, length-act, act_twice, word_of-act_on_number}
 use Rattle.rv_gate.proofs.LineSets.{has-line}
 use Rattle.rv_gate.proofs.Longer.{act_append}

@@ -5,7 +5,7 @@ use Rattle.std.proofs.lemmas.Bool.{cases_Bool, cases_eq, cases_lt, false≢true,
 use Rattle.std.proofs.Math.Seq.{get_or-append_seam}
 use Rattle.std.proofs.lemmas.List.{get_or_append_left, get_or_past}
 use Rattle.rv_gate.specs.Word.{has, bit_of, number_of, word_of}
-use Rattle.rv_gate.specs.inside.WordLaws.{word_of-number_of}
+use Rattle.rv_gate.specs.inside.laws.WordLaws.{word_of-number_of}
 use Rattle.rv_gate.proofs.LineSets.{has-and, has-none}
 use Rattle.rv_gate.proofs.AllBelow.{all_below-at}
 use Rattle.rv_pla.specs.Cube.{symbol_of, symbol, agrees, matches}

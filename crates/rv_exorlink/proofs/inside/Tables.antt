@@ -9,7 +9,7 @@ use Rattle.std.proofs.lemmas.List.{get_or-take, get_or-drop, take_all}
 use Rattle.std.proofs.lemmas.List.Elements.{All-take, All-drop, All-get_or, All-from_get_or, All-push, All-nil}
 use Rattle.rv_gate.specs.Word.{has, bit_of, number_of}
 use Rattle.rv_gate.specs.Gate.{all_below, same}
-use Rattle.rv_gate.specs.inside.WordLaws.{number_of-lt}
+use Rattle.rv_gate.specs.inside.laws.WordLaws.{number_of-lt}
 use Rattle.rv_gate.proofs.AllBelow.{all_below-same}
 use Rattle.rv_gate.proofs.LineSets.{has-above, has-none}
 use Rattle.rv_pla.specs.Cube.{Symbol, One, Zero, symbol_of, symbol, agrees, matches, IsCube}

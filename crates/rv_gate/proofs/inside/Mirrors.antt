@@ -6,7 +6,7 @@ use Rattle.std.proofs.lemmas.Bool.Decides.{same_from_decides}
 use Rattle.std.proofs.lemmas.Nat.Bits.{bit_at-lt, bit_at-zero, bit_at_and, bit_at_xor, bit_at_above, same_from_bits}
 use Rattle.std.specs.Int.{bit_at}
 use Rattle.rv_gate.specs.Word.{has, word_of}
-use Rattle.rv_gate.specs.inside.WordLaws.{length-word_of, bit_of-word_of}
+use Rattle.rv_gate.specs.inside.laws.WordLaws.{length-word_of, bit_of-word_of}
 use Rattle.rv_gate.specs.Gate.{all_below, holds, xor}
 use Rattle.rv_gate.specs.inside.Mirror.{are_pairs, came_from, is_above}
 use Rattle.rv_gate.proofs.AllBelow.{all_below-at}

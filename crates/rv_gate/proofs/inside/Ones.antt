@@ -6,7 +6,7 @@ use Rattle.std.proofs.lemmas.Nat.Bits.{bit_at-suc, bit_at_lowest}
 use Rattle.std.proofs.Math.Nat.{pow-suc}
 use Rattle.std.specs.Int.{bit_at}
 use Rattle.rv_gate.specs.Word.{has, bit_of, word_of, word_with, ones_of}
-use Rattle.rv_gate.specs.inside.WordLaws.{length-word_of, bit_of-word_of, length-word_with, bit_of-word_with}
+use Rattle.rv_gate.specs.inside.laws.WordLaws.{length-word_of, bit_of-word_of, length-word_with, bit_of-word_with}
 use Rattle.rv_gate.proofs.LineSets.{has-none, has-above, same_lines}
 
 pub has-ones_of : (w : List Bool) (line : ℕ) → has (ones_of w) line ≡ bit_of w line

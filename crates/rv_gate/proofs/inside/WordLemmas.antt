@@ -10,7 +10,7 @@ use Rattle.std.proofs.lemmas.Nat.Bits.{bit_at-lt, bit_at-zero, bit_at_and, bit_a
 use Rattle.std.proofs.lemmas.List.{set-get_or}
 use Rattle.std.specs.Int.{bit_at, bit_not}
 use Rattle.rv_gate.specs.Word.{has, bit_of, word_of, word_with}
-use Rattle.rv_gate.specs.inside.WordLaws.{length-word_of, bit_of-word_of, length-word_with, bit_of-word_with, ones_of-word_with_small}
+use Rattle.rv_gate.specs.inside.laws.WordLaws.{length-word_of, bit_of-word_of, length-word_with, bit_of-word_with, ones_of-word_with_small}
 use Rattle.rv_gate.specs.Gate.{holds, flip, exchanged, xor, peres, act, Within}
 use Rattle.rv_gate.specs.declared.gate.Shape.TheVariants.{Swap}
 use Rattle.rv_gate.proofs.LineSets.{bit_cases, bits_from_has, has_one, has-changed_same, has-changed_other}

@@ -1,5 +1,4 @@
 -- What contracts see of the shape that a gate holds.
-use Rattle.std.proofs.Common.{◌≡◌, refl}
 use Rattle.rv_gate.specs.declared.gate.Shape.{Shape}
 use Rattle.rv_gate.specs.declared.gate.Shape.TheVariants.{Flip, Swap, Peres}
 use Rattle.rv_gate.specs.declared.gate.Held.{Held}
@@ -14,8 +13,3 @@ abbrev pub held_of : Shape → Held
 held_of (Flip care want target) = held.Flip target care want
 held_of (Swap care want a b) = held.Swap a b care want
 held_of (Peres a b c) = held.Peres a b c
-
-pub held_again : (h : Held) → held_of (shape_of h) ≡ h
-held_again (held.Flip target care want) = refl
-held_again (held.Swap a b care want) = refl
-held_again (held.Peres a b c) = refl

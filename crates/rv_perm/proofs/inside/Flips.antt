@@ -6,7 +6,7 @@ use Rattle.std.proofs.lemmas.Nat.{pow_below, xor_lt}
 use Rattle.std.proofs.lemmas.Nat.Bits.{bit_at-lt, bit_at_and, bit_at_xor, bit_at-zero, bit_at-pow_same, bit_at-pow_other, same_from_bits}
 use Rattle.std.specs.Int.{bit_at}
 use Rattle.rv_gate.specs.Word.{has, bit_of, number_of, word_of}
-use Rattle.rv_gate.specs.inside.WordLaws.{bit_of-word_of, number_of-word_of_small}
+use Rattle.rv_gate.specs.inside.laws.WordLaws.{bit_of-word_of, number_of-word_of_small}
 use Rattle.rv_gate.specs.Gate.{flip, act_on_number}
 use Rattle.rv_gate.specs.declared.gate.Shape.TheVariants.{Flip}
 use Rattle.rv_gate.proofs.inside.Mirrors.{IsMirror, holds-mirrored}

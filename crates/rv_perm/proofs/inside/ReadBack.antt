@@ -13,14 +13,14 @@ use Rattle.rv_reader.specs.Feeding.{object_of}
 use Rattle.rv_perm.specs.Perm.{Table, IsPerm, lines_for}
 use Rattle.rv_perm.specs.Marked.{Marked, IsMarked}
 use Rattle.rv_marks.specs.Row.{constant_of, constant_byte, garbage_of, garbage_byte, mark_lines}
-use Rattle.rv_marks.specs.inside.RowLaws.{constant_of-constant_byte, garbage_of-garbage_byte}
+use Rattle.rv_marks.specs.inside.laws.RowLaws.{constant_of-constant_byte, garbage_of-garbage_byte}
 use Rattle.rv_marks.proofs.inside.Row.{constant_row_word, garbage_row_word, marks_of-map}
 use Rattle.rv_perm.specs.Given.{MarkRow}
 use Rattle.rv_perm.specs.Reading.{permutation_of}
 use Rattle.rv_perm.specs.Text.{number_lines, text_of}
 use Rattle.rv_perm.specs.inside.State.{Given, nothing_given}
 use Rattle.rv_perm.specs.inside.Steps.{line_given, directive_given, line_rules, end_on, as_fault, end_given}
-use Rattle.rv_perm.specs.inside.Denotes.{denotes}
+use Rattle.rv_perm.specs.inside.laws.Denotes.{denotes}
 use Rattle.rv_perm.proofs.inside.Tables.{found_lines, table_back}
 use Rattle.rv_perm.proofs.inside.Numerals.{Small, small_numbers}
 use Rattle.rv_perm.proofs.inside.RowsBack.{numbers_read, number_lines_are}

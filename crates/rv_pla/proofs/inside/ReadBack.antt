@@ -20,7 +20,7 @@ use Rattle.rv_pla.specs.Row.{term_of}
 use Rattle.rv_pla.specs.Line.{bar, kind_named, is_dropped, is_end}
 use Rattle.rv_pla.specs.Reading.{checked_pla, pla_of}
 use Rattle.rv_pla.specs.inside.Steps.{line_of, directive_of, term_given, line_rules, end_given, as_fault}
-use Rattle.rv_pla.specs.inside.Denotes.{denotes}
+use Rattle.rv_pla.specs.inside.laws.Denotes.{denotes}
 use Rattle.rv_pla.specs.Text.{cube_words, esop_text, head_lines, input_part, output_part, IsEsopOf}
 use Rattle.rv_pla.proofs.inside.Entries.{no_conflict}
 use Rattle.rv_text.proofs.inside.Decimal.{count_is, decimal_value-decimal}

@@ -12,7 +12,7 @@ use Rattle.rv_gate.specs.Names.{AreNames, IsName}
 use Rattle.rv_gate.specs.Circuit.{Cascade, AreLabels, IsLabel}
 use Rattle.rv_gate.specs.declared.circuit.Mark.{Mark}
 use Rattle.rv_marks.specs.Row.{constant_of, constant_byte, garbage_of, garbage_byte}
-use Rattle.rv_marks.specs.inside.RowLaws.{constant_of-constant_byte, garbage_of-garbage_byte}
+use Rattle.rv_marks.specs.inside.laws.RowLaws.{constant_of-constant_byte, garbage_of-garbage_byte}
 use Rattle.rv_marks.proofs.inside.Row.{row_of-map}
 use Rattle.rv_real.specs.Rules.{in_order, is_bare}
 use Rattle.rv_real.specs.inside.Directives.{Header, no_directives}

@@ -21,8 +21,8 @@ use Rattle.rv_real.specs.declared.fault.RealFault.TheVariants as faults
 use Rattle.rv_real.specs.inside.Directives.{Header, no_directives}
 use Rattle.rv_real.specs.Reading.{token_lines, real_of}
 use Rattle.rv_real.specs.inside.LineByLine.{body_of, header_of}
-use Rattle.rv_real.specs.inside.State.{read_by_line}
-use Rattle.rv_real.specs.inside.Denotes.{denotes}
+use Rattle.rv_real.specs.inside.laws.ReadByLine.{read_by_line}
+use Rattle.rv_real.specs.inside.laws.Denotes.{denotes}
 use Rattle.rv_real.specs.Text.{name_at, control_word, controls_from, gate_line, gate_words, circuit_lines, text_of}
 use Rattle.rv_real.proofs.inside.Written.{name_word, number_word, label_lexeme, labels_writable, labels_written, plain_writable, plain_written}
 use Rattle.rv_real.proofs.inside.GatesBack.{closed_plain, few_controls, gates_back}

@@ -13,7 +13,7 @@ use Rattle.std.proofs.lemmas.Nat.Bits.{bit_at_cat_low}
 use borrow.Rule.Slice.PartMut.{post_of, put_mid}
 use Rattle.std.proofs.lemmas.Slice.{take-put_mid}
 use Rattle.rv_gate.specs.Word.{has, ones_of, word_with}
-use Rattle.rv_gate.specs.inside.WordLaws.{bit_of-word_with, length-word_with}
+use Rattle.rv_gate.specs.inside.laws.WordLaws.{bit_of-word_with, length-word_with}
 use Rattle.rv_gate.proofs.inside.Ones.{word_with-ones_of}
 use Rattle.rv_text.specs.Bytes.{bit_byte}
 

@@ -12,7 +12,7 @@ use Rattle.rv_gate.specs.declared.circuit.Mark.TheVariants.{Input, Zero, One}
 use Rattle.rv_gate.specs.Marks.{input_count, with_constants, without_garbage}
 use Rattle.rv_gate.proofs.Marks.{input_count-append, input_count-inputs, input_count-more, input_count-one, input_count-zero, length-with_constants, with_constants-inputs, without_garbage-append, without_garbage-outputs}
 use Rattle.rv_gate.specs.Word.{has, number_of, word_of}
-use Rattle.rv_gate.specs.inside.WordLaws.{bit_of-word_of, length-word_of, number_of-lt, word_of-number_of}
+use Rattle.rv_gate.specs.inside.laws.WordLaws.{bit_of-word_of, length-word_of, number_of-lt, word_of-number_of}
 use Rattle.rv_many.proofs.inside.Numbers.{NumberTo, number_more, number_of-next}
 use Rattle.rv_simulate.specs.Simulation.{answer_text, marks_asked}
 use Rattle.rv_text.specs.Bytes.{bit_byte, line_feed}

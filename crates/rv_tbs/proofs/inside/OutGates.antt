@@ -4,7 +4,7 @@ use Rattle.std.proofs.lemmas.Bool.{cases_lt}
 use Rattle.std.proofs.lemmas.Simd.{map-map}
 use Rattle.std.proofs.lemmas.List.{length-map, get_or-map, reverse-append}
 use Rattle.rv_gate.specs.Word.{number_of, word_of}
-use Rattle.rv_gate.specs.inside.WordLaws.{length-word_of, number_of-word_of_small, word_of-number_of}
+use Rattle.rv_gate.specs.inside.laws.WordLaws.{length-word_of, number_of-word_of_small, word_of-number_of}
 use Rattle.rv_gate.specs.declared.word.TheConstants.{MOST_LINES}
 use Rattle.rv_gate.specs.Gate.{act, run, act_on_number, run_on_number}
 use Rattle.rv_gate.specs.declared.gate.Shape.{Shape}

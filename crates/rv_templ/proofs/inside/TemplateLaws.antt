@@ -9,7 +9,7 @@ use Rattle.std.proofs.lemmas.Bool.{ltb-false, eqb-true, cond-true, cond-false, l
 use Rattle.std.proofs.lemmas.List.{length-take-le, map-append}
 use Rattle.std.proofs.Math.Nat.{pow-le-pow_right}
 use Rattle.rv_gate.specs.Word.{number_of, word_of}
-use Rattle.rv_gate.specs.inside.WordLaws.{word_of-number_of, number_of-lt}
+use Rattle.rv_gate.specs.inside.laws.WordLaws.{word_of-number_of, number_of-lt}
 use Rattle.rv_gate.specs.Gate.{run, is_flip, run_on_number}
 use Rattle.rv_gate.specs.Circuit.{Cascade, IsCascade}
 use Rattle.rv_gate.specs.declared.gate.Shape.{Shape}

@@ -1,7 +1,7 @@
 use Rattle.std.proofs.Common.{◌≡◌, ◌^◌, ◌∙◌, get_or, length, sym, ap, arith, subst}
 use Rattle.std.proofs.lemmas.List.Elements.{All-same}
 use Rattle.rv_gate.proofs.inside.GateLemmas.{length-run}
-use Rattle.rv_gate.specs.inside.WordLaws.{length-word_of}
+use Rattle.rv_gate.specs.inside.laws.WordLaws.{length-word_of}
 use Rattle.rv_net.specs.Op.{OpFitsIn}
 use Rattle.rv_check.proofs.checking.agrees_at.Goals as goal
 

@@ -3,7 +3,7 @@ use Rattle.std.proofs.lemmas.List.{take_all}
 use Rattle.std.proofs.lemmas.List.Elements.{All-same, All-set}
 use Rattle.std.proofs.Math.Pow.{pow_mono}
 use Rattle.rv_gate.specs.Word.{number_of}
-use Rattle.rv_gate.specs.inside.WordLaws.{number_of-lt}
+use Rattle.rv_gate.specs.inside.laws.WordLaws.{number_of-lt}
 use Rattle.rv_net.specs.Cyclotomic.{nought}
 use Rattle.rv_check.specs.inside.Small.{AreSmall}
 use Rattle.rv_check.specs.inside.Stands.{value_at}

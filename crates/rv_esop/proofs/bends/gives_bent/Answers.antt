@@ -1,6 +1,6 @@
 use Rattle.std.proofs.Common.{◌≡◌, ◌<◌, ◌*◌, ◌%◌, ◌^◌, length, ap, ◌∙◌, arith}
 use Rattle.std.proofs.lemmas.Nat.{one_shl, pow_below}
-use Rattle.rv_gate.specs.inside.WordLaws.{length-word_of, number_of-lt}
+use Rattle.rv_gate.specs.inside.laws.WordLaws.{length-word_of, number_of-lt}
 use Rattle.rv_gate.proofs.inside.GateLemmas.{length-act}
 use Rattle.rv_esop.proofs.inside.BentWords.{bend_fits, bent_by_number}
 use Rattle.rv_esop.proofs.bends.gives_bent.Goals as goal

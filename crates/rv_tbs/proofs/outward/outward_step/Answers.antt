@@ -1,5 +1,5 @@
 use Rattle.std.proofs.Common.{◌≡◌, length, vec_len, ap, sym, ◌∙◌, arith, rules}
-use Rattle.rv_gate.specs.inside.WordLaws.{length-word_of}
+use Rattle.rv_gate.specs.inside.laws.WordLaws.{length-word_of}
 use Rattle.rv_gate.specs.Word.{word_of}
 use Rattle.rv_tbs.proofs.inside.Loops.{added, flips_at, turned_all}
 use Rattle.rv_tbs.proofs.outward.outward_step.Goals as goal

@@ -1,5 +1,5 @@
 use Rattle.std.proofs.Common.{ap, ◌∙◌, arith, length}
-use Rattle.rv_gate.specs.inside.WordLaws.{length-word_of}
+use Rattle.rv_gate.specs.inside.laws.WordLaws.{length-word_of}
 use Rattle.rv_gate.proofs.inside.GateLemmas.{length-run}
 use Rattle.rv_templ.proofs.inside.TemplateLaws.{number-small}
 use Rattle.rv_templ.proofs.library.image.Goals as goal

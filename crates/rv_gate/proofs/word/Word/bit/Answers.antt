@@ -1,7 +1,7 @@
 use Rattle.std.proofs.Common.{sym, ◌∙◌, ap, eqb, arith}
 use Rattle.std.proofs.lemmas.Nat.Bits.{shr_and_one}
 use Rattle.rv_gate.specs.Word.{bit_of}
-use Rattle.rv_gate.specs.inside.WordLaws.{bit_of-word_with}
+use Rattle.rv_gate.specs.inside.laws.WordLaws.{bit_of-word_with}
 use Rattle.rv_gate.proofs.inside.WordLemmas.{length_seen}
 use Rattle.rv_gate.proofs.word.Word.bit.Goals as goal
 

@@ -1,4 +1,4 @@
-use Rattle.rv_gate.specs.inside.WordLaws.{word_with-mirrored}
+use Rattle.rv_gate.specs.inside.laws.WordLaws.{word_with-mirrored}
 use Rattle.rv_gate.proofs.word.Word.new.Goals as goal
 
 pub returns : goal.returns

@@ -1,6 +1,6 @@
 use Rattle.std.proofs.Common.{sym, ◌∙◌, ap}
 use Rattle.rv_gate.specs.Word.{number_of}
-use Rattle.rv_gate.specs.inside.WordLaws.{number_of-word_of_small, word_with-mirrored}
+use Rattle.rv_gate.specs.inside.laws.WordLaws.{number_of-word_of_small, word_with-mirrored}
 use Rattle.rv_gate.proofs.inside.Mirrors.{mirrored_back}
 use Rattle.rv_gate.proofs.word.Word.number.Goals as goal
 

@@ -1,7 +1,7 @@
 use Rattle.std.proofs.Common.{◌≡◌, ◌<◌, ◌∙◌, Some, ap, length, sym, arith}
 use Rattle.rv_gate.specs.Gate.{run}
 use Rattle.rv_gate.specs.Marks.{input_count, with_constants}
-use Rattle.rv_gate.specs.inside.WordLaws.{length-word_of}
+use Rattle.rv_gate.specs.inside.laws.WordLaws.{length-word_of}
 use Rattle.rv_gate.proofs.Marks.{length-with_constants}
 use Rattle.rv_simulate.specs.Simulation.{answer_text, marks_asked}
 use Rattle.rv_simulate.specs.inside.WordLine.{WordLine}

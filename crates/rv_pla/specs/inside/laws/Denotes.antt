@@ -11,7 +11,7 @@ use Rattle.rv_text.specs.Lines.{lines_of}
 use Rattle.rv_text.specs.Tokens.{Lexeme, joined}
 use Rattle.rv_text.specs.declared.fault.TextFault.{TextFault}
 use Rattle.rv_text.proofs.FirstFound.{before_first-cons}
-use Rattle.rv_reader.specs.inside.GivenLaws.{option_or-none, first_given-more, not_both, no_directive}
+use Rattle.rv_reader.specs.inside.laws.GivenLaws.{option_or-none, first_given-more, not_both, no_directive}
 use Rattle.rv_reader.specs.Rules.{◌>>=◌, broken, on_line, lines_read, with_count, whole_of}
 use Rattle.rv_reader.specs.Feeding.{faulted, text_as, object_of}
 use Rattle.rv_pla.specs.declared.fault.PlaFault.TheVariants as faults

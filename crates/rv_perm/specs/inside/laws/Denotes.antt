@@ -14,7 +14,7 @@ use Rattle.rv_text.specs.Lines.{lines_of}
 use Rattle.rv_text.specs.Tokens.{Lexeme, tokens_of, joined}
 use Rattle.rv_text.specs.declared.fault.TextFault.{TextFault}
 use Rattle.rv_marks.specs.Row.{marks_of, constant_of, garbage_of}
-use Rattle.rv_reader.specs.inside.GivenLaws.{option_or-none, option_or-after, not_both, no_directive}
+use Rattle.rv_reader.specs.inside.laws.GivenLaws.{option_or-none, option_or-after, not_both, no_directive}
 use Rattle.rv_reader.specs.Rules.{◌>>=◌, broken, found_or, on_line, lines_read, with_count, whole_of}
 use Rattle.rv_reader.specs.Feeding.{faulted, text_as, object_of}
 use Rattle.rv_perm.specs.declared.code.TheConstants as code
@@ -30,7 +30,7 @@ use Rattle.rv_reader.specs.FirstFault.{first_fault, unless_text, unless_fault}
 use Rattle.rv_perm.specs.inside.State.{Given, nothing_given, with_number}
 use Rattle.rv_perm.specs.declared.perm.TheConstants.{MOST_NUMBERS}
 use Rattle.rv_perm.specs.inside.Steps.{row_given, constants_given, garbage_given, directive_given, numbers_given, line_by, line_given, line_rules, row_checked, marks_or, with_marks, end_on, end_given, as_fault}
-use Rattle.rv_perm.specs.inside.Kept.{kept, kept-none, kept-more, lines_for-few, images_checked-kept}
+use Rattle.rv_perm.specs.inside.laws.Kept.{kept, kept-none, kept-more, lines_for-few, images_checked-kept}
 
 -- ---- what stands first
 

@@ -8,7 +8,7 @@ use Rattle.std.proofs.lemmas.Slice.Eq.{bytes_eq-Decides}
 use Rattle.rv_text.specs.Bytes.{begins_with_dot}
 use Rattle.rv_text.specs.Tokens.{Lexeme, joined}
 use Rattle.rv_marks.specs.Row.{marks_of, constant_of, garbage_of}
-use Rattle.rv_reader.specs.inside.GivenLaws.{option_or-none, first_given-more}
+use Rattle.rv_reader.specs.inside.laws.GivenLaws.{option_or-none, first_given-more}
 use Rattle.rv_reader.specs.Rules.{◌>>=◌, broken, found_or}
 use Rattle.rv_real.specs.declared.code.TheConstants as code
 use Rattle.rv_real.specs.Header.{line_count, variable_names, labels_of, on_directive, numvars_in, names_in, input_labels_in, output_labels_in, constants_in, garbage_in, numvars_fault, entries_fault, each_fault, row_fault, begin_fault, is_refused, named_fault}

@@ -31,7 +31,7 @@ use Rattle.rv_real.specs.Reading.{token_lines, begins_with, header_in, is_begun,
 use Rattle.rv_real.specs.inside.Directives.{Header, no_directives}
 use Rattle.rv_real.specs.inside.BodySteps.{with_gate}
 use Rattle.rv_real.specs.inside.State.{in_header, in_body, after_end, header_line, body_line, line_in, line_of, line_rules, end_in, end_of, as_fault}
-use Rattle.rv_real.specs.inside.HeaderLines.{step_of, given_in, given_after, given_more, given_same, directive_step, begin_step}
+use Rattle.rv_real.specs.inside.laws.HeaderLines.{step_of, given_in, given_after, given_more, given_same, directive_step, begin_step}
 
 -- ---- the parts of a text with one line more
 

@@ -1,0 +1,2 @@
+-- Laws that the code cites, which takes nothing from the proofs of its own crate.
+pub mod RowLaws
