@@ -7,7 +7,7 @@ use Rattle.rv_gate.specs.Gate.{same}
 use Rattle.rv_blif.specs.Logic.{Logic, Node, any_holds, node_value, values, with_nodes, AreNodes, IsLogic, IsNode}
 
 -- what stands before nodes stays
-stable : (nodes : List Node) (bits : List Bool) (i : ℕ) → i < length bits → bit_of (with_nodes nodes bits) i ≡ bit_of bits i
+pub stable : (nodes : List Node) (bits : List Bool) (i : ℕ) → i < length bits → bit_of (with_nodes nodes bits) i ≡ bit_of bits i
 stable [] bits i lt = refl
 stable (node ∷ nodes) bits i lt =
     let value = node_value node bits in

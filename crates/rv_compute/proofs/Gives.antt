@@ -6,7 +6,7 @@ use Rattle.rv_gate.specs.Gate.{run, xor}
 use Rattle.rv_gate.specs.Circuit.{Cascade}
 use Rattle.rv_gate.specs.Marks.{with_constants, without_garbage}
 use Rattle.rv_gate.specs.declared.circuit.Mark.TheVariants.{Input, Zero}
-use Rattle.rv_gate.proofs.Marks.{input_count-inputs, with_constants-append, with_constants-inputs, with_constants-zeros, without_garbage-append, without_garbage-outputs, without_garbage-all}
+use Rattle.rv_gate.proofs.Marks.{input_count-inputs, with_constants-append, with_constants-inputs, with_constants-zeros, without_garbage-append, without_garbage-outputs, without_garbage-all, with_constants-filled}
 use Rattle.rv_blif.specs.Logic.{Logic, outputs_of}
 use Rattle.rv_compute.specs.Computed.{xor_each, IsComputed, IsComputedWithin, Gives}
 use Rattle.rv_compute.proofs.inside.Ends.{length-outputs_of, length-xor_each}
@@ -19,15 +19,6 @@ xor_zeros (b ∷ outs) = ap (λ c. c ∷ xor_each (replicate (length outs) false
     none : (b : Bool) → xor false b ≡ b
     none true = refl
     none false = refl
-
-put : (n rest : ℕ) (x : List Bool) → length x ≡ n
-    → with_constants (replicate n Input ++ replicate rest Zero) x ≡ x ++ replicate rest false
-put n rest x len =
-    ap (with_constants (replicate n Input ++ replicate rest Zero)) (sym (append-nil x))
-    ∙ with_constants-append (replicate n Input) (replicate rest Zero) x [] (len ∙ sym (input_count-inputs n))
-    ∙ ap (λ k. with_constants (replicate k Input) x ++ with_constants (replicate rest Zero) []) (sym len)
-    ∙ ap (λ w. w ++ with_constants (replicate rest Zero) []) (with_constants-inputs x)
-    ∙ ap (λ w. x ++ w) (with_constants-zeros rest [])
 
 left : (n o w : ℕ) (x y z : List Bool) → length x ≡ n → length y ≡ o → length z ≡ w
     → without_garbage (replicate n true ++ (replicate o false ++ replicate w true)) ((x ++ y) ++ z) ≡ y
@@ -54,7 +45,7 @@ gives logic c h x lx =
     let changed : List Bool = xor_each zeros outs in
     ap (λ (t : Cascade). without_garbage t.garbage (run c.gates (with_constants t.constants x))) h.lines
     ∙ ap (λ v. without_garbage (replicate n true ++ (replicate o false ++ replicate w true)) (run c.gates v))
-    (put n (o + w) x lx
+    (with_constants-filled n (o + w) x lx
     ∙ ap (λ v. x ++ v) (sym (replicate-append-replicate o w false))
     ∙ sym (append_assoc x zeros (replicate w false)))
     ∙ ap (without_garbage (replicate n true ++ (replicate o false ++ replicate w true))) (h.adds x zeros lx lz)

@@ -18,6 +18,8 @@ use Rattle.rv_cube.specs.declared.step.Step.TheVariants.{Merge as MergeStep, Exo
 use Rattle.rv_cube.specs.ReductionFor.{IsSettledFor, dropped, dropping, first_drop, first_step_for, free_where, is_idle}
 use Rattle.rv_cube.specs.Settled.{AreAdjacent, ArePlaces, DifferInOne, DifferInTwo, HaveOneInputPart, IsIdle, IsIrreducible, IsIrreducibleFor, LeadsOn, Merge}
 use Rattle.rv_cube.proofs.inside.Differing.{differ_not, differing_as, differing_only, differs-true, both_from, both_other, both_back}
+use Rattle.rv_gate.proofs.Options.{unmapped}
+use Rattle.rv_cube.proofs.Searches.{cond_none}
 
 -- ---- in which inputs two cubes differ
 
@@ -110,10 +112,6 @@ module _ (n : ℕ) (cubes : List Cube) (test : Cube → Cube → Bool) (none : f
     | inr ba ↦ fails (test (at cubes b) (at cubes a)) (MergeStep b a) back (none_pair (merge_at test cubes) cubes b a none ba places.first)
   ]
 
-unmapped : {A B : Type 0} (f : A → B) (o : Option A) → option_map f o ≡ None → o ≡ None
-unmapped f None none = refl
-unmapped f (Some x) none = absurd (none-some (f x) (sym none))
-
 pub irreducible : (n : ℕ) (cubes : List Cube) → IsSettled n cubes → IsIrreducible n cubes
 unfolding found_step
 irreducible n cubes settled =
@@ -169,10 +167,6 @@ merge-from n x y holds = elim (cases_Bool (have_same_inputs n x y)) [
   | inr other ↦ inr (adjacent-from n x y (ap (λ t. t || are_adjacent n x y) (sym other) ∙ holds))
 ]
 
--- a test that fails gives nothing
-gives-none : {A : Type 0} (test : Bool) (o : Option A) → (test ≡ true → o ≡ None) → cond test o None ≡ None
-gives-none test o h = grind arith
-
 all_none : {A : Type 0} (f : ℕ → ℕ → Option A) (cubes : List Cube) → ((a b : ℕ) → a < b → b < length cubes → f a b ≡ None) → first_pair f cubes ≡ None
 all_none f cubes none = grind (arith, none_first)
 
@@ -184,7 +178,7 @@ module _ (n : ℕ) (cubes : List Cube) (free : IsIrreducible n cubes) where
       → ((c : ℕ) → c < length cubes → c ≢ a → c ≢ b → Merge n cube (at cubes c) → ⊥) → with_partner n cubes a b x y place cube ≡ None
   no_partner a b x y place cube alone =
       none_first (partner_at n cubes a b x y place cube) 0 (length cubes) (λ c lc uc.
-      gives-none (not (eqb c a) && not (eqb c b) && can_merge n cube (at cubes c)) (Some (Exorlink a b x y place c)) (λ holds.
+      cond_none (not (eqb c a) && not (eqb c b) && can_merge n cube (at cubes c)) (Some (Exorlink a b x y place c)) (λ holds.
       let parts = and_parts (not (eqb c a) && not (eqb c b)) (can_merge n cube (at cubes c)) holds in
       let others = and_parts (not (eqb c a)) (not (eqb c b)) parts.0 in
       let na : c ≢ a = eqb-false c a (not-true (eqb c a) others.0) in
@@ -197,7 +191,7 @@ module _ (n : ℕ) (cubes : List Cube) (free : IsIrreducible n cubes) where
 
   no_exorlink : (a b : ℕ) → a < b → b < length cubes → exorlink_at n cubes a b ≡ None
   no_exorlink a b ab within =
-      gives-none (eqb (at cubes a).outs (at cubes b).outs) (exorlink_at_by (differing n (at cubes a) (at cubes b)) n cubes a b)
+      cond_none (eqb (at cubes a).outs (at cubes b).outs) (exorlink_at_by (differing n (at cubes a) (at cubes b)) n cubes a b)
       (λ same. by (differing n (at cubes a) (at cubes b)) refl (eqb-true (at cubes a).outs (at cubes b).outs same))
     where
       by : (inputs : List ℕ) → differing n (at cubes a) (at cubes b) ≡ inputs → (at cubes a).outs ≡ (at cubes b).outs → exorlink_at_by inputs n cubes a b ≡ None
@@ -225,10 +219,10 @@ module _ (n : ℕ) (cubes : List Cube) (free : IsIrreducible n cubes) where
       ap (option_map (changed n cubes))
       (ap (λ o. option_or o (option_or (first_merge (are_adjacent n) cubes) (first_exorlink n cubes)))
       (all_none (merge_at (have_same_inputs n) cubes) cubes (λ a b ab within.
-      gives-none (have_same_inputs n (at cubes a) (at cubes b)) (Some (MergeStep a b))
+      cond_none (have_same_inputs n (at cubes a) (at cubes b)) (Some (MergeStep a b))
       (λ same. absurd (free.apart a b (places-of a b ab within) (same-from n (at cubes a) (at cubes b) (differing n (at cubes a) (at cubes b)) refl same)))))
       ∙ ap (λ o. option_or o (first_exorlink n cubes))
       (all_none (merge_at (are_adjacent n) cubes) cubes (λ a b ab within.
-      gives-none (are_adjacent n (at cubes a) (at cubes b)) (Some (MergeStep a b))
+      cond_none (are_adjacent n (at cubes a) (at cubes b)) (Some (MergeStep a b))
       (λ adjacent. absurd (free.unmerged a b (places-of a b ab within) (adjacent-from n (at cubes a) (at cubes b) adjacent)))))
       ∙ all_none (exorlink_at n cubes) cubes no_exorlink)

@@ -65,9 +65,6 @@ first_is f k (suc m) x e = first_is_or f k m x (f k) refl e (first_is f (k + 1) 
 pub passes_some : (t : Bool) (x y : ℕ) → cond t (Some x) None ≡ Some y → t ≡ true
 passes_some t x y h = grind arith
 
-pub passes_none : (t : Bool) (x : ℕ) → cond t (Some x) None ≡ None → t ≡ false
-passes_none t x h = grind arith
-
 pub first_found : {A : Type 0} (f : ℕ → Option A) (k m a : ℕ) (x : A) → k ≤ a → a < k + m → f a ≡ Some x
     → ((i : ℕ) → k ≤ i → i < a → f i ≡ None) → first f k m ≡ Some x
 unfolding first

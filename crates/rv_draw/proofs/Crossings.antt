@@ -16,11 +16,7 @@ use Rattle.rv_draw.specs.Reading.{is_right, is_touched}
 use Rattle.rv_draw.specs.Symbols.{IsCrossed, is_between, symbol_on}
 use Rattle.rv_draw.proofs.Passing.{IsPassed, between_passed, passed_between}
 use Rattle.rv_draw.proofs.SymbolKinds.{peres_right, peres_touched, right_kind, touched_kind}
-use Rattle.rv_gate.proofs.Bits.{or_assoc}
-
-below_power : (n : ℕ) → n < 2 ^ n
-below_power zero = omega arith
-below_power (suc n) = omega (arith, below_power n, pow-suc 2 n)
+use Rattle.rv_gate.proofs.Bits.{or_assoc, below_power}
 
 -- the lines on which a gate draws more than a wire or a crossing are those that it touches
 pub touched_drawn : (gate : Shape) (line : ℕ) → is_touched (symbol_on gate line) ≡ touches gate line

@@ -18,6 +18,7 @@ use Rattle.rv_draw.specs.Symbols.{is_between, line_set, op_symbol_on, pair_on}
 use Rattle.rv_draw.proofs.Places.{all_right, lines_with_back, places_none, places_one, places_two}
 use Rattle.rv_draw.proofs.SymbolKinds.{right_kind, touched_kind}
 use Rattle.rv_draw.proofs.inside.ReadBack.{AreRead}
+use Rattle.rv_gate.proofs.Bits.{or_same, or_comm}
 
 -- ---- the marks of a column
 
@@ -61,12 +62,6 @@ two_sorted f set a b n x y is two less lt at_a at_b =
     ∙ ap (λ (s : Symbol). op_of_marks ((a, s) ∷ (b, f b) ∷ [])) at_a
     ∙ ap (λ (s : Symbol). op_of_marks ((a, x) ∷ (b, s) ∷ [])) at_b
 
-or_swap : (x y : Bool) → (x || y) ≡ (y || x)
-or_swap true true = refl
-or_swap true false = refl
-or_swap false true = refl
-or_swap false false = refl
-
 two_shown : (f : ℕ → Symbol) (set a b n : ℕ) (x y : Symbol) → Touches f set n → ((i : ℕ) → has set i ≡ (nat_eq i a || nat_eq i b)) → a ≢ b → a < n → b < n → f a ≡ x → f b ≡ y
     → op_of (map f (range_with_len 0 n)) ≡ cond (nat_lt a b) (op_of_marks ((a, x) ∷ (b, y) ∷ [])) (op_of_marks ((b, y) ∷ (a, x) ∷ []))
 two_shown f set a b n x y is two apart lt_a lt_b at_a at_b =
@@ -74,7 +69,7 @@ two_shown f set a b n x y is two apart lt_a lt_b at_a at_b =
       | inl less ↦ rw (lt-ltb a b less) (two_sorted f set a b n x y is two less lt_b at_a at_b)
       | inr ge ↦
           (let more : b < a = omega (arith, apart) in
-          rw (le-ltb a b ge) (two_sorted f set b a n y x is (λ i. two i ∙ or_swap (nat_eq i a) (nat_eq i b)) more lt_a at_b at_a))
+          rw (le-ltb a b ge) (two_sorted f set b a n y x is (λ i. two i ∙ or_comm (nat_eq i a) (nat_eq i b)) more lt_a at_b at_a))
     ]
 
 -- up to the first line that has the symbol
@@ -132,7 +127,7 @@ bools_first false false true = refl
 bools_first false false false = refl
 
 bools_last : (x y z : Bool) → (z || (x || y)) ≡ (x || (y || z))
-bools_last x y z = bools_first x y z ∙ ap (λ t. x || t) (or_swap z y)
+bools_last x y z = bools_first x y z ∙ ap (λ t. x || t) (or_comm z y)
 
 -- two lines with one symbol, the first above the second, and one line with another symbol
 pair_sorted : (f : ℕ → Symbol) (set a b c n : ℕ) (s t : Symbol) (op : Op) → Touches f set n → ((i : ℕ) → has set i ≡ (nat_eq i c || (nat_eq i a || nat_eq i b)))
@@ -185,10 +180,6 @@ own_second own a b care = elim (cases_Bool (nat_eq b a)) [ inl same ↦ rw same 
 
 positive_at : (own : Symbol) (a b care c : ℕ) → c ≢ a → c ≢ b → has care c ≡ true → pair_on own a b care c ≡ symbols.Positive
 positive_at own a b care c ca cb on = rw (ne_eqb c a ca, ne_eqb c b cb, on) refl
-
-or_same : (x : Bool) → (x || x) ≡ x
-or_same true = refl
-or_same false = refl
 
 ne_from_lt : (n i q : ℕ) → q < n → n ≤ i → nat_eq i q ≡ false
 ne_from_lt n i q lt le = ne_eqb i q (λ e. omega (arith, e, lt, le))
@@ -246,7 +237,7 @@ ccx_back a b c n few lt_a lt_b lt_c ab ac bc =
     λ i. has-or (line_set a) (line_set b) i ∙ ap (λ (t : Bool). t || has (line_set b) i) (has-line_set a i below_a) ∙ ap (λ (t : Bool). nat_eq i a || t) (has-line_set b i below_b) in
     let three : (i : ℕ) → has set i ≡ (nat_eq i c || (nat_eq i a || nat_eq i b)) =
     λ i. has-pair c c care i below_c below_c ∙ ap (λ (t : Bool). t || (nat_eq i c || nat_eq i c)) (cares i) ∙ ap (λ (t : Bool). (nat_eq i a || nat_eq i b) || t) (or_same (nat_eq i c))
-    ∙ or_swap (nat_eq i a || nat_eq i b) (nat_eq i c) in
+    ∙ or_comm (nat_eq i a || nat_eq i b) (nat_eq i c) in
     let touches : Touches f set n =
     pair_touches symbols.Target c c care n refl (λ p. refl) below_c below_c (λ i le. three i ∙ rw (ne_from_lt n i a lt_a le, ne_from_lt n i b lt_b le, ne_from_lt n i c lt_c le) refl) in
     let at_a : f a ≡ symbols.Positive = positive_at symbols.Target c c care a ac ac (cares a ∙ rw (eq-eqb a a refl) refl) in
@@ -258,7 +249,7 @@ ccx_back a b c n few lt_a lt_b lt_c ab ac bc =
       | inr ge ↦
           (let more : b < a = omega (arith, ge, ab) in
           rw (le-ltb a b ge) (
-          pair_sorted f set b a c n symbols.Positive symbols.Target (Ccx b a c) touches (λ i. three i ∙ ap (λ (t : Bool). nat_eq i c || t) (or_swap (nat_eq i a) (nat_eq i b))) more
+          pair_sorted f set b a c n symbols.Positive symbols.Target (Ccx b a c) touches (λ i. three i ∙ ap (λ (t : Bool). nat_eq i c || t) (or_comm (nat_eq i a) (nat_eq i b))) more
           (λ e. bc (sym e)) (λ e. ac (sym e)) lt_a lt_c at_b at_a at_c refl refl refl
           ))
     ]
@@ -285,7 +276,7 @@ cswap_back c a b n few lt_c lt_a lt_b ca cb ab =
       | inr ge ↦
           (let more : b < a = omega (arith, ge, ab) in
           rw (le-ltb a b ge) (
-          pair_sorted f set b a c n symbols.Exchanged symbols.Positive (Cswap c b a) touches (λ i. three i ∙ ap (λ (t : Bool). nat_eq i c || t) (or_swap (nat_eq i a) (nat_eq i b))) more cb ca lt_a
+          pair_sorted f set b a c n symbols.Exchanged symbols.Positive (Cswap c b a) touches (λ i. three i ∙ ap (λ (t : Bool). nat_eq i c || t) (or_comm (nat_eq i a) (nat_eq i b))) more cb ca lt_a
           lt_c at_b at_a at_c refl refl refl
           ))
     ]

@@ -15,7 +15,7 @@ use Rattle.rv_draw.specs.Symbols.{glyph}
 use Rattle.rv_gate.specs.Circuit.{Cascade}
 use Rattle.rv_draw.specs.Drawing.{width, widest, block_rows, block_count, text_with}
 
-widest-push : (labels : List (List ℕ)) (label : List ℕ) → widest (labels ++ label ∷ []) ≡ max (widest labels) (width label)
+pub widest-push : (labels : List (List ℕ)) (label : List ℕ) → widest (labels ++ label ∷ []) ≡ max (widest labels) (width label)
 widest-push [] label = omega arith
 widest-push (first ∷ labels) label = (let rest = widest-push labels label in omega (arith, rest))
 

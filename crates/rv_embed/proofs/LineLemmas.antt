@@ -7,6 +7,7 @@ use Rattle.std.proofs.lemmas.Bool.{cases_lt, false≢true, le-ltb, ltb-false, no
 use Rattle.std.proofs.Math.Nat.{pow-suc}
 use Rattle.rv_embed.specs.LeastBelow.{least_below}
 use Rattle.rv_embed.specs.Embedding.{least_power}
+use Rattle.rv_gate.proofs.Bits.{below_power}
 
 -- ---- the least number that passes
 
@@ -30,10 +31,6 @@ least_below-least p n g on =
     ]
 
 -- ---- the least power
-
-below_power : (m : ℕ) → m < 2 ^ m
-below_power zero = omega arith
-below_power (suc m) = let p = pow-suc 2 m in let h = below_power m in omega arith
 
 is_enough : (m g : ℕ) → m ≤ 2 ^ g → not (ltb (2 ^ g) m) ≡ true
 is_enough m g h = ap not (le-ltb (2 ^ g) m h)

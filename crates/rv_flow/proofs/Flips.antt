@@ -16,19 +16,7 @@ use Rattle.rv_templ.specs.Pairs.{apart_on, after_gates, lone, pair_step, paired,
 use Rattle.rv_templ.specs.Simplified.{after_steps, again, simplified, step, window_step}
 use Rattle.rv_templ.proofs.Options.{after_some, map_some, or_some}
 use Rattle.rv_templ.proofs.WindowLaws.{flips_image}
-
-append : (xs ys : List Shape) → Flips xs → Flips ys → Flips (xs ++ ys)
-append [] ys f g = g
-append (x ∷ xs) ys f g = (f.0, append xs ys f.1 g)
-
-dropped : (k : ℕ) (xs : List Shape) → Flips xs → Flips (drop k xs)
-dropped zero xs f = f
-dropped (suc k) [] f = tt
-dropped (suc k) (x ∷ xs) f = dropped k xs f.1
-
-reversed : (xs : List Shape) → Flips xs → Flips (reverse xs)
-reversed [] f = tt
-reversed (x ∷ xs) f = subst (λ (l : List Shape). Flips l) (sym (reverse-append (x ∷ []) xs)) (append (reverse xs) (x ∷ []) (reversed xs f.1) (f.0, tt))
+use Rattle.rv_gate.proofs.Every.{every_append, every_drop, every_reverse}
 
 -- ---- pairs
 
@@ -65,7 +53,7 @@ of_partner g (h ∷ rest) made flip flips is =
       | inl here ↦
           let l = after_some [] _ made here in
           let m = map_some (λ m. m ++ rest) (paired g h) l.0 l.1 in
-          subst (λ (x : List Shape). Flips x) (m.2 ∙ l.2) (append m.0 rest (of_pair g h m.0 flip m.1) flips.1)
+          subst (λ (x : List Shape). Flips x) (m.2 ∙ l.2) (every_append IsFlip m.0 rest (of_pair g h m.0 flip m.1) flips.1)
       | inr later ↦
           let l = after_some (h ∷ []) (partner g rest) made (where_met (rule g h) _ made later) in
           subst (λ (x : List Shape). Flips x) l.2 (flips.0, of_partner g rest l.0 flip flips.1 l.1)
@@ -90,9 +78,9 @@ of_window gates library found flips =
     let template : List Shape = turned found.turn (template_in library found.template) in
     let care : ℕ = fresh_care window (span template) found.lines in
     let want : ℕ = fresh_want window (span template) found.lines in
-    append (reverse (others (length window) template found.lines care want)) (drop found.count gates)
-    (reversed (others (length window) template found.lines care want) (flips_image found.lines care want (drop (length window) template)))
-    (dropped found.count gates flips)
+    every_append IsFlip (reverse (others (length window) template found.lines care want)) (drop found.count gates)
+    (every_reverse IsFlip (others (length window) template found.lines care want) (flips_image found.lines care want (drop (length window) template)))
+    (every_drop IsFlip found.count gates flips)
 
 of_window_step : (library : List (List Shape)) (gates made : List Shape) → Flips gates → window_step library gates ≡ Some made → Flips made
 unfolding window_step

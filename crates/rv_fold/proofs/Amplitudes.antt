@@ -12,7 +12,8 @@ use Rattle.rv_fold.specs.Folded.{phase_gate, phase_ops, exponent_of, PhaseGate}
 use Rattle.rv_fold.proofs.Values.{Holds, value, holds-next, holds-start, length-next, value-held}
 use Rattle.rv_fold.proofs.Restarts.{restarts_least}
 use Rattle.rv_fold.proofs.Turning.{step-next, step-turn, turns_add, turns_mod, no_turn, below_eight, phases-step}
-use Rattle.rv_fold.proofs.Walking.{Seen, not_seen, only, none, joined, survivors, restarts, owed, walked, exponents, total, kind, owed-none, owed-some, owed-joined, owed-same, owed-worthless, owed-nothing, walked-none, walked-seen, walked-new, same_parity-eq, each_gate, phase_fits}
+use Rattle.rv_fold.proofs.Walking.{Seen, not_seen, only, none, joined, survivors, restarts, owed, walked, exponents, total, owed-none, owed-some, owed-joined, owed-same, owed-worthless, owed-nothing, walked-none, walked-seen, walked-new, same_parity-eq, each_gate, phase_fits}
+use Rattle.rv_gate.proofs.Options.{option_cases}
 
 pub phase-step : (o : Op) (p : PhaseGate) → phase_gate o ≡ Some p → (k : Word → Cyclotomic) (x : Word) → step o k x ≡ times_w_power (cond (bit x p.line) p.exponent 0) (k x)
 phase-step o p e k x =
@@ -50,7 +51,7 @@ module _ (n : ℕ) where
   unfolding owed walked through
   walked-law [] seen parities k v x w e hold = sym (no_turn (k x))
   walked-law (o ∷ rest) seen parities k v x w e hold =
-      elim (kind (phase_gate o)) [
+      elim (option_cases (phase_gate o)) [
         | inl other ↦
             (let r = restarts n o parities in
             let s : Seen = survivors r seen in

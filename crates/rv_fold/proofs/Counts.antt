@@ -9,7 +9,8 @@ use Rattle.rv_net.specs.Op.{is_t}
 use Rattle.rv_fold.specs.Parities.{Parities, alone, parities_after}
 use Rattle.rv_fold.specs.Folded.{phase_gate, phase_ops, exponent_of, PhaseGate}
 use Rattle.rv_fold.proofs.Turning.{BelowEight, below_eight}
-use Rattle.rv_fold.proofs.Walking.{Seen, each_walk, not_seen, only, none, joined, survivors, restarts, owed, walked, exponents, total, kind, owed-none, owed-some, owed-joined, each_gate}
+use Rattle.rv_fold.proofs.Walking.{Seen, each_walk, not_seen, only, none, joined, survivors, restarts, owed, walked, exponents, total, owed-none, owed-some, owed-joined, each_gate}
+use Rattle.rv_gate.proofs.Options.{option_cases}
 
 -- the sum of the weights of operations
 unfoldable pub cost : (Op → ℕ) → List Op → ℕ
@@ -38,7 +39,7 @@ module _ (w : Op → ℕ) (spared : IsSpared w) (n : ℕ) where
   unfolding owed cost
   class_cost q seen parities [] = omega arith
   class_cost q seen parities (o ∷ rest) =
-      elim (kind (phase_gate o)) [
+      elim (option_cases (phase_gate o)) [
         | inl e ↦ rw (owed-none exponents n seen parities o rest e, owed-none (λ g o. w o) n seen parities o rest e) (class_cost q (survivors (restarts n o parities) seen) (parities_after n o parities) rest)
         | inr p ↦ rw (owed-some exponents n seen parities o rest p.0 p.1, owed-some (λ g o. w o) n seen parities o rest p.0 p.1) (one_more o p.0 p.1 (seen (parities p.0.line)) q _ _ (class_cost q seen parities rest))
       ]

@@ -10,7 +10,8 @@ use Rattle.rv_net.specs.declared.op.Op.{Op}
 use Rattle.rv_fold.specs.Parities.{alone, parities_after, are_apart, restart_set, same_parity, Parity}
 use Rattle.rv_fold.specs.Folded.{Kept, phase_gate, phase_ops, exponent_of, parities_at, restarted_at, phase_gate_at, parity_at, is_kept, has_parity, joins, joinable, IsEquivalence, sum_below, is_first, class_exponent, part, parts, folded, PhaseGate}
 use Rattle.rv_fold.proofs.Restarts.{apart_none, restart_none}
-use Rattle.rv_fold.proofs.Walking.{Seen, at_none, only, none, joined, survivors, restarts, owed, walked, exponents, total, kind, owed-none, owed-some, walked-none, walked-seen, walked-new, same_parity-eq, same_parity-refl, phase_after, phase_direct}
+use Rattle.rv_fold.proofs.Walking.{Seen, at_none, only, none, joined, survivors, restarts, owed, walked, exponents, total, owed-none, owed-some, walked-none, walked-seen, walked-new, same_parity-eq, same_parity-refl, phase_after, phase_direct}
+use Rattle.rv_gate.proofs.Options.{option_cases}
 
 -- ---- one operation at its place
 
@@ -72,7 +73,7 @@ module _ (n : ℕ) (ops : List Op) where
 
   pub joined_at : (i j : ℕ) → joinable n ops i j ≡ true → Joined i j
   joined_at i j h =
-      elim (kind (parity_at n ops i)) [
+      elim (option_cases (parity_at n ops i)) [
         | inl e ↦ absurd (false≢true (sym (ap (λ p. joins n ops p i j) e) ∙ h))
         | inr p ↦
             (let parts = and_parts _ _ (sym (ap (λ q. joins n ops q i j) p.1) ∙ h) in
@@ -252,7 +253,7 @@ module _ (n : ℕ) (ops : List Op) where
   tail_sum m f here [] p s lt is h = refl
   tail_sum m f here (o ∷ rest) p s lt is h =
       let at = rest_head p o rest is in
-      elim (kind (phase_gate o)) [
+      elim (option_cases (phase_gate o)) [
         | inl e ↦
             (let r = restarted_here n ops p o at in
             let zero_here : worth_from m p ≡ 0 = ap (λ c. cond (joinable n ops m p) (exponent_of c) 0) (phase_here n ops p o at ∙ e) ∙ at_none (joinable n ops m p) in
@@ -324,7 +325,7 @@ module _ (n : ℕ) (ops : List Op) where
   parts_walked (o ∷ rest) m seen is len h =
       let at = rest_head m o rest is in
       let parities = parities_at n ops m in
-      elim (kind (phase_gate o)) [
+      elim (option_cases (phase_gate o)) [
         | inl e ↦
             (ap₂ (λ a b. a ++ b) (part_none m o e) (parts_walked rest (suc m) (survivors (restarts n o parities) seen) (rest_tail m o rest is) (omega arith) (shows_restart m seen o at e h))
             ∙ ap (λ F. o ∷ walked n (survivors (restarts n o parities) seen) F rest) (parities_next n ops m o at)

@@ -10,7 +10,8 @@ use Rattle.rv_fold.specs.Folded.{Kept, PhaseGate, WritesClass, phase_gate, phase
 use Rattle.rv_fold.proofs.Joining.{Joined, IsRest, rest_head, rest_tail, parities_next, restarted_here, some_parity_here, no_parity_here, phase_parities_next}
 use Rattle.rv_fold.proofs.Settled.{lacks-walked, none_other}
 use Rattle.rv_fold.proofs.Turning.{BelowEight, below_eight}
-use Rattle.rv_fold.proofs.Walking.{Seen, each_walk, only, joined, survivors, restarts, walked, total, kind, same_parity-refl, Lacks}
+use Rattle.rv_fold.proofs.Walking.{Seen, each_walk, only, joined, survivors, restarts, walked, total, same_parity-refl, Lacks}
+use Rattle.rv_gate.proofs.Options.{option_cases}
 
 module _ (n : ℕ) where
   -- the rest lacks the parity of a phase gate, or has it once, in the T that ends the gate's class
@@ -62,7 +63,7 @@ module _ (n : ℕ) (ops : List Op) where
   never [] m s f on is h j le here kept = none-some f (sym (none_past m j is le) ∙ here)
   never (o ∷ rest) m s f on is h j le here kept =
       let at = rest_head n ops m o rest is in
-      elim (kind (phase_gate o)) [
+      elim (option_cases (phase_gate o)) [
         | inl e ↦
             elim (cases_eq j m) [
               | inl same ↦ none-some f (sym (no_parity_here n ops m o at e) ∙ ap (parity_at n ops) (sym same) ∙ here)
@@ -132,7 +133,7 @@ module _ (n : ℕ) (ops : List Op) where
       elim (cases_eq i m) [
         | inl here ↦
             (let there : Joined n ops m j = subst (λ k. Joined n ops k j) here g in
-            elim (kind (phase_gate o)) [
+            elim (option_cases (phase_gate o)) [
               | inl e ↦ absurd (none-some there.parity (sym (no_parity_here n ops m o at e) ∙ there.first))
               | inr p ↦ subst (λ k. WritesClass ops k j) (sym here) (closed m o rest is p.0 p.1 j (omega arith) there (h.0 p.0 p.1))
             ])

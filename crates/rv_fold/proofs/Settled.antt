@@ -7,7 +7,8 @@ use Rattle.rv_net.specs.declared.op.Op.TheVariants.{Z, S, Sdg, T, Tdg}
 use Rattle.rv_fold.specs.Parities.{Parities, parities_after, are_apart, Parity}
 use Rattle.rv_fold.specs.Folded.{phase_gate, phase_ops, PhaseGate}
 use Rattle.rv_fold.proofs.Turning.{BelowEight, is_0, is_1, is_2, is_3, is_4, is_5, is_6, is_7, below_eight}
-use Rattle.rv_fold.proofs.Walking.{Seen, each_walk, only, joined, survivors, restarts, walked, exponents, total, kind, owed-some, owed-lacks, walked-none, walked-seen, walked-new, same_parity-refl, distributes, Lacks}
+use Rattle.rv_fold.proofs.Walking.{Seen, each_walk, only, joined, survivors, restarts, walked, exponents, total, owed-some, owed-lacks, walked-none, walked-seen, walked-new, same_parity-refl, distributes, Lacks}
+use Rattle.rv_gate.proofs.Options.{option_cases}
 
 pub none_other : {A : Type 0} (o : Option PhaseGate) (p : PhaseGate) → o ≡ None → o ≡ Some p → A
 none_other o p e f = absurd (none-some p (sym e ∙ f))
@@ -53,7 +54,7 @@ module _ (n : ℕ) where
   unfolding walked Lacks
   walked-joined a seen parities [] h = refl
   walked-joined a seen parities (o ∷ rest) h =
-      elim (kind (phase_gate o)) [
+      elim (option_cases (phase_gate o)) [
         | inl e ↦
             (let r = restarts n o parities in
             walked-none n (joined a seen) parities o rest e

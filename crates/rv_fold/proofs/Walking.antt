@@ -8,17 +8,16 @@ use Rattle.rv_fold.specs.Parities.{Parities, parities_after, are_apart, direct, 
 use Rattle.rv_fold.specs.Folded.{phase_gate, phase_ops, exponent_of, PhaseGate}
 use Rattle.std.proofs.lemmas.Option.{same_Some, none-some}
 use Rattle.rv_net.specs.Op.{OpFitsIn}
+use Rattle.rv_gate.proofs.Options.{option_cases}
+use Rattle.rv_gate.proofs.Bits.{same_self}
 
 -- ---- parities that are the same
-
-same-bits : (a : Bool) → same a a ≡ true
-same-bits a = grind arith
 
 pub same_parity-eq : (f g : Parity) → same_parity f g ≡ true → f ≡ g
 same_parity-eq f g e = grind arith
 
 pub same_parity-refl : (f : Parity) → same_parity f f ≡ true
-same_parity-refl f = and_from _ _ (eq-eqb f.lines f.lines refl) (same-bits f.flipped)
+same_parity-refl f = and_from _ _ (eq-eqb f.lines f.lines refl) (same_self f.flipped)
 
 -- ---- the walk
 
@@ -92,11 +91,6 @@ module _ (n : ℕ) (seen : Seen) (parities : Parities) (o : Op) (rest : List Op)
   unfolding walked choose
   walked-new p e s = rw e (rw s refl)
 
--- nothing or something, as a phase or none
-pub kind : {A : Type 0} (o : Option A) → (o ≡ None) ⊎ ((x : A) × (o ≡ Some x))
-kind None = inl refl
-kind (Some x) = inr (x, refl)
-
 -- ---- induction on the walk: by the operation at its head, from the rest to the whole
 
 module _ (n : ℕ) (P : Seen → Parities → List Op → List Op → Type 0) where
@@ -115,7 +109,7 @@ module _ (n : ℕ) (P : Seen → Parities → List Op → List Op → Type 0) wh
   unfolding walked
   each_walk w seen parities [] = w.end seen parities
   each_walk w seen parities (o ∷ rest) =
-      elim (kind (phase_gate o)) [
+      elim (option_cases (phase_gate o)) [
         | inl e ↦ subst (P seen parities (o ∷ rest)) (sym (walked-none n seen parities o rest e)) (w.other seen parities o rest e (each_walk w (survivors (restarts n o parities) seen) (parities_after n o parities) rest))
         | inr p ↦
             (elim (cases_Bool (seen (parities p.0.line))) [
@@ -161,7 +155,7 @@ unfolding owed
 owed-joined worth n a b parities [] h = refl
 owed-joined worth n a b parities (o ∷ rest) h =
     let r = restarts n o parities in
-    elim (kind (phase_gate o)) [
+    elim (option_cases (phase_gate o)) [
       | inl e ↦
           (owed-none worth n (joined a b) parities o rest e
           ∙ (λ i. owed worth n (λ g. distributes (a g) (b g) (are_apart g.lines r) i) (parities_after n o parities) rest)
@@ -181,7 +175,7 @@ unfolding owed
 owed-same worth other n seen parities [] h = refl
 owed-same worth other n seen parities (o ∷ rest) h =
     let r = restarts n o parities in
-    elim (kind (phase_gate o)) [
+    elim (option_cases (phase_gate o)) [
       | inl e ↦
           (owed-none worth n seen parities o rest e
           ∙ owed-same worth other n (survivors r seen) (parities_after n o parities) rest (λ g q e'. h g q (and_parts _ _ e').0)
@@ -200,7 +194,7 @@ pub owed-worthless : (n : ℕ) (seen : Seen) (parities : Parities) (rest : List 
 unfolding owed
 owed-worthless n seen parities [] = refl
 owed-worthless n seen parities (o ∷ rest) =
-    elim (kind (phase_gate o)) [
+    elim (option_cases (phase_gate o)) [
       | inl e ↦ (owed-none (λ g o. 0) n seen parities o rest e ∙ owed-worthless n (survivors (restarts n o parities) seen) (parities_after n o parities) rest)
       | inr q ↦ (owed-some (λ g o. 0) n seen parities o rest q.0 q.1 ∙ ap₂ (λ u v. u + v) (at_none (seen (parities q.0.line))) (owed-worthless n seen parities rest))
     ]
@@ -220,7 +214,7 @@ pub owed-lacks : (worth : Parity → Op → ℕ) (n : ℕ) (seen : Seen) (pariti
 unfolding owed Lacks
 owed-lacks worth n seen parities [] h = refl
 owed-lacks worth n seen parities (o ∷ rest) h =
-    elim (kind (phase_gate o)) [
+    elim (option_cases (phase_gate o)) [
       | inl e ↦ (owed-none worth n seen parities o rest e ∙ owed-lacks worth n (survivors (restarts n o parities) seen) (parities_after n o parities) rest (h.0 e))
       | inr q ↦
           (owed-some worth n seen parities o rest q.0 q.1

@@ -1,6 +1,7 @@
 -- Laws of bits.
 use mir.Val.{bool_byte}
-use Rattle.std.proofs.Common.{◌≡◌, ℕ, ◌≤◌, Bool, true, false, not, cond, ◌&&◌, ◌||◌, eqb, refl, sym, arith, eq-eqb}
+use Rattle.std.proofs.Common.{◌≡◌, ℕ, zero, suc, ◌^◌, ◌<◌, ◌≤◌, Bool, true, false, not, cond, ◌&&◌, ◌||◌, eqb, refl, sym, arith, eq-eqb}
+use Rattle.std.proofs.Math.Nat.{pow-suc}
 use Rattle.rv_gate.specs.Gate.{same, xor}
 
 -- two bits that are implied by each other
@@ -14,6 +15,9 @@ same_true a b h = grind arith
 
 pub same_from : (a b : Bool) → a ≡ b → same a b ≡ true
 same_from a b h = grind arith
+
+pub same_self : (b : Bool) → same b b ≡ true
+same_self b = grind arith
 
 -- ---- not, and, or
 
@@ -43,6 +47,9 @@ or_comm x y = grind arith
 
 pub or_assoc : (x y z : Bool) → (x || (y || z)) ≡ ((x || y) || z)
 or_assoc x y z = grind arith
+
+pub or_same : (b : Bool) → (b || b) ≡ b
+or_same b = grind arith
 
 -- the second is off
 pub or_off : (x y : Bool) → y ≡ false → (x || y) ≡ x
@@ -91,3 +98,7 @@ bool_byte-flag b = grind arith
 
 pub bool_byte-le : (b : Bool) → bool_byte b ≤ 1
 bool_byte-le b = grind arith
+
+pub below_power : (n : ℕ) → n < 2 ^ n
+below_power zero = omega arith
+below_power (suc n) = omega (arith, below_power n, pow-suc 2 n)

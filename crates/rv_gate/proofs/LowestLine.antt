@@ -5,6 +5,7 @@ use Rattle.std.proofs.lemmas.Bool.{cases_eq, false≢true}
 use Rattle.std.proofs.lemmas.Nat.{and_le_l}
 use Rattle.std.proofs.lemmas.Nat.Bits.{bit_at-trailing_zeros, bit_at-zero, bit_at_clear_same, bit_at_clear_other}
 use Rattle.rv_gate.specs.Word.{has}
+use Rattle.rv_gate.proofs.LineSets.{has-none}
 
 -- a set without its lowest line
 pub record IsLowest (left line rest : ℕ) : Type 0 where
@@ -41,9 +42,6 @@ lowest_line left some small =
       fewer = fewer_lines left (trailing_zeros w64 left) is.0 there;
       same = λ k below other. ap (λ b. eqb b 1) (bit_at_clear_other w64 left (trailing_zeros w64 left) is.0 k below other);
     }
-
-pub none_left : (k : ℕ) → has 0 k ≡ false
-none_left k = ne_eqb _ 1 (λ e. let z = bit_at-zero k in omega arith)
 
 -- a line of the rest was there before
 pub still_there : (left line rest : ℕ) → IsLowest left line rest → (k : ℕ) → k < 64 → has rest k ≡ true → has left k ≡ true

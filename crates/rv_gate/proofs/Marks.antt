@@ -5,6 +5,7 @@ use Rattle.std.proofs.lemmas.List.Sums.{sum_by-append}
 use Rattle.rv_gate.specs.declared.circuit.Mark.{Mark}
 use Rattle.rv_gate.specs.declared.circuit.Mark.TheVariants.{Input, Zero, One}
 use Rattle.rv_gate.specs.Marks.{input_count, output_count, with_constants, without_garbage}
+use Rattle.std.proofs.lemmas.List.{append-nil}
 
 -- ---- how many lines take an input
 
@@ -139,3 +140,13 @@ without_garbage-both (false ∷ garbage) (a ∷ u) (b ∷ v) hu hv k l =
     let first : a ≡ b = cc in
     let rest : u ≡ v = without_garbage-both garbage u v (omega arith) (omega arith) (cc) l in
     cc
+
+-- zeros stand after the inputs
+pub with_constants-filled : (n rest : ℕ) (x : List Bool) → length x ≡ n
+    → with_constants (replicate n Input ++ replicate rest Zero) x ≡ x ++ replicate rest false
+with_constants-filled n rest x len =
+    ap (with_constants (replicate n Input ++ replicate rest Zero)) (sym (append-nil x))
+    ∙ with_constants-append (replicate n Input) (replicate rest Zero) x [] (len ∙ sym (input_count-inputs n))
+    ∙ ap (λ k. with_constants (replicate k Input) x ++ with_constants (replicate rest Zero) []) (sym len)
+    ∙ ap (λ w. w ++ with_constants (replicate rest Zero) []) (with_constants-inputs x)
+    ∙ ap (λ w. x ++ w) (with_constants-zeros rest [])

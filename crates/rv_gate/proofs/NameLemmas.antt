@@ -73,7 +73,7 @@ known name (key ∷ keys) (zero, lt, e) = rw ((bytes_eq-Decides name key.items).
 known name (key ∷ keys) (suc k, lt, e) =
     or_right (bytes_eq name key.items) (list_any (λ other. bytes_eq name other.items) keys) (known name keys (k, omega arith, e))
 
-prefix_len-map : {A B : Type 0} (f : A → B) (p : B → Bool) (xs : List A) → prefix_len p (map f xs) ≡ prefix_len (λ x. p (f x)) xs
+pub prefix_len-map : {A B : Type 0} (f : A → B) (p : B → Bool) (xs : List A) → prefix_len p (map f xs) ≡ prefix_len (λ x. p (f x)) xs
 prefix_len-map f p [] = refl
 prefix_len-map f p (x ∷ xs) =
     elim (p (f x)) as (λ t. cond t (1 + prefix_len p (map f xs)) 0 ≡ cond t (1 + prefix_len (λ x. p (f x)) xs) 0) [
@@ -81,7 +81,7 @@ prefix_len-map f p (x ∷ xs) =
       | false ↦ refl
     ]
 
-position-map : {A B : Type 0} (f : A → B) (p : B → Bool) (xs : List A) → position p (map f xs) ≡ position (λ x. p (f x)) xs
+pub position-map : {A B : Type 0} (f : A → B) (p : B → Bool) (xs : List A) → position p (map f xs) ≡ position (λ x. p (f x)) xs
 position-map f p xs = rw (prefix_len-map f (λ y. not (p y)) xs, length-map xs f) refl
 
 -- none of the names before a line has its name

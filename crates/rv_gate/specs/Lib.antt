@@ -1,3 +1,4 @@
+pub mod Every
 pub mod Word
 pub mod Gate
 pub mod Commuting

@@ -8,7 +8,7 @@ use Rattle.rv_io.specs.Sink.{SinkView}
 use Rattle.rv_io.specs.Writer.{Writer, Adds}
 use Rattle.rv_io.proofs.Adding.{adds_then, adds_as}
 
-flat_map-more : {X : Type 0} (f : X → List ℕ) (xs : List X) (i : ℕ) (x : X) → slice_get xs i ≡ Some x
+pub flat_map-more : {X : Type 0} (f : X → List ℕ) (xs : List X) (i : ℕ) (x : X) → slice_get xs i ≡ Some x
     → flat_map f (take i xs) ++ f x ≡ flat_map f (take (i + 1) xs)
 flat_map-more f xs i x h =
     let here : get_or xs i x ≡ x = get_or_from_slice_get xs i x x h in

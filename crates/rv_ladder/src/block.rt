@@ -3,7 +3,7 @@ ghost use Rattle.std.specs.Prelude.{◌≡◌, ◌+◌, ◌<◌, ◌≤◌, ◌+
 ghost use Rattle.rv_gate.specs.Gate.{FitsIn, IsGate, IsFlipOn};
 ghost use Rattle.rv_gate.specs.Greatest.{greatest};
 ghost use Rattle.rv_mct.specs.Blocks.{added, count, count_lines, flip_wish, is_free, middle, wish};
-ghost use Rattle.rv_mct.specs.inside.LadderLines.{Every};
+ghost use Rattle.rv_gate.specs.Every.{Every};
 ghost use Rattle.rv_mct.specs.inside.Long.{IsCut, IsLong, Ready};
 ghost use Rattle.rv_ladder.specs.Ladder.{borrowed_net, flip_net, gate_net, halves_net, long_net, relative_network};
 ghost use Rattle.rv_ladder.specs.Ladder.{split_net};

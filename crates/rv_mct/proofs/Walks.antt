@@ -4,8 +4,8 @@ use Rattle.std.specs.Int.{bit_not}
 use Rattle.std.proofs.lemmas.Bool.{cases_lt, lt-ltb, le-ltb, or_cases, eqb-true}
 use Rattle.std.proofs.lemmas.Nat.Bits.{bit_at_not}
 use Rattle.rv_gate.specs.Word.{has}
-use Rattle.rv_gate.proofs.LineSets.{bit_cases, has-above, has-with_line, Within-below, below-Within}
-use Rattle.rv_gate.proofs.LowestLine.{IsLowest, none_left}
+use Rattle.rv_gate.proofs.LineSets.{bit_cases, has-above, has-with_line, Within-below, below-Within, has-none}
+use Rattle.rv_gate.proofs.LowestLine.{IsLowest}
 use Rattle.rv_mct.specs.Blocks.{rising, count, count_lines, is_free, below}
 use Rattle.rv_mct.proofs.Rising.{rising_zero, rising-suc, rising_upto, count_zero, count-suc}
 use Rattle.rv_mct.proofs.inside.Splits.{count_upto, has_below, not_below}
@@ -27,7 +27,7 @@ rising_lowest left line rest lowest =
     (λ k lt other. lowest.same k lt other)
 
 pub rising_none : (left : ℕ) → left ≡ 0 → rising (has left) 64 ≡ []
-rising_none left e = none_rise (has left) 64 (λ k lt. ap (λ s. has s k) e ∙ none_left k)
+rising_none left e = none_rise (has left) 64 (λ k lt. ap (λ s. has s k) e ∙ has-none k)
 
 -- ---- the free lines
 

@@ -3,7 +3,8 @@ ghost use Rattle.rv_gate.specs.Gate.{FitsIn, IsGate, IsFlipOn};
 ghost use Rattle.rv_gate.specs.Greatest.{greatest};
 ghost use Rattle.rv_mct.specs.Blocks.{flip_block, flip_wish, block_of, wish, gate_cost, decomposition_of, added};
 ghost use Rattle.std.specs.List.{flat_map};
-ghost use Rattle.rv_mct.specs.inside.LadderLines.{Every, Grown};
+ghost use Rattle.rv_gate.specs.Every.{Every};
+ghost use Rattle.rv_mct.specs.inside.LadderLines.{Grown};
 
 use crate::Aux;
 use crate::block::flip_block;

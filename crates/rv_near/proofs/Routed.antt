@@ -16,14 +16,9 @@ use Rattle.rv_mct.specs.declared.aux.Aux.{Aux}
 use Rattle.rv_mct.proofs.Rising.{count_zero, count-suc}
 use Rattle.rv_route.specs.Placement.{IsNear}
 use Rattle.rv_near.specs.Near.{IsRouted}
+use Rattle.rv_mct.proofs.inside.Splits.{count_none}
 
 -- ---- a flip with at most two controls stays as it is
-
-none : (p : ℕ → Bool) (n : ℕ) → ((x : ℕ) → x < n → p x ≡ false) → count p n ≡ 0
-none p zero h = count_zero p
-none p (suc n) h =
-    let last : cond {A = ℕ} (p n) 1 0 ≡ 0 = ap (λ b. cond b 1 0) (h n (omega arith)) in
-    omega (arith, count-suc p n, none p n (λ x lt. h x (omega (arith, lt))), last)
 
 once : (p : ℕ → Bool) (a n : ℕ) → ((x : ℕ) → p x ≡ true → x ≡ a) → count p n ≤ 1
 once p a zero h = omega (arith, count_zero p)
@@ -39,7 +34,7 @@ once p a (suc n) h = go (p n) refl (once p a n h)
         omega (arith, count-suc p n, rest, last)
     go true e rest =
         let last : cond {A = ℕ} (p n) 1 0 ≡ 1 = ap (λ b. cond b 1 0) e in
-        omega (arith, count-suc p n, none p n (λ x lt. other x lt (h n e) (p x) refl), last)
+        omega (arith, count-suc p n, count_none p n (λ x lt. other x lt (h n e) (p x) refl), last)
 
 stays : (aux : Aux) (lines extra care want t : ℕ) → count_lines care ≤ 2 → IsNear (Flip care want t)
     → All IsNear (flip_block aux lines extra (Flip care want t))
@@ -85,9 +80,9 @@ block : (aux : Aux) (lines extra : ℕ) (g : Shape) → IsRouted g → All IsNea
 block aux lines extra (Flip care want t) routed =
     All-append IsNear _ _ (stays aux lines extra care want t routed.0 routed.1) (All-nil IsNear)
 block aux lines extra (SwapGate care want a b) routed =
-    let none : care ≡ 0 = routed.0 in
-    let near : IsNear (SwapGate 0 want a b) = subst (λ c. IsNear (SwapGate c want a b)) none routed.1 in
-    subst (λ c. All IsNear (block_of aux lines extra (SwapGate c want a b))) (sym none)
+    let count_none : care ≡ 0 = routed.0 in
+    let near : IsNear (SwapGate 0 want a b) = subst (λ c. IsNear (SwapGate c want a b)) count_none routed.1 in
+    subst (λ c. All IsNear (block_of aux lines extra (SwapGate c want a b))) (sym count_none)
     (swapped aux lines extra want a b near)
 block aux lines extra (Peres a b c) routed = absurd routed
 

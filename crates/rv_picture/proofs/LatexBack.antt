@@ -23,7 +23,7 @@ use Rattle.rv_draw.specs.Reading.{Picture, before, columns, each_of, joined_if, 
 use Rattle.rv_draw.proofs.ColumnsBack.{columns_back}
 use Rattle.rv_draw.proofs.inside.ReadBack.{AreRead, all_read, block_picture, chunk_read}
 use Rattle.rv_draw.proofs.inside.ReadBack.{all_joined as pictures_joined}
-use Rattle.rv_draw.proofs.inside.SheetBack.{by_place, columns_of}
+use Rattle.rv_draw.proofs.inside.SheetBack.{by_place, columns_of, label_is}
 use Rattle.rv_picture.specs.Cut.{after, cut, lines_in, text_of_lines, value_with}
 use Rattle.rv_picture.specs.Labels.{is_special, shown_label}
 use Rattle.rv_picture.specs.Markup.{latex_escapes}
@@ -35,6 +35,7 @@ use Rattle.rv_picture.specs.Latex.{output_text, picture_of_lines, picture_with, 
 use Rattle.rv_picture.specs.Latex.{with_input, with_line}
 use Rattle.rv_picture.proofs.Cutting.{AreLines, cut_last, cut_part, lacks, lines_append, lines_back}
 use Rattle.rv_picture.proofs.LabelsBack.{AllText, AreBack, bytes_back, is_high, label_back, shown_high, written_all}
+use Rattle.rv_gate.proofs.Bits.{same_self}
 
 -- ---- cells
 
@@ -218,9 +219,6 @@ line_at draws c gates line =
       is_garbage = slice_index_or c.garbage line false;
     }
 
-label_is : (labels : List (List ℕ)) (n line : ℕ) → AreLabels n labels → line < n → IsLabel (label_at labels line)
-label_is labels n line are lt = All-get_or IsLabel labels line [] (omega (arith, lt, are.count)) are.each
-
 row_back : {G : Type 0} (draws : G → ℕ → Symbol) (c : Cascade) (gates : List G) (line : ℕ) → IsCascade c → line < length c.names
     → line_of (row_text draws c gates line) ≡ Some (line_at draws c gates line)
 row_back draws c gates line is lt =
@@ -264,11 +262,6 @@ rows_back draws c gates start (suc n) is within =
 rows_lines : {G : Type 0} (draws : G → ℕ → Symbol) (c : Cascade) (gates : List G) (start n : ℕ) → AreLines (map (row_text draws c gates) (range_with_len start n))
 rows_lines draws c gates start zero = tt
 rows_lines draws c gates start (suc n) = (row_one_line draws c gates start, rows_lines draws c gates (start + 1) n)
-
--- the verticals
-same_self : (b : Bool) → same b b ≡ true
-same_self true = refl
-same_self false = refl
 
 next_joined : {G : Type 0} (draws : G → ℕ → Symbol) (n line : ℕ) (gates : List G) → line + 1 < n → are_joined (row_cells draws n gates line) (row_cells draws n gates (line + 1)) ≡ true
 next_joined draws n line [] lt = refl

@@ -21,7 +21,7 @@ use Rattle.rv_gate.specs.Circuit.{AreLabels, Cascade, IsCascade, IsLabel}
 use Rattle.rv_gate.specs.Gate.{same}
 use Rattle.rv_gate.specs.declared.circuit.Mark.{Mark}
 use Rattle.rv_gate.specs.declared.circuit.Mark.TheVariants as marks
-use Rattle.rv_gate.proofs.Bits.{and_false}
+use Rattle.rv_gate.proofs.Bits.{and_false, same_self}
 use Rattle.rv_gate.proofs.Lists.{map_map}
 use Rattle.rv_draw.specs.declared.symbol.Symbol.{Symbol}
 use Rattle.rv_draw.specs.declared.symbol.Symbol.TheVariants.{Wire, Crossing, Positive, Negative, Target, Exchanged}
@@ -30,7 +30,7 @@ use Rattle.rv_draw.specs.Drawing.{block_count, label_at}
 use Rattle.rv_draw.specs.Reading.{Picture, before, each_of, joined, joined_if, picture_on}
 use Rattle.rv_draw.proofs.inside.ReadBack.{AreRead, block_picture, chunk_read}
 use Rattle.rv_draw.proofs.inside.ReadBack.{all_joined as pictures_joined}
-use Rattle.rv_draw.proofs.inside.SheetBack.{by_place}
+use Rattle.rv_draw.proofs.inside.SheetBack.{by_place, label_is}
 use Rattle.rv_picture.specs.Cut.{after, lines_in, text_of_lines}
 use Rattle.rv_picture.specs.Labels.{shown_label, written_label}
 use Rattle.rv_picture.specs.Latex.{is_joined_on, is_on}
@@ -241,9 +241,6 @@ output_read x y label false sheet is =
     ap (λ begun. with_output x y (output_of begun) sheet) (bytes_back svg_escapes 38 60 (shown_label label) (codes "/text></g>") escapes_back refl refl)
     ∙ ap (λ (l : List ℕ). with_output x y (Some (l, false)) sheet) (label_back label is)
 
-label_is : (labels : List (List ℕ)) (n line : ℕ) → AreLabels n labels → line < n → IsLabel (label_at labels line)
-label_is labels n line are lt = All-get_or IsLabel labels line [] (omega (arith, lt, are.count)) are.each
-
 abbrev input_at : Cascade → ℕ → At (List ℕ × Mark)
 input_at c line = at 0 (middle_of line) (label_at c.input_labels line, slice_index_or c.constants line marks.Input)
 
@@ -372,10 +369,6 @@ column_back f n start (suc m) =
           ∙ skipped m start more (later_at f n start (start + 1) m (omega arith))
           ∙ ap (before (Some bare)) (column_back f n (start + 1) m) ∙ ap (λ (s : Stroke). Some (s ∷ rest)) (bare_on f n start off)
     ]
-
-same_self : (b : Bool) → same b b ≡ true
-same_self true = refl
-same_self false = refl
 
 joined_back : (f : ℕ → Symbol) (n start m : ℕ) → start + suc m ≡ n → are_joined (mark_on f n start).from_above (map (mark_on f n) (range_with_len start (suc m))) ≡ true
 joined_back f n start zero sum =

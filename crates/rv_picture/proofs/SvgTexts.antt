@@ -88,16 +88,6 @@ gates_more {G = G} draws title lines gates i gate lt is =
 
 -- ---- one label more
 
-widest-push : (labels : List (List ℕ)) (label : List ℕ) → widest (labels ++ label ∷ []) ≡ max (widest labels) (width label)
-widest-push [] label = omega arith
-widest-push (first ∷ labels) label = (let rest = widest-push labels label in omega (arith, rest))
-
-pub widest_more : (labels : List (List ℕ)) (i : ℕ) (label : List ℕ) → slice_get labels i ≡ Some label
-    → max (widest (take i labels)) (width label) ≡ widest (take (i + 1) labels)
-widest_more labels i label h =
-    let here : get_or labels i label ≡ label = get_or_from_slice_get labels i label label h in
-    sym (ap widest (take_more labels i label (slice_get_within labels i label h) ∙ ap (λ l. take i labels ++ l ∷ []) here) ∙ widest-push (take i labels) label)
-
 -- ---- the whole
 
 -- the first line

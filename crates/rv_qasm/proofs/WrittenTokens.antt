@@ -8,13 +8,10 @@ use Rattle.std.proofs.Math.Seq.{drop-append_seam, take-append_seam}
 use Rattle.std.proofs.lemmas.Bool.{and_parts, cond-false, cond-true, lt-leb}
 use Rattle.std.proofs.lemmas.Str.Parse.{tells_all_ascii_digits}
 use Rattle.rv_text.specs.Decimal.{is_decimal}
-use Rattle.rv_text.proofs.inside.Decimal.{is_decimal-decimal}
+use Rattle.rv_text.proofs.inside.Decimal.{is_decimal-decimal, digit_range}
 use Rattle.rv_qasm.specs.Text.{gate_on, qubit, qubits}
 use Rattle.rv_qasm.specs.Tokens.{TokenOnLine, begins_name, number_length, token_length, tokens_after}
 use Rattle.rv_text.specs.Tokens.{is_blank}
-
-pub digit_range : (c : ℕ) → is_ascii_digit c ≡ true → IsInRange 48 57 c
-digit_range c h = (tells_all_ascii_digits.parts c [] (rw h refl)).0
 
 abbrev is_inside : ℕ → Bool
 is_inside c = not (nat_eq c 10)

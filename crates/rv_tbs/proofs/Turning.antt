@@ -3,7 +3,7 @@ use Rattle.std.proofs.Common.{◌≡◌, ◌≢◌, ℕ, zero, suc, ◌+◌, ◌
 use Rattle.std.proofs.lemmas.Bool.{cases_eq, cases_Bool, cond-true, cond-false, or_cases, eqb-true, and_parts, false_from_ne_true, not-true, false≢true}
 use Rattle.rv_gate.specs.Word.{has, bit_of, number_of, ones_of}
 use Rattle.rv_gate.specs.declared.word.TheConstants.{MOST_LINES}
-use Rattle.rv_gate.specs.Gate.{holds, flip, act, run, FitsIn, IsGate, IsFlip}
+use Rattle.rv_gate.specs.Gate.{holds, flip, act, run, FitsIn, IsGate, IsFlip, IsFlipOn}
 use Rattle.rv_gate.specs.declared.gate.Shape.{Shape}
 use Rattle.rv_gate.specs.declared.gate.Shape.TheVariants.{Flip}
 use Rattle.rv_gate.proofs.inside.GateLemmas.{holds_Decides, length-run, run-append, holds_none}
@@ -11,6 +11,8 @@ use Rattle.rv_tbs.specs.Synthesis.{due_flips, is_set_due, set_controls, is_clear
 use Rattle.rv_gate.proofs.LineSets.{has-none}
 use Rattle.rv_gate.proofs.inside.Ones.{has-ones_of}
 use Rattle.rv_tbs.proofs.Ones.{Within, number_of-mono, one_within, bit_of-flip_same, bit_of-flip_other, length-flip, same_words}
+use Rattle.rv_gate.specs.Every.{Every}
+use Rattle.rv_gate.proofs.Every.{every_append}
 
 -- a flip under c of the line of w, which leaves the words below k alone
 pub record Sound (n k c line : ℕ) (w : List Bool) : Type 0 where
@@ -19,8 +21,7 @@ pub record Sound (n k c line : ℕ) (w : List Bool) : Type 0 where
 
 -- each gate is a flip that fits
 abbrev pub Flips : ℕ → List Shape → Type 0
-Flips n [] = Unit {0}
-Flips n (g ∷ gates) = (IsFlip g × IsGate g × FitsIn g n) × Flips n gates
+Flips n gates = Every (IsFlipOn n) gates
 
 -- how many of the m lines from `line` on pass
 abbrev pub count : (ℕ → Bool) → ℕ → ℕ → ℕ
@@ -196,10 +197,6 @@ pub record Turns (goal w : List Bool) (gates : List Shape) : Type 0 where
   pub reached : run gates w ≡ goal
   pub spared : (x : List Bool) → length x ≡ length goal → number_of x < number_of goal → run gates x ≡ x
 
-pub Flips-append : (n : ℕ) (a b : List Shape) → Flips n a → Flips n b → Flips n (a ++ b)
-Flips-append n [] b ha hb = hb
-Flips-append n (g ∷ a) b ha hb = (ha.0, Flips-append n a b ha.1 hb)
-
 -- flips whose controls are lines of the word, and never the one that is flipped, are gates on its lines
 flips_due : (n : ℕ) (due : ℕ → Bool → Bool) (care : List Bool → ℕ → ℕ) → n ≤ MOST_LINES
     → ((w : List Bool) (line : ℕ) → length w ≡ n → line < n → due line (bit_of w line) ≡ true → (has (care w line) line ≡ false) × ((i : ℕ) → has (care w line) i ≡ true → i < n))
@@ -222,7 +219,7 @@ unfolding turning set_flips clear_flips
 turning_flips goal w small len =
     let n : ℕ = length goal in
     let a : List Shape = due_flips (is_set_due goal) set_controls 0 n w in
-    Flips-append n a _
+    every_append (IsFlipOn n) a _
     (flips_due n (is_set_due goal) set_controls small
     (λ v line l lt due. (
       has-ones_of v line ∙ not-true _ (and_parts (bit_of goal line) _ due).1,

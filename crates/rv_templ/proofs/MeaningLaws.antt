@@ -24,8 +24,8 @@ use Rattle.rv_gate.proofs.AllBelow.{all_below-from}
 use Rattle.rv_templ.proofs.ImageLaws.{Part, renamed_has, renamed_from}
 use Rattle.rv_templ.proofs.WindowLaws.{span_has, serve_at, turned_template, length-turned, span_turned, without_parts, without_from, image_at}
 use Rattle.rv_templ.proofs.inside.ChoiceLemmas.{are_at}
-use Rattle.rv_templ.proofs.Options.{map_none}
 use Rattle.rv_gate.proofs.Bits.{same_bool}
+use Rattle.rv_gate.proofs.Options.{unmapped}
 
 -- ---- the least list
 
@@ -182,7 +182,7 @@ unfolding at_template
 template_none_at window library t r e a b h =
     let go = sym (cond-true (leb (length window) (length (template_in library t)) && ltb (length (template_in library t)) (2 * length window)) _ None
     (and_from _ _ (le-leb (length window) (length (template_in library t)) a) (lt-ltb (length (template_in library t)) (2 * length window) b))) ∙ e in
-    map_none _ (renaming window (turned r (template_in library t)))
+    unmapped _ (renaming window (turned r (template_in library t)))
     (none_at (at_turn window (template_in library t) t) 0 (length (template_in library t)) r go (omega arith) (omega arith))
 
 pub no_window : (gates : List Shape) (library : List (List Shape)) → AreTemplates library → window_at gates library ≡ None → NoWindow gates library

@@ -15,10 +15,6 @@ pub map_some : {A B : Type 0} (f : A → B) (o : Option A) (y : B) → option_ma
 map_some f None y e = absurd (none-some y e)
 map_some f (Some x) y e = (x, refl, same_Some (f x) y e)
 
-pub map_none : {A B : Type 0} (f : A → B) (o : Option A) → option_map f o ≡ None → o ≡ None
-map_none f None e = refl
-map_none f (Some x) e = absurd (none-some (f x) (sym e))
-
 pub after_some : (before : List Shape) (o : Option (List Shape)) (out : List Shape) → after_gates before o ≡ Some out → (l : List Shape) × (o ≡ Some l) × (before ++ l ≡ out)
 after_some before None out e = absurd (none-some out e)
 after_some before (Some l) out e = (l, refl, same_Some _ out e)

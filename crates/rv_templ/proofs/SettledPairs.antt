@@ -6,15 +6,16 @@ use Rattle.rv_templ.specs.Gates.{no_gate}
 use Rattle.rv_gate.specs.Commuting.{rule}
 use Rattle.rv_gate.specs.declared.gate.Shape.{Shape}
 use Rattle.rv_templ.specs.Pairs.{paired, after_gates, partner, pair_step, NoPair}
-use Rattle.rv_templ.proofs.Options.{map_none, after_none}
+use Rattle.rv_templ.proofs.Options.{after_none}
 use Rattle.rv_gate.proofs.FirstAnswer.{or_none}
+use Rattle.rv_gate.proofs.Options.{unmapped}
 
 pub no_partner : (g : Shape) (rest : List Shape) (b : ℕ) (m : List Shape) → partner g rest ≡ None → b < length rest → ((k : ℕ) → k < b → rule g (get_or rest k no_gate) ≡ true)
     → paired g (get_or rest b no_gate) ≡ Some m → ⊥
 unfolding partner
 no_partner g [] b m e lt r j = absurd (omega arith)
 no_partner g (h ∷ rest) zero m e lt r j =
-    let n : paired g h ≡ None = map_none (λ m. m ++ rest) (paired g h) (after_none [] _ (or_none _ _ e).0) in none-some m (sym n ∙ j)
+    let n : paired g h ≡ None = unmapped (λ m. m ++ rest) (paired g h) (after_none [] _ (or_none _ _ e).0) in none-some m (sym n ∙ j)
 no_partner g (h ∷ rest) (suc b) m e lt r j =
     let t : rule g h ≡ true = r 0 (omega arith) in
     let n : partner g rest ≡ None = after_none (h ∷ []) (partner g rest) (ap (λ c. cond c (after_gates (h ∷ []) (partner g rest)) None) (sym t) ∙ (or_none _ _ e).1) in

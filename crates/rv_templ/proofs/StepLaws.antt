@@ -16,8 +16,9 @@ use Rattle.rv_templ.proofs.PairSteps.{Better, step_better, put_before}
 use Rattle.rv_templ.proofs.SettledPairs.{settled_no_pair}
 use Rattle.rv_templ.proofs.MeaningLaws.{no_window}
 use Rattle.rv_templ.proofs.inside.KeepingLaws.{here, kept}
-use Rattle.rv_templ.proofs.Options.{or_some, map_some, map_none, after_some, after_none}
+use Rattle.rv_templ.proofs.Options.{or_some, map_some, after_some, after_none}
 use Rattle.rv_gate.proofs.FirstAnswer.{or_none}
+use Rattle.rv_gate.proofs.Options.{unmapped}
 
 pub window_better : (n : ℕ) (library : List (List Shape)) (gates out : List Shape) → AreTemplates library → n ≤ MOST_LINES → AreGates n gates → window_step library gates ≡ Some out → Better n gates out
 unfolding window_step
@@ -95,7 +96,7 @@ simplified_stop n library gates are most g e =
 no_window_from : (library : List (List Shape)) (gates : List Shape) (place : ℕ) → AreTemplates library → window_step library gates ≡ None → place < length gates → NoWindow (drop place gates) library
 unfolding window_step
 no_window_from library [] place are e h = absurd (omega arith)
-no_window_from library (g ∷ rest) zero are e h = grind (arith, or_none, no_window, map_none)
+no_window_from library (g ∷ rest) zero are e h = grind (arith, or_none, no_window, unmapped)
 no_window_from library (g ∷ rest) (suc place) are e h = let i0 = no_window_from library rest place are in grind (arith, i0, or_none, after_none)
 
 no_window_nil : (library : List (List Shape)) → NoWindow [] library

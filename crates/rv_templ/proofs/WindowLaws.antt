@@ -21,18 +21,7 @@ use Rattle.rv_gate.proofs.AllBelow.{all_below-at}
 use Rattle.rv_templ.proofs.ImageLaws.{Apart, Part, Renames, Serves, Serve, InRange, renamed_has, renamed_from, renamed_at, image_identity}
 use Rattle.rv_templ.proofs.GateLists.{AreGates-first, AreGates-last, AreGates-append, AreGates-reverse}
 use Rattle.rv_gate.proofs.Bits.{same_bool}
-
-Flips-first : (xs ys : List Shape) → Flips (xs ++ ys) → Flips xs
-Flips-first [] ys f = tt
-Flips-first (x ∷ xs) ys f = (f.0, Flips-first xs ys f.1)
-
-Flips-last : (xs ys : List Shape) → Flips (xs ++ ys) → Flips ys
-Flips-last [] ys f = f
-Flips-last (x ∷ xs) ys f = Flips-last xs ys f.1
-
-Flips-append : (xs ys : List Shape) → Flips xs → Flips ys → Flips (xs ++ ys)
-Flips-append [] ys f g = g
-Flips-append (x ∷ xs) ys f g = (f.0, Flips-append xs ys f.1 g)
+use Rattle.rv_gate.proofs.Every.{every_first, every_last, every_append}
 
 -- the last gate of a reversed list
 run_back : (xs : List Shape) (x : Shape) (word : List Bool) → run (reverse (x ∷ xs)) word ≡ act x (run (reverse xs) word)
@@ -71,9 +60,9 @@ turned_template r t is =
     let i : Identity 6 (take r t ++ drop r t) = subst (λ (l : List Shape). Identity 6 l) (sym whole) is.identity in
     record {
       few = let few = is.few in let e = ap length whole in omega (arith, e, length-append (take r t) (drop r t), length-append (drop r t) (take r t));
-      flips = Flips-append (drop r t) (take r t) (Flips-last (take r t) (drop r t) f) (Flips-first (take r t) (drop r t) f);
+      flips = every_append IsFlip (drop r t) (take r t) (every_last IsFlip (take r t) (drop r t) f) (every_first IsFlip (take r t) (drop r t) f);
       good = AreGates-append 6 (drop r t) (take r t) (AreGates-last 6 (take r t) (drop r t) g) (AreGates-first 6 (take r t) (drop r t) g);
-      identity = turned_identity 6 (take r t) (drop r t) (Flips-first (take r t) (drop r t) f) (AreGates-first 6 (take r t) (drop r t) g) i;
+      identity = turned_identity 6 (take r t) (drop r t) (every_first IsFlip (take r t) (drop r t) f) (AreGates-first 6 (take r t) (drop r t) g) i;
     }
 
 pub length-turned : (r : ℕ) (t : List Shape) → length (turned r t) ≡ length t

@@ -3,6 +3,7 @@ use Rattle.std.specs.Prelude.{◌≡◌, ℕ, Bool, List, [], ◌∷◌, length,
 use Rattle.rv_gate.specs.declared.gate.Shape.{Shape}
 use Rattle.rv_gate.specs.declared.gate.Shape.TheVariants.{Peres}
 use Rattle.rv_gate.specs.Gate.{run, FitsIn, IsGate, IsFlip}
+use Rattle.rv_gate.specs.Every.{Every}
 
 abbrev pub no_gate : Shape
 no_gate = Peres 0 0 0
@@ -17,8 +18,7 @@ AreGates n [] = Unit {0}
 AreGates n (g ∷ rest) = IsGate g × FitsIn g n × AreGates n rest
 
 abbrev pub Flips : List Shape → Type 0
-Flips [] = Unit {0}
-Flips (g ∷ rest) = IsFlip g × Flips rest
+Flips gates = Every IsFlip gates
 
 -- the gates step no word of n lines
 abbrev pub Identity : ℕ → List Shape → Type 0

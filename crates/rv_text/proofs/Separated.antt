@@ -2,7 +2,7 @@
 use Rattle.std.proofs.Common.{◌≡◌, ◌≢◌, ℕ, ◌<◌, Bool, true, false, not, ◌||◌, ◌&&◌, List, [], ◌∷◌, ◌++◌, length, refl, sym, ap, ◌∙◌, append_assoc, inl, inr, arith, nat_eq, length-append}
 use Rattle.std.specs.Prelude.{◌↔◌, slice_index}
 use Rattle.std.specs.List.{list_all}
-use Rattle.std.proofs.lemmas.Bool.{and_from, and_parts, cases_Bool, eqb-true, not-true, or_parts}
+use Rattle.std.proofs.lemmas.Bool.{and_from, and_parts, cases_Bool, eqb-true, not-true, or_parts, or_left, or_right}
 use Rattle.std.proofs.lemmas.List.{append-nil}
 use Rattle.rv_text.specs.Bytes.{quote, hash}
 use Rattle.rv_text.specs.Tokens.{Lexeme, Open, between, inside, quoting, is_blank, plain, in_quotes, tokens_from, tokens_of}
@@ -51,13 +51,6 @@ quoted_ends : (quotes : Bool) (blanks bytes rest : List ℕ) (closed : Bool) (ts
     → AreTokens quotes blanks rest ts → AreTokens quotes blanks (shown (in_quotes bytes closed) ++ rest) (in_quotes bytes closed ∷ ts)
 quoted_ends quotes blanks bytes rest closed ts o ends more =
     (rest, record { gap = []; blank = refl; line_is = refl; token = record { asked = o.asked; opens = o.opens; whole = o.whole; ends = ends } }, more)
-
-or_left : (a b : Bool) → a ≡ true → (a || b) ≡ true
-or_left a b e = rw e refl
-
-or_right : (a b : Bool) → b ≡ true → (a || b) ≡ true
-or_right true b e = refl
-or_right false b e = e
 
 neither : (a b : Bool) → a ≡ false → b ≡ false → not (a || b) ≡ true
 neither a b e h = rw (e, h) refl

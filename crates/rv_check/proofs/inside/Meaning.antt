@@ -29,6 +29,7 @@ use Rattle.rv_check.proofs.inside.Places.{first_answer}
 use Rattle.rv_check.proofs.inside.Sparse.{Word, same_from}
 use Rattle.rv_check.proofs.inside.Vectors.{each_word}
 use Rattle.std.proofs.lemmas.Grind.{common_steps}
+use Rattle.rv_gate.proofs.Options.{none_true, none_false}
 
 -- ---- the first answer is that of some number, and those before have none
 
@@ -45,10 +46,6 @@ first_some f k zero a e = absurd (none-some a e)
 first_some {A = A} f k (suc m) a e = let rest = first_some f (k + 1) m a in grind (arith, common_steps, rest, cases_eq)
 
 -- ---- agreement
-
-none_true : (b : Bool) (n : ℕ) → cond b None (Some n) ≡ None → b ≡ true
-none_true true n e = refl
-none_true false n e = absurd (none-some n (sym e))
 
 some_false : (b : Bool) (n w : ℕ) → cond b None (Some n) ≡ Some w → (b ≡ false) × (n ≡ w)
 some_false true n w e = absurd (none-some w e)
@@ -124,10 +121,6 @@ some_from_break gates net w r =
     (λ p g h. agrees_unless gates net p (r.least p h)) (differs_where gates net w r.breaks)
 
 -- ---- a coefficient beyond the limit
-
-none_false : (b : Bool) (n : ℕ) → cond b (Some n) None ≡ None → b ≡ false
-none_false true n e = absurd (none-some n (sym e))
-none_false false n e = refl
 
 not_large : (net : Network) (number place : ℕ) → large_after net.ops (word_of net.lines number) place ≡ None → ¬ IsLarge net number place
 not_large net number place e large = false≢true (sym (none_false _ place e) ∙ large)

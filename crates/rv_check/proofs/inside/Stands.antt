@@ -19,6 +19,7 @@ use Rattle.rv_check.proofs.inside.Growing.{on-fold_spread}
 use Rattle.rv_check.proofs.inside.Multiples.{multiple_turned}
 use Rattle.rv_check.proofs.inside.Scaled.{scaled-root2}
 use Rattle.rv_check.proofs.inside.Sparse.{Word, worth, appended, turned_at, value_at-fold_spread, value_at-filter, value_at-divided}
+use Rattle.rv_net.proofs.inside.Network.{count_h-append}
 
 pub stands_start : (x : Word) → Stands [] x (kept_start x)
 unfolding amplitude count_h scaled value_at
@@ -30,12 +31,6 @@ stands_start x = record {
   apart = (tt, tt);
   greatest = inl refl;
 }
-
-count_h-append : (m n : List Op) → count_h (m ++ n) ≡ count_h m + count_h n
-unfolding count_h
-count_h-append [] n = omega arith
-count_h-append (H q ∷ m) n = omega (arith, count_h-append m n)
-count_h-append (o ∷ m) n = count_h-append m n
 
 -- ---- an operation that is no H
 

@@ -8,7 +8,7 @@ use Rattle.rv_gate.specs.Marks.{with_constants, without_garbage}
 use Rattle.rv_gate.specs.Word.{bit_of, has}
 use Rattle.rv_gate.specs.declared.circuit.Mark.TheVariants.{Input, Zero}
 use Rattle.rv_gate.specs.declared.gate.Shape.{Shape}
-use Rattle.rv_gate.proofs.Marks.{input_count-append, input_count-inputs, input_count-zeros, output_count-append, output_count-garbage, output_count-outputs, with_constants-append, with_constants-inputs, with_constants-zeros, without_garbage-all, without_garbage-append, without_garbage-outputs}
+use Rattle.rv_gate.proofs.Marks.{input_count-append, input_count-inputs, input_count-zeros, output_count-append, output_count-garbage, output_count-outputs, with_constants-append, with_constants-inputs, with_constants-zeros, without_garbage-all, without_garbage-append, without_garbage-outputs, with_constants-filled}
 use Rattle.rv_pla.specs.FreeEntries.{allows}
 use Rattle.rv_pla.specs.Pla.{TwoLevel, entry}
 use Rattle.rv_cube.specs.Esop.{Esop, esop_value}
@@ -25,13 +25,6 @@ unfolding xor_from
 added j zero set k h = absurd (omega (arith, h))
 added j (suc n) set zero h = false_xor (has set j) ∙ ap (has set) (omega arith)
 added j (suc n) set (suc k) h = added (j + 1) n set k (omega (arith, h)) ∙ ap (has set) (omega arith)
-
--- the constants are zeros after the input
-filled : (i o : ℕ) (x : List Bool) → length x ≡ i → with_constants (replicate i Input ++ replicate o Zero) x ≡ x ++ replicate o false
-filled i o x len =
-    ap (with_constants (replicate i Input ++ replicate o Zero)) (sym (append-nil x))
-    ∙ with_constants-append (replicate i Input) (replicate o Zero) x [] (len ∙ sym (input_count-inputs i))
-    ∙ ap₂ (λ (a b : List Bool). a ++ b) (ap (λ n. with_constants (replicate n Input) x) (sym len) ∙ with_constants-inputs x) (with_constants-zeros o [])
 
 -- the inputs are the garbage
 left : (i o : ℕ) (x w : List Bool) → length x ≡ i → length w ≡ o → without_garbage (replicate i true ++ replicate o false) (x ++ w) ≡ w
@@ -58,7 +51,7 @@ cascade-gives pla list gates inputs outputs right adds =
       gives =
           λ x len.
           let answer : without_garbage (replicate i true ++ replicate o false) (run gates (with_constants (replicate i Input ++ replicate o Zero) x)) ≡ xor_set zeros (value x) =
-          ap (λ (word : List Bool). without_garbage (replicate i true ++ replicate o false) (run gates word)) (filled i o x len)
+          ap (λ (word : List Bool). without_garbage (replicate i true ++ replicate o false) (run gates word)) (with_constants-filled i o x len)
           ∙ ap (without_garbage (replicate i true ++ replicate o false)) (adds x zeros (len ∙ sym inputs) (length-replicate o bit ∙ sym outputs))
           ∙ left i o x (xor_set zeros (value x)) len (wide x) in
           let Allowed : ℕ → Bool → Type 0 = λ output bit. IsTrue (allows (entry pla x output) bit) in

@@ -37,7 +37,7 @@ use Rattle.rv_faults.specs.declared.fault.Refusal.{Refusal}
 use Rattle.rv_cmd.specs.Limits.{found_within, unlimited}
 use Rattle.rv_cmd.specs.inside.Products.{IsProductOf, IsRefusalOf, product_text}
 use Rattle.rv_cmd.proofs.Laws.Cascade.{cascade-gives}
-use Rattle.rv_exorlink.proofs.Finds.{no_worse_self}
+use Rattle.rv_exorlink.proofs.Finds.{no_worse_self, terms_all}
 
 -- ---- as a circuit
 
@@ -92,13 +92,6 @@ cubes_of_terms i o (cube ∷ cubes) all =
 terms_of-some : (cube : Cube) (cubes : List Cube) → 0 < cube.outs → terms_of (cube ∷ cubes) ≡ cube ∷ terms_of cubes
 terms_of-some cube cubes some = grind arith
 
-terms_of-terms : (i o : ℕ) (cubes : List Cube) → All (IsTerm i o) cubes → terms_of cubes ≡ cubes
-terms_of-terms i o [] all = refl
-terms_of-terms i o (cube ∷ cubes) all =
-    let some = (All-head (IsTerm i o) cube cubes all).some in
-    let rest = terms_of-terms i o cubes (All-tail (IsTerm i o) cube cubes all) in
-    terms_of-some cube cubes some ∙ ap (λ more. cube ∷ more) rest
-
 -- what is read back
 record IsBack (result : Result TwoLevel PlaFault) (P : TwoLevel → Type 0) : Type 0 where
   back : TwoLevel
@@ -115,7 +108,7 @@ entry-esop : (back : TwoLevel) (i o : ℕ) (cubes : List Cube) (x : List Bool) (
 entry-esop back i o cubes x output is all =
     let Value : List Cube → Bool = λ c. has (esop_value (terms_of c) x) output in
     let Sum : List Cube → Bool = λ c. has (esop_value c x) output in
-    sym (value-sum back x output (ap is_esop is.esop)) ∙ ap Value is.same_cubes ∙ ap Sum (terms_of-terms i o cubes all)
+    sym (value-sum back x output (ap is_esop is.esop)) ∙ ap Value is.same_cubes ∙ ap Sum (terms_all i o cubes all)
 
 -- the law
 pub list-means : (pla : TwoLevel) → IsEsop (reduced_list pla) → IsRight pla (reduced_list pla).cubes → IsSettledFor pla (reduced_list pla).cubes

@@ -31,6 +31,7 @@ use Rattle.rv_cmd.specs.Headline.{Performs}
 use Rattle.rv_cmd.specs.Row.{End, Outcome, Row, answers_as_it_reads, as_unmade}
 use Rattle.rv_cmd.specs.inside.Sending.{IsUnflushed}
 use Rattle.rv_cmd.specs.inside.Simulating.{IsReady}
+use Rattle.rv_io.proofs.Sent.{grown-none}
 
 abbrev pub row : Bool → Row
 row all = answers_as_it_reads (simulate_row all)
@@ -117,10 +118,6 @@ performs_ready all a b c old mid new out sent result r keeps answers =
 
 abbrev IsShort : List ℕ → Type 0
 IsShort text = length text ≤ MOST_BYTES
-
-grown-none : (sent : Option (List ℕ)) → sent ≡ grown sent []
-grown-none None = refl
-grown-none (Some sent) = ap (λ (s : List ℕ). Some s) (sym (append-nil sent))
 
 end-right : (c : Cascade) (all : Bool) (words : List ℕ) → first_wrong c all words ≡ None → length words ≤ MOST_BYTES → words_end (first_wrong c all words) words ≡ Ok false
 end-right c all words right short =

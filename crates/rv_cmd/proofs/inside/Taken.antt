@@ -23,6 +23,7 @@ use Rattle.rv_cmd.specs.Commands.ToReal.{toreal_limits}
 use Rattle.rv_cmd.specs.Limits.{AreKept}
 use Rattle.rv_faults.specs.declared.fault.InputFault.{InputFault}
 use Rattle.rv_cmd.proofs.Laws.Templates.{no_memory}
+use Rattle.rv_gate.proofs.Options.{unmapped}
 
 -- no fault where a test is to fail
 passes : {X : Type 0} (good : Bool) (fault : X) → (if good then None else Some fault) ≡ None → good ≡ true
@@ -32,10 +33,6 @@ passes false fault none = absurd (let z = none in cc)
 failed : {X : Type 0} (bad : Bool) (fault : X) (rest : Option X) → (if bad then Some fault else rest) ≡ None → (bad ≡ false) × (rest ≡ None)
 failed true fault rest none = absurd (let z = none in cc)
 failed false fault rest none = (refl, none)
-
-unmapped : {X Y : Type 0} (f : X → Y) (o : Option X) → option_map f o ≡ None → o ≡ None
-unmapped f None none = refl
-unmapped f (Some x) none = absurd (let z = none in cc)
 
 -- ---- flips
 

@@ -10,15 +10,7 @@ use Rattle.rv_gate.specs.Gate.{same, xor}
 use Rattle.rv_compute.specs.declared.place.Place.TheVariants.{Line, Constant}
 use Rattle.rv_compute.specs.inside.Sums.{cover_value, start_value, PassesOn, IsStart}
 use Rattle.rv_compute.specs.inside.Held.{held_value, StandsFree, IsSource, IsPlaceFor}
-
--- the bits that stand already stay
-pub with_nodes-old : (nodes : List Node) (bits : List Bool) (i : ℕ) → i < length bits
-    → bit_of (with_nodes nodes bits) i ≡ bit_of bits i
-with_nodes-old [] bits i lt = refl
-with_nodes-old (node ∷ rest) bits i lt =
-    with_nodes-old rest (bits ++ node_value node bits ∷ []) i
-    (omega (arith, length-append bits (node_value node bits ∷ [])))
-    ∙ get_or_append_left bits (node_value node bits ∷ []) false i lt
+use Rattle.rv_blif.proofs.ValueLaws.{stable}
 
 -- equal operands, equal words
 same_operands : (f g : ℕ → Bool) (operands : List ℕ) (n : ℕ) → All (λ signal. signal < n) operands
@@ -37,11 +29,11 @@ with_nodes-node (node ∷ rest) bits zero d are lt =
     let lm = length-append bits (node_value node bits ∷ []) in
     let at : length bits + 0 ≡ length bits = omega arith in
     ap (bit_of (with_nodes rest more)) at
-    ∙ with_nodes-old rest more (length bits) (omega arith)
+    ∙ stable rest more (length bits) (omega arith)
     ∙ get_or-append_seam bits (node_value node bits) [] false
     ∙ ap (cover_value node)
     (same_operands (bit_of bits) (bit_of (with_nodes rest more)) node.operands (length bits) are.0.operands
-    (λ i il. sym (with_nodes-old (node ∷ rest) bits i il)))
+    (λ i il. sym (stable (node ∷ rest) bits i il)))
 with_nodes-node (node ∷ rest) bits (suc k) d are lt =
     let more : List Bool = bits ++ node_value node bits ∷ [] in
     let lm = length-append bits (node_value node bits ∷ []) in
@@ -64,7 +56,7 @@ node_bit logic x k d valid len lt =
 -- the bits of the inputs
 pub input_bit : (logic : Logic) (x : List Bool) (i : ℕ) → i < length x → bit_of (values logic x) i ≡ bit_of x i
 unfolding values
-input_bit logic x i lt = with_nodes-old logic.nodes x i lt
+input_bit logic x i lt = stable logic.nodes x i lt
 
 -- ---- nodes that pass on a signal
 

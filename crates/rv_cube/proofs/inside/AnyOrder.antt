@@ -14,13 +14,14 @@ use Rattle.rv_cube.specs.declared.step.Step.{Step}
 use Rattle.rv_cube.specs.declared.step.Step.TheVariants.{Merge}
 use Rattle.rv_gate.specs.FirstAnswer.{first}
 use Rattle.rv_gate.proofs.FirstAnswer.{none_at}
-use Rattle.rv_cube.proofs.Searches.{first_is, passes_some, passes_none}
+use Rattle.rv_cube.proofs.Searches.{first_is, passes_some}
 use Rattle.rv_cube.proofs.Reduced.{found_shorter, reduced_once}
 use Rattle.rv_cube.proofs.inside.Full.{full_within, at_valid}
 use Rattle.rv_cube.proofs.inside.Keys.{is_alike-self, is_alike-comm, is_alike-trans, is_alike-same_inputs}
 use Rattle.rv_cube.proofs.inside.SlotSteps.{merge_first, merged_in_list}
 use Rattle.rv_cube.proofs.inside.MergesIn.{merged_in_valid, merged_in_other, Stood, merged_in_stood}
 use Rattle.std.proofs.lemmas.Grind.{common_steps}
+use Rattle.rv_gate.proofs.Options.{none_false}
 
 -- ---- the first slots with the same inputs
 
@@ -50,7 +51,7 @@ first_pair : (slots : List Cube) (i j : ℕ) → i < j → full slots i ≡ true
 first_pair slots i j ij fi fj s = choose (first (paired slots) 0 (length slots)) refl
   where
     none_after : (k : ℕ) → paired slots k ≡ None → (l : ℕ) → full slots l ≡ true → is_pair slots k l ≡ false
-    none_after k e l f = let w = full_within slots l f in passes_none _ k (none_at _ 0 (length slots) l e (omega arith) (omega arith))
+    none_after k e l f = let w = full_within slots l f in none_false _ k (none_at _ 0 (length slots) l e (omega arith) (omega arith))
 
     choose : (o : Option ℕ) → first (paired slots) 0 (length slots) ≡ o → (a : ℕ) × (b : ℕ) × IsFirstPair slots a b
     choose None e =
@@ -70,7 +71,7 @@ first_pair slots i j ij fi fj s = choose (first (paired slots) 0 (length slots))
             full_b = t.0;
             same = t.1;
             before = λ k l ka kl fk fl. not_pair slots k l (none_after k (r.4 k (omega arith) ka) l fl) kl fk fl;
-            between = λ l al lb fl. not_pair slots r.0 l (passes_none _ r.0 (c.4 l (omega arith) lb)) al q.0 fl;
+            between = λ l al lb fl. not_pair slots r.0 l (none_false _ r.0 (c.4 l (omega arith) lb)) al q.0 fl;
           },
         )
 

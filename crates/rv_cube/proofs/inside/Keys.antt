@@ -13,8 +13,9 @@ use Rattle.rv_cube.specs.Reduction.{at, have_same_inputs}
 use Rattle.rv_cube.specs.inside.Slots.{is_alike, full, IsKeyed, slot_of}
 use Rattle.rv_cube.proofs.inside.Differing.{IsDiffering, differing_is, differing_only, differing-none, differing-suc}
 use Rattle.rv_gate.proofs.FirstAnswer.{none_at}
-use Rattle.rv_cube.proofs.Searches.{finds_first, finds_if, passes_none}
+use Rattle.rv_cube.proofs.Searches.{finds_first, finds_if}
 use Rattle.rv_cube.proofs.inside.Full.{full_within}
+use Rattle.rv_gate.proofs.Options.{none_false}
 
 -- ---- the sets of a cube
 
@@ -100,7 +101,7 @@ pub slot_of-none : (slots : List Cube) (cube : Cube) → slot_of slots cube ≡ 
 unfolding slot_of
 slot_of-none slots cube e i f a =
     let l = full_within slots i f in
-    let t = passes_none _ i (none_at (λ k. cond (full slots k && is_alike (at slots k) cube) (Some k) None) 0 (length slots) i e (omega arith) (omega arith)) in
+    let t = none_false _ i (none_at (λ k. cond (full slots k && is_alike (at slots k) cube) (Some k) None) 0 (length slots) i e (omega arith) (omega arith)) in
     false≢true (sym t ∙ and_from _ _ f a)
 
 pub slot_of-some : (slots : List Cube) (cube : Cube) (j : ℕ) → slot_of slots cube ≡ Some j → (full slots j ≡ true) × (is_alike (at slots j) cube ≡ true)

@@ -10,11 +10,9 @@ use Rattle.rv_cube.specs.inside.Slots.{key_of}
 use Rattle.rv_cube.specs.inside.Filter.{filter_place, ones_place}
 use Rattle.rv_cube.specs.inside.Moved.{moved_as, IsStep}
 use Rattle.std.proofs.lemmas.Grind.{common_steps}
+use Rattle.rv_cube.proofs.Sums.{xor_pairs}
 
 -- ---- exclusive or
-
-both : (a b c d : ℕ) → bit_xor (bit_xor a b) (bit_xor c d) ≡ bit_xor (bit_xor a c) (bit_xor b d)
-both a b c d = grind (arith, xor_assoc, bit_xor, xor_comm)
 
 shifted : (k a b : ℕ) → bit_xor a b * 2 ^ k ≡ bit_xor (a * 2 ^ k) (b * 2 ^ k)
 shifted k a b = simp unary_clauses at (sym (xor_block k a b 0 0 (pow_pos k) (pow_pos k)))
@@ -29,10 +27,10 @@ ones_place-xor : (a b : ℕ) → ones_place (bit_xor a b) ≡ bit_xor (ones_plac
 ones_place-xor a b =
     ap (λ n. bit_xor n (bit_xor a b * 128 % 524288)) (shifted 3 a b)
     ∙ ap (bit_xor (bit_xor (a * 8) (b * 8))) (ap (λ n. n % 524288) (shifted 7 a b) ∙ xor_mod (a * 128) (b * 128) 19)
-    ∙ both (a * 8) (b * 8) (a * 128 % 524288) (b * 128 % 524288)
+    ∙ xor_pairs (a * 8) (b * 8) (a * 128 % 524288) (b * 128 % 524288)
 
 place_xor : (a b c d : ℕ) → bit_xor (bit_xor a c) (ones_place (bit_xor b d)) ≡ bit_xor (bit_xor a (ones_place b)) (bit_xor c (ones_place d))
-place_xor a b c d = ap (bit_xor (bit_xor a c)) (ones_place-xor b d) ∙ both a c (ones_place b) (ones_place d)
+place_xor a b c d = ap (bit_xor (bit_xor a c)) (ones_place-xor b d) ∙ xor_pairs a c (ones_place b) (ones_place d)
 
 place_moved : (from cube to : Cube)
     → filter_place (key_of (moved_as from cube to)) ≡ bit_xor (bit_xor (filter_place (key_of from)) (filter_place (key_of cube))) (filter_place (key_of to))

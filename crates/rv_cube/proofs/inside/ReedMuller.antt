@@ -115,10 +115,10 @@ get_or-xor_each (x ∷ xs) [] i h l = absurd (omega (arith, l))
 get_or-xor_each (x ∷ xs) (y ∷ ys) zero h l = refl
 get_or-xor_each (x ∷ xs) (y ∷ ys) (suc i) h l = get_or-xor_each xs ys i (omega (arith, h)) (omega (arith, l))
 
-length-low : (n : ℕ) (table : List ℕ) → length table ≡ 2 ^ suc n → length (take (2 ^ n) table) ≡ 2 ^ n
+pub length-low : (n : ℕ) (table : List ℕ) → length table ≡ 2 ^ suc n → length (take (2 ^ n) table) ≡ 2 ^ n
 length-low n table h = let p = pow-suc 2 n in omega (arith, length-take (2 ^ n) table)
 
-length-high : (n : ℕ) (table : List ℕ) → length table ≡ 2 ^ suc n → length (drop (2 ^ n) table) ≡ 2 ^ n
+pub length-high : (n : ℕ) (table : List ℕ) → length table ≡ 2 ^ suc n → length (drop (2 ^ n) table) ≡ 2 ^ n
 length-high n table h = let p = pow-suc 2 n in omega (arith, length-drop (2 ^ n) table)
 
 length-mended : (n : ℕ) (table : List ℕ) → length table ≡ 2 ^ suc n → length (xor_each (take (2 ^ n) table) (drop (2 ^ n) table)) ≡ 2 ^ n

@@ -18,7 +18,7 @@ use Rattle.rv_cube.specs.Dashes.{IsDashed}
 use Rattle.rv_cube.specs.Esop.{terms_of}
 use Rattle.rv_cube.specs.ReedMuller.{set_cube, reed_muller}
 use Rattle.rv_cube.specs.inside.Transform.{xor_each, transformed}
-use Rattle.rv_cube.proofs.inside.ReedMuller.{length-xor_each, get_or-xor_each, length-transformed, reed_muller-transformed, small_transformed}
+use Rattle.rv_cube.proofs.inside.ReedMuller.{length-xor_each, get_or-xor_each, length-transformed, reed_muller-transformed, small_transformed, length-low, length-high}
 use Rattle.rv_dbs.specs.Walk.{other}
 use Rattle.rv_dbs.proofs.Pairs.{other_within}
 
@@ -126,12 +126,6 @@ sparse_low m k a b h la lb sa sb = record {
 
 -- ---- the halves of a table
 
-low_half : (m : ℕ) (t : List ℕ) → length t ≡ 2 ^ suc m → length (take (2 ^ m) t) ≡ 2 ^ m
-low_half m t h = let two = pow-suc 2 m in omega (arith, length-take (2 ^ m) t)
-
-high_half : (m : ℕ) (t : List ℕ) → length t ≡ 2 ^ suc m → length (drop (2 ^ m) t) ≡ 2 ^ m
-high_half m t h = let two = pow-suc 2 m in omega (arith, length-drop (2 ^ m) t)
-
 other_low : (m x : ℕ) → x < 2 ^ m → other m x ≡ 2 ^ m + x
 other_low m x h =
     let a : x ≡ 0 * 2 ^ m + x = omega arith in
@@ -150,7 +144,7 @@ other_high m k x hk h =
 same_halves : (m : ℕ) (t : List ℕ) → length t ≡ 2 ^ suc m → IsFreeTable (suc m) m t → (x : ℕ) → x < 2 ^ m
     → get_or (xor_each (take (2 ^ m) t) (drop (2 ^ m) t)) x 0 ≡ 0
 same_halves m t len free x h =
-    grind (arith, pow-suc, low_half, high_half, get_or-xor_each, bit_xor, get_or-take, get_or-drop, other_low, xor_self)
+    grind (arith, pow-suc, length-low, length-high, get_or-xor_each, bit_xor, get_or-take, get_or-drop, other_low, xor_self)
 
 -- without a lower bit, both halves are without it
 free_low : (m k : ℕ) (t : List ℕ) → k < m → IsFreeTable (suc m) k t → IsFreeTable m k (take (2 ^ m) t)
@@ -174,8 +168,8 @@ sparse zero k t h len free = absurd (omega arith)
 sparse (suc m) k t h len free =
     let a : List ℕ = take (2 ^ m) t in
     let b : List ℕ = xor_each (take (2 ^ m) t) (drop (2 ^ m) t) in
-    let l = low_half m t len in
-    let r = high_half m t len in
+    let l = length-low m t len in
+    let r = length-high m t len in
     let lb : length (xor_each (take (2 ^ m) t) (drop (2 ^ m) t)) ≡ 2 ^ m = length-xor_each (take (2 ^ m) t) (drop (2 ^ m) t) (l ∙ sym r) ∙ r in
     let ta = length-transformed m (take (2 ^ m) t) l in
     let tb = length-transformed m (xor_each (take (2 ^ m) t) (drop (2 ^ m) t)) lb in

@@ -37,7 +37,7 @@ row_lexemes draws c gates line = label_lexeme (label_at c.input_labels line) ∷
 abbrev pub row_at : {G : Type 0} → (G → ℕ → Symbol) → Cascade → List G → ℕ → Row
 row_at draws c gates line = record { input_label = label_at c.input_labels line; symbols = wire_on draws c gates line; output_label = label_at c.output_labels line }
 
-label_is : (labels : List (List ℕ)) (n line : ℕ) → AreLabels n labels → line < n → IsLabel (label_at labels line)
+pub label_is : (labels : List (List ℕ)) (n line : ℕ) → AreLabels n labels → line < n → IsLabel (label_at labels line)
 label_is labels n line are lt = All-get_or IsLabel labels line [] (omega (arith, lt, are.count)) are.each
 
 row_writable : {G : Type 0} (draws : G → ℕ → Symbol) (c : Cascade) (gates : List G) (line : ℕ) → IsCascade c → line < length c.names → AreWritable (row_lexemes draws c gates line)

@@ -17,7 +17,7 @@ use Rattle.rv_mct.specs.Blocks.{added, borrowed_ladder_cost, cost_of, count, cou
 use Rattle.rv_mct.specs.Extends.{IsPlain}
 use Rattle.rv_mct.specs.declared.aux.Aux.{Aux}
 use Rattle.rv_mct.specs.declared.aux.Aux.TheVariants.{Borrowed, Clean}
-use Rattle.rv_mct.specs.inside.LadderLines.{Every}
+use Rattle.rv_gate.specs.Every.{Every}
 use Rattle.rv_mct.specs.inside.Long.{IsLong}
 use Rattle.rv_mct.proofs.inside.Gates.{flips_own}
 use Rattle.rv_mct.proofs.inside.Splits.{free_count}

@@ -14,7 +14,8 @@ use Rattle.rv_fold.specs.Folded.{Kept, phase_gate, parity_at, parities_at, resta
 use Rattle.rv_fold.specs.inside.Standing.{IsSince, AreSince, Begins, StartsAt}
 use Rattle.rv_fold.proofs.Restarts.{closure_step-only, apart_none, restart_none}
 use Rattle.rv_fold.proofs.Joining.{restarted_here, parity_here, kept_more}
-use Rattle.rv_fold.proofs.Walking.{kind, phase_direct, same_parity-eq, same_parity-refl}
+use Rattle.rv_fold.proofs.Walking.{phase_direct, same_parity-eq, same_parity-refl}
+use Rattle.rv_gate.proofs.Options.{option_cases}
 
 -- ---- restarted lines are lines
 
@@ -41,7 +42,7 @@ module _ (n : ℕ) (ops : List Op) where
 
   pub restarted_below : All (λ o. OpFitsIn o n) ops → (k l : ℕ) → has (restarted_at n ops k) l ≡ true → l < n
   restarted_below fit k l on =
-      elim (kind (slice_get ops k)) [
+      elim (option_cases (slice_get ops k)) [
         | inl e ↦ absurd (false≢true (sym (has-none l) ∙ ap (λ s. has s l) (sym (restarted_past k e)) ∙ on))
         | inr p ↦
             (let fits : OpFitsIn p.0 n = subst (λ o. OpFitsIn o n) (get_or_from_slice_get ops k p.0 p.0 p.1) (fit k p.0 (slice_get_within ops k p.0 p.1)) in
@@ -54,10 +55,10 @@ module _ (n : ℕ) (ops : List Op) where
   -- a phase restarts nothing
   pub phase_quiet : (m : ℕ) (f : Parity) → parity_at n ops m ≡ Some f → restarted_at n ops m ≡ 0
   phase_quiet m f e =
-      elim (kind (slice_get ops m)) [
+      elim (option_cases (slice_get ops m)) [
         | inl past ↦ restarted_past m past
         | inr p ↦
-            (elim (kind (phase_gate p.0)) [
+            (elim (option_cases (phase_gate p.0)) [
               | inl other ↦ absurd (none-some f (sym (parity_here n ops m p.0 p.1 ∙ ap (option_map (λ (q : PhaseGate). parities_at n ops m q.line)) other) ∙ e))
               | inr q ↦ (restarted_here n ops m p.0 p.1 ∙ ap (restart_set n (parities_at n ops m)) (phase_direct p.0 q.0 q.1) ∙ restart_none n (parities_at n ops m) n)
             ])

@@ -11,7 +11,8 @@ use Rattle.rv_fold.specs.Folded.{phase_gate, phase_ops, exponent_of, phase_gate_
 use Rattle.rv_fold.specs.inside.Standing.{StartsAt, AreSums, sum_at, sent, sent_phase}
 use Rattle.rv_fold.specs.Parities.{Parity}
 use Rattle.rv_fold.proofs.Joining.{Joined, joined_at, joined_from, joined_back, joined_through, some_parity_here, no_parity_here, phase_here, worth_from, sum_none}
-use Rattle.rv_fold.proofs.Walking.{at_none, kind}
+use Rattle.rv_fold.proofs.Walking.{at_none}
+use Rattle.rv_gate.proofs.Options.{option_cases}
 
 module _ (n : ℕ) (ops : List Op) where
   first_unless : (j : ℕ) → ((i : ℕ) → i < j → Joined n ops i j → ⊥) → is_first n ops j ≡ true
@@ -160,7 +161,7 @@ parts_more f (x ∷ ops) m (suc j) o e = let i0 = parts_more f ops (suc m) j o e
 
 pub sent_is_part : (n : ℕ) (ops : List Op) (j : ℕ) (o : Op) → sent o (sum_at n ops (length ops) j) ≡ part n ops j o
 sent_is_part n ops j o =
-    elim (kind (phase_gate o)) [
+    elim (option_cases (phase_gate o)) [
       | inl e ↦ (ap (sent_phase o (sum_at n ops (length ops) j)) e ∙ part_other n ops j o e)
       | inr p ↦ (ap (sent_phase o (sum_at n ops (length ops) j)) p.1 ∙ part_phase n ops j o p.0 p.1)
     ]

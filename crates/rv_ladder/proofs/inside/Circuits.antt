@@ -20,7 +20,7 @@ use Rattle.rv_mct.specs.declared.aux.Aux.{Aux}
 use Rattle.rv_mct.specs.declared.aux.Aux.TheVariants.{Borrowed, Clean}
 use Rattle.rv_mct.specs.declared.control.Control.{Control}
 use Rattle.rv_mct.specs.inside.Long.{Ready}
-use Rattle.rv_mct.specs.inside.LadderLines.{Every}
+use Rattle.rv_gate.specs.Every.{Every}
 use Rattle.rv_mct.proofs.inside.LongFlips.{act_put}
 use Rattle.rv_mct.proofs.inside.Gates.{first_free, flips_own, free_some, long_of, run_flips}
 use Rattle.rv_net.specs.declared.op.Op.{Op}

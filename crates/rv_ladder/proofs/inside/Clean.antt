@@ -10,7 +10,8 @@ use Rattle.rv_gate.specs.Word.{has}
 use Rattle.rv_gate.specs.declared.gate.Shape.TheVariants.{Flip}
 use Rattle.rv_mct.specs.Blocks.{control, controls_of, count_lines, positive, rising}
 use Rattle.rv_mct.specs.declared.control.Control.{Control}
-use Rattle.rv_mct.specs.inside.LadderLines.{CleanDivided, Distinct, Divides as Division, Every, In, IsOn as IsControl}
+use Rattle.rv_gate.specs.Every.{Every}
+use Rattle.rv_mct.specs.inside.LadderLines.{CleanDivided, Distinct, Divides as Division, In, IsOn as IsControl}
 use Rattle.rv_mct.proofs.inside.Ladders.{Zeros, higher, met as met_one, met_all, off_on, put, with_line, zeros_set}
 use Rattle.rv_mct.proofs.inside.LongFlips.{act_put, clean_divided, distinct_rising, in_range, in_rising, length-rising, every_from}
 use Rattle.rv_net.specs.declared.op.Op.{Op}

@@ -15,14 +15,11 @@ use Rattle.rv_mct.specs.declared.aux.Aux.TheVariants.{Borrowed, Clean}
 use Rattle.rv_mct.proofs.Rising.{count_zero, count-suc}
 use Rattle.rv_mct.proofs.inside.Splits.{count_none, count_one, count_same}
 use Rattle.rv_ladder.specs.Counts.{flip_count, gate_count, ladder_count, long_count, operations, zero_count}
+use Rattle.rv_mct.proofs.Walks.{count_few}
 
 one_few : (b : Bool) → cond {A = ℕ} b 1 0 ≤ 1
 one_few true = omega arith
 one_few false = omega arith
-
-count-few : (p : ℕ → Bool) (n : ℕ) → count p n ≤ n
-count-few p zero = omega (arith, count_zero p)
-count-few p (suc n) = omega (arith, count-suc p n, count-few p n, one_few (p n))
 
 plain-few : (n : ℕ) → operations.plain n ≤ 15
 plain-few n = go (eqb n 2)
@@ -51,19 +48,19 @@ flip-few : (aux : Aux) (lines : ℕ) (g : Shape) → flip_count operations aux l
 flip-few aux lines (Flip care want t) = go (nat_lt (count_lines care) 3)
   where
     z : zero_count care want ≤ 64
-    z = count-few _ 64
+    z = count_few _ 64
 
     go : (b : Bool) → cond {A = ℕ} b (operations.plain (count_lines care) + 2 * (1 * zero_count care want))
         (long_count operations aux (count (is_free care t) lines) (count_lines care) (zero_count care want)) ≤ 2900
     go true = omega (arith, z, plain-few (count_lines care))
-    go false = long-few aux (count (is_free care t) lines) (count_lines care) (zero_count care want) (count-few (has care) 64) z
+    go false = long-few aux (count (is_free care t) lines) (count_lines care) (zero_count care want) (count_few (has care) 64) z
 flip-few aux lines (Swap care want a b) = omega arith
 flip-few aux lines (Peres a b c) = omega arith
 
 -- with at most two controls
 plain-flip-few : (aux : Aux) (lines care want t : ℕ) → count_lines care ≤ 2 → flip_count operations aux lines (Flip care want t) ≤ 143
 plain-flip-few aux lines care want t plain =
-    let z : zero_count care want ≤ 64 = count-few _ 64 in
+    let z : zero_count care want ≤ 64 = count_few _ 64 in
     let few : ℕ = operations.plain (count_lines care) + 2 * (1 * zero_count care want) in
     let many : ℕ = long_count operations aux (count (is_free care t) lines) (count_lines care) (zero_count care want) in
     let e : flip_count operations aux lines (Flip care want t) ≡ few = ap (λ b. cond b few many) (lt-ltb (count_lines care) 3 (omega (arith, plain))) in

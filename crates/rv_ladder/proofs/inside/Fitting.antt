@@ -3,7 +3,8 @@ use Rattle.std.proofs.Common.{◌≢◌, ℕ, ◌<◌, Bool, true, false, cond, 
 use Rattle.std.proofs.lemmas.List.Elements.{All-cons, All-head, All-nil, All-tail}
 use Rattle.std.specs.List.{All}
 use Rattle.rv_mct.specs.declared.control.Control.{Control}
-use Rattle.rv_mct.specs.inside.LadderLines.{Divides as Division, Every}
+use Rattle.rv_gate.specs.Every.{Every}
+use Rattle.rv_mct.specs.inside.LadderLines.{Divides as Division}
 use Rattle.rv_mct.proofs.inside.Ladders.{higher, with_line, off_on}
 use Rattle.rv_mct.specs.Blocks.{positive}
 use Rattle.rv_net.specs.declared.op.Op.{Op}

@@ -12,9 +12,11 @@ use Rattle.rv_gate.proofs.inside.GateLemmas.{flip_if, length-act}
 use Rattle.rv_mct.specs.Blocks.{below, control, controls_of, count, count_lines, from, is_free, middle, rising}
 use Rattle.rv_mct.specs.declared.control.Control.{Control}
 use Rattle.rv_mct.specs.inside.Long.{IsCut, IsLong}
-use Rattle.rv_mct.specs.inside.LadderLines.{BorrowedDivided, Distinct, Divides as Division, Every, In, IsOn as IsControl}
+use Rattle.rv_gate.specs.Every.{Every}
+use Rattle.rv_mct.specs.inside.LadderLines.{BorrowedDivided, Distinct, Divides as Division, In, IsOn as IsControl}
 use Rattle.rv_mct.proofs.inside.Ladders.{met as met_one, met_all, met_down, put}
-use Rattle.rv_mct.proofs.inside.LongFlips.{act_put, borrowed_divided, distinct_rising, free_parts, in_rising, length-rising, met_down_reverse, every_reverse}
+use Rattle.rv_gate.proofs.Every.{every_reverse}
+use Rattle.rv_mct.proofs.inside.LongFlips.{act_put, borrowed_divided, distinct_rising, free_parts, in_rising, length-rising, met_down_reverse}
 use Rattle.rv_mct.proofs.inside.Splits.{below_part, cut_of, four, from_part, holds_cut, off_from}
 use Rattle.rv_net.specs.declared.op.Op.{Op}
 use Rattle.rv_net.proofs.Step.{Word, bit}

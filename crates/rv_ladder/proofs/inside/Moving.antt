@@ -2,7 +2,7 @@
 use Rattle.std.proofs.Common.{◌≡◌, ℕ, zero, suc, ◌+◌, Bool, true, false, ◌&&◌, List, [], ◌∷◌, length, set, refl, sym, ◌∙◌, ap, ap₂, inl, inr, arith, length-set, get_or-set_same, get_or-set_other, set-set}
 use Rattle.std.proofs.lemmas.List.{set_comm, set-get_or}
 use Rattle.rv_gate.specs.Gate.{xor}
-use Rattle.rv_mct.specs.inside.LadderLines.{Every}
+use Rattle.rv_gate.specs.Every.{Every}
 use Rattle.rv_net.specs.Cyclotomic.{Cyclotomic, times_w, times_w_power}
 use Rattle.rv_net.proofs.Step.{Word, bit}
 use Rattle.rv_net.proofs.Cyclotomic.{w_eight, turns_comm}

@@ -6,7 +6,8 @@ use Rattle.rv_gate.specs.Word.{has}
 use Rattle.rv_gate.proofs.Bits.{not_not}
 use Rattle.rv_mct.specs.Blocks.{control}
 use Rattle.rv_mct.specs.declared.control.Control.{Control}
-use Rattle.rv_mct.specs.inside.LadderLines.{Distinct, Every, In}
+use Rattle.rv_gate.specs.Every.{Every}
+use Rattle.rv_mct.specs.inside.LadderLines.{Distinct, In}
 use Rattle.rv_mct.proofs.inside.Ladders.{met as met_one, put, off_on}
 use Rattle.rv_net.specs.declared.op.Op.{Op}
 use Rattle.rv_net.specs.declared.op.Op.TheVariants.{X}

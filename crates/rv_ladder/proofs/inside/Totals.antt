@@ -22,7 +22,7 @@ use Rattle.rv_mct.specs.Blocks.{is_free, middle, rising, wish}
 use Rattle.rv_mct.specs.declared.aux.Aux.{Aux}
 use Rattle.rv_mct.specs.declared.aux.Aux.TheVariants.{Borrowed, Clean}
 use Rattle.rv_mct.specs.declared.control.Control.{Control}
-use Rattle.rv_mct.specs.inside.LadderLines.{Every}
+use Rattle.rv_gate.specs.Every.{Every}
 use Rattle.rv_mct.specs.inside.Long.{IsCut, Ready}
 use Rattle.rv_mct.proofs.Rising.{count_zero, count-suc, rising-suc, rising_zero}
 use Rattle.rv_mct.proofs.inside.Gates.{first_free, flips_own, free_some, long_of}

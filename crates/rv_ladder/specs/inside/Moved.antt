@@ -2,7 +2,8 @@
 use Rattle.std.specs.Prelude.{◌≡◌, ◌<◌, ◌≢◌, ℕ, ◌+◌, Bool, true, false, ◌&&◌, List, [], ◌∷◌, length, if◌then◌else◌, slice_set}
 use Rattle.rv_gate.specs.Gate.{xor}
 use Rattle.rv_gate.specs.Word.{bit_of}
-use Rattle.rv_mct.specs.inside.LadderLines.{Distinct, Every, In}
+use Rattle.rv_gate.specs.Every.{Every}
+use Rattle.rv_mct.specs.inside.LadderLines.{Distinct, In}
 
 -- the controls hold
 abbrev pub met : ℕ → ℕ → List ℕ → List Bool → Bool

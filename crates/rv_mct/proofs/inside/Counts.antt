@@ -18,7 +18,7 @@ use Rattle.rv_mct.specs.Blocks.{rising, count, is_free, controls_of, count_lines
 use Rattle.std.specs.List.{flat_map, range_with_len, sum_by}
 use Rattle.rv_mct.specs.Extends.{IsPlain}
 use Rattle.rv_mct.specs.inside.Long.{IsCut, Ready}
-use Rattle.rv_mct.specs.inside.LadderLines.{Every}
+use Rattle.rv_gate.specs.Every.{Every}
 use Rattle.rv_mct.proofs.Rising.{count_zero, count-suc}
 use Rattle.rv_mct.proofs.inside.LongFlips.{length-controls_of, length-rising}
 use Rattle.rv_mct.proofs.inside.Splits.{count_none, count_one, cut_of}

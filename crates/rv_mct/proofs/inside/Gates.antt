@@ -22,7 +22,8 @@ use Rattle.rv_mct.specs.Blocks.{both, wanted_place, rising, count, is_free, coun
 use Rattle.std.specs.List.{flat_map}
 use Rattle.rv_mct.specs.Extends.{MayHold, Extends}
 use Rattle.rv_mct.specs.inside.Long.{IsLong, Ready}
-use Rattle.rv_mct.specs.inside.LadderLines.{In, Every, IsRung}
+use Rattle.rv_gate.specs.Every.{Every}
+use Rattle.rv_mct.specs.inside.LadderLines.{In, IsRung}
 use Rattle.rv_mct.proofs.inside.LongFlips.{length-rising, in_rising, not_within, run_borrowed_ladder, run_clean_ladder}
 use Rattle.rv_mct.proofs.inside.Ladders.{free_two}
 use Rattle.rv_mct.proofs.inside.Splits.{holds_with, count_some, run_split}

@@ -10,7 +10,8 @@ use Rattle.rv_gate.specs.declared.gate.Shape.{Shape}
 use Rattle.rv_gate.proofs.inside.GateLemmas.{holds_Decides, holds-set, flip_if, flip_twice, length-act, length-run, run-append}
 use Rattle.rv_gate.proofs.LineSets.{has-line, has-lines, has-or, has-none}
 use Rattle.rv_mct.specs.declared.control.Control.{Control}
-use Rattle.rv_mct.specs.inside.LadderLines.{In, Every, IsOn, IsOff, Divides}
+use Rattle.rv_gate.specs.Every.{Every}
+use Rattle.rv_mct.specs.inside.LadderLines.{In, IsOn, IsOff, Divides}
 use Rattle.rv_mct.specs.Blocks.{positive, wanted_place, both, ladder, down_up, inner, down_up_twice}
 use Rattle.rv_gate.proofs.Bits.{same_true, same_from, and_assoc, xor_assoc, xor_false, false_xor, xor_same}
 

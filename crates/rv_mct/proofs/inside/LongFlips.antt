@@ -15,11 +15,13 @@ use Rattle.rv_mct.specs.declared.control.Control.{Control}
 use Rattle.rv_mct.specs.Blocks.{rising, count, is_free, control, controls_of, count_lines, clean_ladder, borrowed_ladder_over, borrowed_ladder, down_up_twice, ladder}
 use Rattle.std.specs.List.{range_with_len}
 use Rattle.rv_mct.specs.inside.Long.{IsLong}
-use Rattle.rv_mct.specs.inside.LadderLines.{In, Every, Distinct, IsOn, IsOff, AreDivided, BorrowedDivided, CleanDivided, no_control}
+use Rattle.rv_gate.specs.Every.{Every}
+use Rattle.rv_mct.specs.inside.LadderLines.{In, Distinct, IsOn, IsOff, AreDivided, BorrowedDivided, CleanDivided, no_control}
 use Rattle.rv_mct.proofs.Rising.{rising_zero, rising-suc, count_zero, count-suc}
 use Rattle.rv_mct.proofs.inside.Ladders.{Apart, met, met_all, met_down, put, run_ladder, run_down_up_twice}
 use Rattle.rv_gate.proofs.Bits.{same_true, same_from, and_comm, and_assoc}
 use Rattle.rv_gate.proofs.Lists.{take_same}
+use Rattle.rv_gate.proofs.Every.{every_reverse, reverse-cons}
 
 -- ---- lists of lines
 
@@ -90,9 +92,6 @@ distinct_take zero xs d = tt
 distinct_take (suc k) [] d = tt
 distinct_take (suc k) (x ∷ xs) d = (λ y i. d.0 y (in_take k y xs i), distinct_take k xs d.1)
 
-reverse-cons : {A : Type 0} → (x : A) (xs : List A) → reverse (x ∷ xs) ≡ reverse xs ++ (x ∷ [])
-reverse-cons x xs = reverse-append (x ∷ []) xs
-
 in_reverse : (x : ℕ) (xs : List ℕ) → In x (reverse xs) → In x xs
 in_reverse x [] i = i
 in_reverse x (y ∷ xs) i =
@@ -111,14 +110,6 @@ distinct_reverse (x ∷ xs) d =
 pub every_from : (P : ℕ → Type 0) (xs : List ℕ) → ((x : ℕ) → In x xs → P x) → Every P xs
 every_from P [] h = tt
 every_from P (x ∷ xs) h = (h x (inl refl), every_from P xs (λ y i. h y (inr i)))
-
-pub every_append : {A : Type 0} → (P : A → Type 0) (xs ys : List A) → Every P xs → Every P ys → Every P (xs ++ ys)
-every_append P [] ys ex ey = ey
-every_append P (x ∷ xs) ys ex ey = (ex.0, every_append P xs ys ex.1 ey)
-
-pub every_reverse : {A : Type 0} → (P : A → Type 0) (xs : List A) → Every P xs → Every P (reverse xs)
-every_reverse P [] e = e
-every_reverse P (x ∷ xs) e = rw (reverse-cons x xs) (every_append P (reverse xs) (x ∷ []) (every_reverse P xs e.1) (e.0, tt))
 
 pub every_controls : (n : ℕ) (on : ℕ → Bool) (want : ℕ) (xs : List ℕ) → ((x : ℕ) → In x xs → (x < n) × (on x ≡ true)) → Every (IsOn n on) (map (control want) xs)
 every_controls n on want [] h = tt

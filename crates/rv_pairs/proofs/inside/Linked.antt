@@ -55,7 +55,7 @@ node_more cells nodes new belongs _ _ (links at to node there early none own res
     links at to node (slice_get-left nodes (new ∷ []) at (slice_get_within nodes at node there) ∙ there) early none own
     (node_more cells nodes new belongs node.below node.place rest)
 
-stands_left : (cells : Cells) (new : Option Op) (k : ℕ) (o : Op) → k < length cells → StandsAt (cells ++ new ∷ []) k o → StandsAt cells k o
+pub stands_left : (cells : Cells) (new : Option Op) (k : ℕ) (o : Op) → k < length cells → StandsAt (cells ++ new ∷ []) k o → StandsAt cells k o
 stands_left cells new k o lt h = sym (slice_get-left cells (new ∷ []) k lt) ∙ h
 
 pub cell_more : (cells : Cells) (new : Option Op) (nodes : List Node) (belongs : Op → Bool) (link to : ℕ) → to ≤ length cells → Chain cells nodes belongs link to

@@ -20,7 +20,7 @@ use Rattle.rv_net.proofs.Step.{Word, amp, delta, same_amp, step}
 use Rattle.rv_pairs.specs.Cancelled.{IsCancellingOf, IsPair, IsTable, Undoes, inverse, mirrored}
 use Rattle.rv_pairs.specs.Commuting.{commute, reads, writes}
 use Rattle.rv_pairs.specs.inside.Cells.{Cells, HasNoPartner, IsNext, IsPartner, StandsAt, present}
-use Rattle.rv_pairs.proofs.inside.Linked.{slice_get-last, slice_get-left, stood_before}
+use Rattle.rv_pairs.proofs.inside.Linked.{slice_get-last, slice_get-left, stood_before, stands_left}
 use Rattle.rv_pairs.proofs.inside.Meeting.{commute_from}
 use Rattle.rv_pairs.proofs.Passing.{apart_from, passing}
 use Rattle.rv_pairs.proofs.Undoing.{twos, undoing}
@@ -205,9 +205,6 @@ abbrev pub NoPair : Cells → Type 0
 NoPair cells =
     (i j : ℕ) (p o : Op) → i < j → StandsAt cells i p → StandsAt cells j o → Undoes p o
     → ((k : ℕ) (q : Op) → i < k → k < j → StandsAt cells k q → commute q o ≡ true) → ⊥
-
-stands_left : (cells : Cells) (new : Option Op) (k : ℕ) (o : Op) → k < length cells → StandsAt (cells ++ new ∷ []) k o → StandsAt cells k o
-stands_left cells new k o lt h = sym (slice_get-left cells (new ∷ []) k lt) ∙ h
 
 no_pair_more : (cells : Cells) (o : Op) → NoPair cells → HasNoPartner cells o → NoPair (cells ++ Some o ∷ [])
 no_pair_more cells o settled none i j p later order at there undoes between =

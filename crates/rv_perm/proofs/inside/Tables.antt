@@ -15,13 +15,10 @@ use Rattle.rv_perm.specs.inside.Places.{AreInverse}
 use Rattle.rv_reader.specs.FirstFault.{first_below, unless_fault}
 use Rattle.rv_reader.proofs.FirstBelow.{first_below-none}
 use Rattle.rv_perm.proofs.inside.Inverse.{preimage_of-first, preimage_of-is, stands_once}
+use Rattle.rv_gate.proofs.Options.{option_cases}
 
 abbrev tabled : List ℕ → ℕ → Table
 tabled xs n = record { lines = n; images = xs }
-
-option_cases : {A : Type 0} (o : Option A) → (o ≡ None) ⊎ ((v : A) × (o ≡ Some v))
-option_cases None = inl refl
-option_cases (Some v) = inr (v, refl)
 
 -- ---- the lines
 

@@ -3,7 +3,7 @@ use Rattle.std.proofs.Common.{◌≡◌, ℕ, ◌+◌, ◌^◌, ◌<◌, ◌≤�
 use Rattle.std.specs.Prelude.{bit_and, is_some}
 use Rattle.std.specs.List.{find}
 use Rattle.std.specs.Option.{option_map}
-use Rattle.std.proofs.lemmas.Bool.{cases_eq, true≢false}
+use Rattle.std.proofs.lemmas.Bool.{cases_eq, true≢false, and_right}
 use Rattle.std.specs.Int.{bit_at}
 use Rattle.std.proofs.lemmas.List.{drop_all}
 use Rattle.std.proofs.lemmas.Nat.Bits.{bit_at-zero, bit_at_and}
@@ -19,15 +19,11 @@ use Rattle.rv_reader.proofs.FirstBelow.{first_below-none}
 use Rattle.rv_pla.specs.inside.Table.{IsTabled, has_off_set, entry_told}
 use Rattle.rv_gate.proofs.LineSets.{has-none}
 
--- no term says anything of no output
-and_false : (a b : Bool) → b ≡ false → (a && b) ≡ false
-and_false a b h = grind arith
-
 pub first_line-no_outputs : (word : List Bool) (j : ℕ) (terms : List Term) → first_line (λ term. no_outputs) word j terms ≡ None
 unfolding first_line
 first_line-no_outputs word j [] = refl
 first_line-no_outputs word j (t ∷ ts) =
-    ap (λ b. option_map (λ (term : Term). term.line) (cond b (Some t) (find (covers (λ term. no_outputs) word j) ts))) (and_false (matches t.cube word) (has 0 j) (has-none j)) ∙ first_line-no_outputs word j ts
+    ap (λ b. option_map (λ (term : Term). term.line) (cond b (Some t) (find (covers (λ term. no_outputs) word j) ts))) (and_right (matches t.cube word) (has 0 j) (has-none j)) ∙ first_line-no_outputs word j ts
 
 none_covers : (word : List Bool) (j : ℕ) (terms : List Term) → is_some (first_line (λ term. no_outputs) word j terms) ≡ false
 none_covers word j terms = ap is_some (first_line-no_outputs word j terms)
@@ -72,7 +68,7 @@ conflict_by-none : (on off : Option ℕ) (n x j : ℕ) → (is_some on && is_som
 conflict_by-none on off n x j h = grind arith
 
 off_uncovered : (on off : Option ℕ) (n x j : ℕ) → is_some off ≡ false → conflict_by on off n x j ≡ None
-off_uncovered on off n x j h = conflict_by-none on off n x j (and_false (is_some on) (is_some off) h)
+off_uncovered on off n x j h = conflict_by-none on off n x j (and_right (is_some on) (is_some off) h)
 
 no_conflict_at : (kind : Kind) (inputs outputs : ℕ) (terms : List Term) (x j : ℕ) → has_off_set kind ≡ false
     → conflict_at (record { inputs = inputs; outputs = outputs; kind = kind; terms = terms }) x j ≡ None
@@ -92,7 +88,7 @@ apart_at : (a b j : ℕ) → bit_and a b ≡ 0 → (has a j && has b j) ≡ fals
 apart_at a b j apart =
     let none : min (bit_at a j) (bit_at b j) ≡ 0 = sym (bit_at_and a b j) ∙ ap (λ s. bit_at s j) apart ∙ bit_at-zero j in
     elim (cases_eq (bit_at a j) 1) [
-      | inl one ↦ and_false (has a j) (has b j) (ne_eqb _ 1 (λ e. omega arith))
+      | inl one ↦ and_right (has a j) (has b j) (ne_eqb _ 1 (λ e. omega arith))
       | inr other ↦ rw (ne_eqb _ 1 other) refl
     ]
 

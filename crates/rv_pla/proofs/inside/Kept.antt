@@ -12,10 +12,7 @@ use Rattle.rv_pla.specs.declared.cube.TheConstants.{MOST_INPUTS, MOST_OUTPUTS}
 use Rattle.rv_pla.specs.inside.State.{Given, IsGiven, IsSize}
 use Rattle.rv_pla.specs.Row.{places_of, term_of}
 use Rattle.rv_pla.proofs.Rows.{places_of-lt, has-places_of}
-
-or_same : (x : Bool) → (x || x) ≡ x
-or_same true = refl
-or_same false = refl
+use Rattle.rv_gate.proofs.Bits.{or_same}
 
 -- the cube of a term
 pub term_of-cube : (i o number : ℕ) (row : List ℕ) → length row ≡ i + o → IsCube i o (term_of i number row).cube

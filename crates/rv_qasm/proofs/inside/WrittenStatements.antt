@@ -6,7 +6,7 @@ use Rattle.std.specs.Int.{IsInRange}
 use Rattle.std.proofs.lemmas.Bool.{cond-true, lt-ltb}
 use Rattle.std.proofs.lemmas.Nat.Bits.{bit_at-zero}
 use Rattle.rv_text.specs.Decimal.{is_decimal, decimal_value}
-use Rattle.rv_text.proofs.inside.Decimal.{is_decimal-decimal, decimal_value-decimal}
+use Rattle.rv_text.proofs.inside.Decimal.{is_decimal-decimal, decimal_value-decimal, digit_range}
 use Rattle.rv_net.specs.declared.net.TheConstants.{MOST_OPS}
 use Rattle.rv_net.specs.declared.op.Op.{Op}
 use Rattle.rv_qasm.specs.Tokens.{TokenOnLine, is_open_string}
@@ -15,7 +15,6 @@ use Rattle.rv_qasm.specs.Gates.{gate_size, op_on}
 use Rattle.rv_qasm.specs.Registers.{RegisterOperand, operands_of, qubits_of}
 use Rattle.rv_qasm.specs.Rules.{SoFar, body_read, gate_read, is_measured, op_read, statement_read}
 use Rattle.rv_qasm.specs.inside.Written.{IsReadyForGate}
-use Rattle.rv_qasm.proofs.WrittenTokens.{digit_range}
 
 -- ---- where statements end
 

@@ -24,6 +24,7 @@ use Rattle.rv_real.specs.Text.{name_at, controls_from, gate_line, gate_words}
 use Rattle.rv_real.proofs.LineSets.{has_repeated-push, names_line-push}
 use Rattle.rv_real.proofs.inside.Placed.{AreOperands, placed_gate}
 use Rattle.rv_real.proofs.ControlsBack.{AreBelow, bare_operand, control_operands, control_operands-count, controls_read, named_exactly, lines_back, positive_back, controls_once}
+use Rattle.rv_real.proofs.inside.HeaderBack.{length-plain}
 
 -- ---- one line of the body
 
@@ -87,10 +88,6 @@ few_controls line (name ∷ names) care want = let rest = few_controls (line + 1
 
 with_room : (c : Cascade) (gate : Shape) → length c.gates < 1048576 → with_gate c gate ≡ Ok (record c { gates = c.gates ++ gate ∷ [] })
 with_room c gate room = rw (lt-ltb (length c.gates) 1048576 room) refl
-
-length-plain : (ws : List (List ℕ)) → length (map plain ws) ≡ length ws
-length-plain [] = refl
-length-plain (w ∷ ws) = ap suc (length-plain ws)
 
 -- the circuit with a gate more
 abbrev Added : Cascade → Shape → Result Cascade ℕ

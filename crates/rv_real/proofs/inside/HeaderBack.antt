@@ -64,7 +64,7 @@ names_read names front [] are whole = ap Ok (sym (append-nil front) ∙ whole)
 names_read names front (name ∷ rest) are whole =
     rw (name_added names front name rest are whole) (names_read names (front ++ name ∷ []) rest are (append_assoc front (name ∷ []) rest ∙ whole))
 
-length-plain : (ws : List (List ℕ)) → length (map plain ws) ≡ length ws
+pub length-plain : (ws : List (List ℕ)) → length (map plain ws) ≡ length ws
 length-plain ws = length-map ws plain
 
 pub variables_back : (h : Header) (names : List (List ℕ)) → AreNames names → h.numvars ≡ Some (length names) → h.names ≡ None

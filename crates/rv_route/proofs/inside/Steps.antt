@@ -5,8 +5,8 @@ use Rattle.std.proofs.lemmas.List.FromFn.{length-range_with_len, get_or-range_wi
 use Rattle.std.specs.List.{filter, range_with_len}
 use Rattle.rv_gate.proofs.Bits.{or_assoc, or_off}
 use Rattle.rv_gate.proofs.inside.Ones.{ones_of-is}
-use Rattle.rv_gate.proofs.LowestLine.{IsLowest, none_left}
-use Rattle.rv_gate.proofs.LineSets.{has-or_one_shl}
+use Rattle.rv_gate.proofs.LowestLine.{IsLowest}
+use Rattle.rv_gate.proofs.LineSets.{has-or_one_shl, has-none}
 use Rattle.rv_gate.proofs.Ranges.{filter-suc}
 use Rattle.rv_gate.specs.Word.{has}
 use Rattle.rv_gate.specs.Gate.{touches}
@@ -55,7 +55,7 @@ placed_all row places set left positions s z w =
     let len : length (map (has set) row) ≡ length places = length-map row (has set) ∙ s.placement.len in
     ones_of-is positions (map (has set) row)
     (λ p lt.
-    let off : has left (get_or row p 0) ≡ false = ap (λ k. has k (get_or row p 0)) z ∙ none_left (get_or row p 0) in
+    let off : has left (get_or row p 0) ≡ false = ap (λ k. has k (get_or row p 0)) z ∙ has-none (get_or row p 0) in
     sym (or_off (has positions p) (has left (get_or row p 0)) off) ∙ w.each p (omega arith) ∙ sym (get_or-map (has set) row p 0 false (let e = s.placement.len in omega arith)))
     (λ p past. w.past p (omega arith))
 

@@ -103,12 +103,6 @@ pub length-behind : (len size : ℕ) (text behind : List ℕ) → length text �
 length-behind len size text behind whole within same =
     grind (arith, put_mid, post_of, length-append, length-drop, length-take)
 
-pub flat_map-more : {X : Type 0} (spell : X → List ℕ) (items : List X) (i : ℕ) (item : X) → slice_get items i ≡ Some item → flat_map spell (take i items) ++ spell item ≡ flat_map spell (take (i + 1) items)
-flat_map-more spell items i item at =
-    let here : get_or items i item ≡ item = get_or_from_slice_get items i item item at in
-    sym (ap (flat_map spell) (take_more items i item (slice_get_within items i item at)) ∙ flat_map-append spell (take i items) (get_or items i item ∷ [])
-    ∙ ap (λ piece. flat_map spell (take i items) ++ piece) (append-nil (spell (get_or items i item)) ∙ ap spell here))
-
 pub take-behind : (len more size : ℕ) (text behind answer : List ℕ) → length text ≡ size → len + more ≤ size → length behind ≡ length (take (size - len) (drop len text)) → take more behind ≡ answer
     → take (len + more) (put_mid len (size - len) text behind) ≡ take len text ++ answer
 take-behind len more size text behind answer whole within same is =

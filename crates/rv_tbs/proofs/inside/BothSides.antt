@@ -5,15 +5,16 @@ use Rattle.std.proofs.lemmas.Bool.{cases_lt, cases_Bool, cond-true, cond-false}
 use Rattle.std.proofs.lemmas.List.{get_or-map, reverse-append, reverse-reverse, length-reverse, drop_more, drop_all}
 use Rattle.rv_gate.specs.Word.{number_of, word_of}
 use Rattle.rv_gate.specs.inside.laws.WordLaws.{length-word_of, number_of-lt, number_of-word_of_small, word_of-number_of}
-use Rattle.rv_gate.specs.Gate.{run, act_on_number, run_on_number}
+use Rattle.rv_gate.specs.Gate.{run, act_on_number, run_on_number, IsFlipOn}
 use Rattle.rv_gate.specs.declared.gate.Shape.{Shape}
 use Rattle.rv_gate.proofs.inside.GateLemmas.{length-run, run-append}
 use Rattle.rv_perm.specs.Perm.{IsPerm, Computes, preimage_of, reindexed}
 use Rattle.rv_perm.proofs.inside.Inverse.{onto, place_once, preimage_of-is, length-reindexed, get_or-reindexed}
 use Rattle.rv_tbs.specs.Synthesis.{turning, step_gates, in_step_gates, applied_in, is_inward, Sides, sides, step, after, never, out_gates, both_gates}
 use Rattle.rv_tbs.specs.inside.Fixed.{FixedBelow}
-use Rattle.rv_tbs.proofs.Turning.{Flips, Flips-append, turn_turns}
-use Rattle.rv_tbs.proofs.inside.OutGates.{word_of-run, step_does, step_flips, run_reverse, Flips-reverse}
+use Rattle.rv_tbs.proofs.Turning.{Flips, turn_turns}
+use Rattle.rv_tbs.proofs.inside.OutGates.{word_of-run, step_does, step_flips, run_reverse}
+use Rattle.rv_gate.proofs.Every.{every_append, every_reverse}
 
 -- ---- gates on the inputs
 
@@ -27,7 +28,7 @@ run_back n gates x f lt =
 
 run_forth : (n : ℕ) (gates : List Shape) (x : ℕ) → Flips n gates → x < 2 ^ n → run_on_number gates n (run_on_number (reverse gates) n x) ≡ x
 run_forth n gates x f lt =
-    ap (λ g. run_on_number g n (run_on_number (reverse gates) n x)) (sym (reverse-reverse gates)) ∙ run_back n (reverse gates) x (Flips-reverse n gates f) lt
+    ap (λ g. run_on_number g n (run_on_number (reverse gates) n x)) (sym (reverse-reverse gates)) ∙ run_back n (reverse gates) x (every_reverse (IsFlipOn n) gates f) lt
 
 pub length-applied_in : (gates : List Shape) (n : ℕ) (images : List ℕ) → length (applied_in gates n images) ≡ length images
 unfolding applied_in
@@ -154,7 +155,7 @@ between_in n k images s lt b =
     record {
       perm = i.perm;
       fixed = i.fixed;
-      ins = Flips-append n s.ins gates b.ins i.flips;
+      ins = every_append (IsFlipOn n) s.ins gates b.ins i.flips;
       outs = b.outs;
       few = omega (arith, b.few, i.few, length-append s.ins gates);
       meet = λ y h.
@@ -178,7 +179,7 @@ between_out n k images s lt b =
       perm = o.perm;
       fixed = o.fixed;
       ins = b.ins;
-      outs = Flips-append n s.outs gates b.outs o.flips;
+      outs = every_append (IsFlipOn n) s.outs gates b.outs o.flips;
       few = omega (arith, b.few, o.few, length-append s.outs gates);
       meet = λ y h.
           let to : ℕ = run_on_number s.ins n y in
@@ -217,7 +218,7 @@ pub record Synthesizes (n : ℕ) (images : List ℕ) (gates : List Shape) : Type
 
 joined : (n : ℕ) (images : List ℕ) (s : Sides) → Between n (2 ^ n) images s → Synthesizes n images (s.ins ++ reverse s.outs)
 joined n images s b = record {
-  flips = Flips-append n s.ins (reverse s.outs) b.ins (Flips-reverse n s.outs b.outs);
+  flips = every_append (IsFlipOn n) s.ins (reverse s.outs) b.ins (every_reverse (IsFlipOn n) s.outs b.outs);
   few = omega (arith, b.few, length-append s.ins (reverse s.outs), length-reverse s.outs);
   computes = λ w len.
       let y : ℕ = number_of w in

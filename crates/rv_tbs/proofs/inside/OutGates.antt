@@ -13,7 +13,7 @@ use Rattle.rv_perm.specs.Perm.{IsPerm}
 use Rattle.rv_perm.proofs.Images.{perm_moved}
 use Rattle.rv_tbs.specs.Synthesis.{turning, step_gates}
 use Rattle.rv_tbs.specs.inside.Fixed.{FixedBelow}
-use Rattle.rv_tbs.proofs.Turning.{Flips, Flips-append, turn_turns, turning_flips}
+use Rattle.rv_tbs.proofs.Turning.{Flips, turn_turns, turning_flips}
 
 -- ---- gates on all images
 
@@ -107,9 +107,3 @@ run_reverse n (g ∷ gates) w f len =
     ∙ run-append (reverse gates) (g ∷ []) (run gates (act g w))
     ∙ ap (act g) (run_reverse n gates (act g w) f.1 (length-act g w ∙ len))
     ∙ act_twice g n w f.0.0 f.0.1 f.0.2 len
-
-pub Flips-reverse : (n : ℕ) (gates : List Shape) → Flips n gates → Flips n (reverse gates)
-Flips-reverse n [] f = tt
-Flips-reverse n (g ∷ gates) f =
-    let F : List Shape → Type 0 = λ l. Flips n l in
-    subst F (sym (reverse-append (g ∷ []) gates)) (Flips-append n (reverse gates) (g ∷ []) (Flips-reverse n gates f.1) (f.0, tt))

@@ -8,14 +8,15 @@ use Rattle.rv_links.specs.Nodes.{Node, ids_in, gates_in, noted, with_gates}
 use Rattle.rv_templ.specs.Pairs.{paired, partner, after_gates, pair_step}
 use Rattle.rv_templ.specs.inside.Mates.{Joinless, passes}
 use Rattle.rv_templ.specs.inside.Notes.{Quiet, Noted, AllNoted, NoneNoted, Fewer, Others, Unnamed, Apart, Kept, node_of}
-use Rattle.rv_templ.proofs.Options.{map_none, after_none}
+use Rattle.rv_templ.proofs.Options.{after_none}
 use Rattle.rv_gate.proofs.FirstAnswer.{or_none}
 use Rattle.rv_templ.proofs.NodeLists.{listed_at}
 use Rattle.rv_templ.proofs.PairSteps.{partner_none, partner_pass, partner_nil, step_pass, after_twice, after_nothing}
+use Rattle.rv_gate.proofs.Options.{unmapped}
 
 pub not_joined : (g h : Shape) (rest : List Shape) → partner g (h ∷ rest) ≡ None → paired g h ≡ None
 unfolding partner
-not_joined g h rest e = map_none (λ m. m ++ rest) (paired g h) (after_none [] _ (or_none _ _ e).0)
+not_joined g h rest e = unmapped (λ m. m ++ rest) (paired g h) (after_none [] _ (or_none _ _ e).0)
 
 -- ---- one note
 

@@ -15,6 +15,7 @@ use Rattle.rv_templ.specs.inside.Notes.{Quiet, Noted, AllNoted, Others, node_of}
 use Rattle.rv_templ.proofs.inside.NoteLaws.{known_skip, known_others, known_append, noted_at, noted_more}
 use Rattle.rv_templ.proofs.PairSteps.{step_here, step_nil}
 use Rattle.rv_templ.proofs.NodeLists.{apart, listed_at, next_at, from_at, stands}
+use Rattle.rv_templ.proofs.inside.CursorLaws.{none_in}
 
 -- ---- a node, and those after it
 
@@ -103,10 +104,6 @@ along_known nodes old new place at a d w e o =
     let t = there nodes w.before w.after at a w.split w.at_is e in
     let front : take place nodes ≡ w.before = ap (λ k. take k nodes) (sym w.count) ∙ ap (take (length w.before)) w.split ∙ take-append_seam w.before w.after in
     subst (λ (l : List Node). AllNoted new l) (sym front) (known_others old new a w.before (there_off nodes w.before w.after a t d) o w.known)
-
-none_in : (after : List Node) → None ≡ head (ids_in after) → after ≡ []
-none_in [] e = refl
-none_in (n ∷ rest) e = absurd (none-some n.id e)
 
 pub along_all : (nodes : List Node) (notes : List ℕ) (place : ℕ) (at : Option ℕ) → Along nodes notes place at → at ≡ None → AllNoted notes nodes
 along_all nodes notes place at w e = grind (arith, none_in, append-nil)

@@ -23,7 +23,7 @@ use Rattle.rv_templ.specs.inside.Library.{templates_in}
 use Rattle.rv_gate.proofs.FirstAnswer.{none_at, or_none}
 use Rattle.rv_templ.proofs.LoopSteps.{gate_read}
 use Rattle.rv_templ.proofs.LinkedGates.{all_gates}
-use Rattle.rv_templ.proofs.Options.{map_none}
+use Rattle.rv_gate.proofs.Options.{unmapped, none_true}
 
 -- ---- words with further lines
 
@@ -50,10 +50,6 @@ cond_none : (b : Bool) (fault : LibFault) (o : Option LibFault) → cond b (Some
 cond_none true fault o e = absurd (none-some fault (sym e))
 cond_none false fault o e = (refl, e)
 
-passed : (b : Bool) (x : ℕ) → cond b None (Some x) ≡ None → b ≡ true
-passed true x e = refl
-passed false x e = absurd (none-some x (sym e))
-
 pub flips_from : (gates : List Shape) → ((i : ℕ) → i < length gates → is_flip (gate_in gates i) ≡ true) → Flips gates
 flips_from [] h = tt
 flips_from (g ∷ rest) h = (h 0 (omega arith), flips_from rest (λ i lt. h (suc i) (omega arith)))
@@ -63,7 +59,7 @@ identity_on n gates none word len =
     let x : ℕ = number_of word in
     let small : x < 2 ^ n = subst (λ (k : ℕ). number_of word < 2 ^ k) len (number_of-lt word) in
     let back : word_of n x ≡ word = ap (λ k. word_of k x) (sym len) ∙ word_of-number_of word in
-    let same = eqb-true (run_on_number gates n x) x (passed (eqb (run_on_number gates n x) x) x (none_at _ 0 (2 ^ n) x none (omega arith) (omega arith))) in
+    let same = eqb-true (run_on_number gates n x) x (none_true (eqb (run_on_number gates n x) x) x (none_at _ 0 (2 ^ n) x none (omega arith) (omega arith))) in
     let after : number_of (run gates word) ≡ x = ap (λ w. number_of (run gates w)) (sym back) ∙ same in
     sym (word_of-number_of (run gates word))
     ∙ ap (λ k. word_of k (number_of (run gates word))) (length-run gates word ∙ len)
@@ -77,15 +73,15 @@ template_from c is e =
     let wide = cond_none (ltb 6 n) (TooWide n) _ e in
     let long = cond_none (ltb 32 (length c.gates)) (TooLong (length c.gates)) _ wide.1 in
     let both = or_none (option_map NotToffoli (first_other c.gates)) (option_map (λ x. NotIdentity x (run_on_number c.gates n x)) (first_changed n c.gates)) long.1 in
-    let none : first_other c.gates ≡ None = map_none NotToffoli (first_other c.gates) both.0 in
+    let none : first_other c.gates ≡ None = unmapped NotToffoli (first_other c.gates) both.0 in
     let small : n ≤ 6 = ltb-false 6 n wide.0 in
-    let flips = flips_from c.gates (λ i lt. passed (is_flip (gate_in c.gates i)) (i + 1) (none_at _ 0 (length c.gates) i none (omega arith) (omega arith))) in
+    let flips = flips_from c.gates (λ i lt. none_true (is_flip (gate_in c.gates i)) (i + 1) (none_at _ 0 (length c.gates) i none (omega arith) (omega arith))) in
     let are : AreGates n c.gates = all_gates n c.gates is.valid is.fitting in
     record {
       few = ltb-false 32 (length c.gates) long.0;
       flips = flips;
       good = wider n 6 c.gates small are;
-      identity = six_lines n c.gates small flips are (identity_on n c.gates (map_none _ (first_changed n c.gates) both.1));
+      identity = six_lines n c.gates small flips are (identity_on n c.gates (unmapped _ (first_changed n c.gates) both.1));
     }
 
 -- ---- one template more

@@ -13,7 +13,7 @@ use Rattle.std.proofs.lemmas.Str.Parse.{IsNumeralModel, numerals_by_value, tells
 use Rattle.rv_text.specs.Decimal.{is_count, is_decimal, decimal_value}
 use Rattle.rv_text.specs.inside.Writable.{is_word_byte, IsPlainWord}
 
-digit_range : (c : ℕ) → is_ascii_digit c ≡ true → IsInRange 48 57 c
+pub digit_range : (c : ℕ) → is_ascii_digit c ≡ true → IsInRange 48 57 c
 digit_range c h = (tells_all_ascii_digits.parts c [] (rw h refl)).0
 
 -- one digit more, with all numbers from `most` on as one

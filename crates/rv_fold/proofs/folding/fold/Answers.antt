@@ -10,12 +10,10 @@ use Rattle.rv_fold.proofs.Joining.{joinable_equivalence}
 use Rattle.rv_fold.proofs.inside.Steps.{read_at}
 use Rattle.rv_fold.proofs.inside.Sums.{parts_none, sent_next, sent_within, folded_all}
 use Rattle.rv_fold.proofs.folding.fold.Goals as goal
-
-network : (n m : ℕ) (a b : List Op) → n ≡ m → a ≡ b → ◌≡◌ {A = Network} (record { lines = n; ops = a }) (record { lines = m; ops = b })
-network n m a b e f = λ i. record { lines = e i; ops = f i }
+use Rattle.rv_net.proofs.Networks.{same_network}
 
 pub loop-place-init : goal.loop-place-init
-loop-place-init c = c.new-folded.ensures ∙ network _ _ _ _ c.lines.ensures.value (parts_none _ _)
+loop-place-init c = c.new-folded.ensures ∙ same_network _ _ _ _ c.lines.ensures.value (parts_none _ _)
 
 pub push_part-requires-clause-room : goal.push_part-requires-clause-room
 push_part-requires-clause-room c =
@@ -39,7 +37,7 @@ loop-place-preserved c =
     let read : c.index.result.now ≡ sum_at net.lines net.ops (length net.ops) place =
     c.index.ensures ∙ get_or_default_zero c.in_ok-sums.sums.items place c.index.result.now (omega (arith, sums.count)) ∙ sums.each place within in
     c.in_ok-push_part.ensures
-    ∙ network _ _ _ _ (ap (λ (n : Network). n.lines) c.loop-place.invariant)
+    ∙ same_network _ _ _ _ (ap (λ (n : Network). n.lines) c.loop-place.invariant)
     (ap₂ (λ (a b : List Op). a ++ b) (ap (λ (n : Network). n.ops) c.loop-place.invariant) (ap (sent op) read)
     ∙ sent_next net.lines net.ops place op (read_at net.ops c.ops-op-items.result.now place c.ops-op-items.ensures within))
 

@@ -3,12 +3,13 @@ use Rattle.std.specs.Global.{Vec}
 use Rattle.std.specs.Int.{trailing_zeros}
 use Rattle.std.proofs.lemmas.Bool.{cases_eq}
 use Rattle.rv_gate.specs.Word.{has}
-use Rattle.rv_gate.proofs.LowestLine.{lowest_line, none_left, still_there}
+use Rattle.rv_gate.proofs.LowestLine.{lowest_line, still_there}
 use Rattle.rv_fold.specs.Parities.{Parities, alone, Parity}
 use Rattle.rv_fold.specs.inside.Shown.{parities_of}
 use Rattle.rv_fold.proofs.inside.ParityLists.{parities_of_past, restarted_all, with_parity_set}
 use Rattle.rv_fold.proofs.parities.restart_lines.Goals as goal
 use Rattle.rv_fold.proofs.parities.restart_lines.Goals.{then-line-len, else-line-len}
+use Rattle.rv_gate.proofs.LineSets.{has-none}
 
 pub loop-left-smaller : goal.loop-left-smaller
 loop-left-smaller c = (lowest_line c.loop-left.left (omega arith) (omega arith)).fewer
@@ -60,4 +61,4 @@ pub returns-clause-parities : goal.returns-clause-parities
 returns-clause-parities c =
     let all = c.loop-left.invariant in
     restarted_all c.loop-left.parities.items c.args.parities.now.items c.args.set (omega (arith, all.count, c.requires)) c.requires
-    (λ line below. all.done line below (ap (λ s. has s line) c.loop-left-test.false ∙ none_left line))
+    (λ line below. all.done line below (ap (λ s. has s line) c.loop-left-test.false ∙ has-none line))

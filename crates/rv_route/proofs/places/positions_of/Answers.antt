@@ -1,14 +1,15 @@
 use Rattle.std.proofs.Common.{ℕ, arith, w64, refl}
 use Rattle.std.specs.Int.{trailing_zeros}
-use Rattle.rv_gate.proofs.LowestLine.{lowest_line, none_left, still_there}
+use Rattle.rv_gate.proofs.LowestLine.{lowest_line, still_there}
 use Rattle.rv_route.proofs.inside.Moving.{place_of}
 use Rattle.rv_route.proofs.inside.Steps.{placed_all, placing_more}
 use Rattle.rv_route.proofs.places.positions_of.Goals as goal
+use Rattle.rv_gate.proofs.LineSets.{has-none}
 
 pub loop-left-init : goal.loop-left-init
 loop-left-init c = record {
   among = λ line lt on. on;
-  placing = λ row s. record { each = λ p lt. rw (none_left p) refl; past = λ p out. none_left p };
+  placing = λ row s. record { each = λ p lt. rw (has-none p) refl; past = λ p out. has-none p };
 }
 
 pub bounds-places-line : goal.bounds-places-line

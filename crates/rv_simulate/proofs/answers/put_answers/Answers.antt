@@ -8,9 +8,10 @@ use Rattle.rv_gate.specs.Gate.{run}
 use Rattle.rv_gate.proofs.inside.GateLemmas.{length-run}
 use Rattle.rv_io.proofs.Adding.{adds_as, adds_none, adds_then}
 use Rattle.rv_simulate.proofs.inside.Collecting.{part_answered}
-use Rattle.rv_simulate.proofs.inside.Digits.{flat_map-more, length-behind, take-behind}
+use Rattle.rv_simulate.proofs.inside.Digits.{length-behind, take-behind}
 use Rattle.rv_simulate.specs.Simulation.{answer_text}
 use Rattle.rv_simulate.proofs.answers.put_answers.Goals as goal
+use Rattle.rv_io.proofs.Pieces.{flat_map-more}
 
 pub loop-word-init : goal.loop-word-init
 loop-word-init g c = record { whole = refl; within = omega arith; answers = record { given = []; adds = adds_none c.args.writer.now (g.O.Sink.view c.args.out.now); parts = refl } }

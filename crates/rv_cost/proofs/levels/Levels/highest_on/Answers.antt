@@ -2,10 +2,10 @@ use Rattle.std.proofs.Common.{◌≡◌, ◌<◌, ◌^◌, ℕ, true, false, sym
 use Rattle.std.specs.Int.{trailing_zeros}
 use Rattle.std.proofs.lemmas.Bool.{cases_eq}
 use Rattle.rv_gate.specs.Word.{has}
-use Rattle.rv_gate.proofs.LineSets.{Within-below}
+use Rattle.rv_gate.proofs.LineSets.{Within-below, has-none}
 use Rattle.rv_cost.specs.Levels.{highest_on, schedule_of}
 use Rattle.rv_cost.proofs.LevelLaws.{highest_at, highest_least}
-use Rattle.rv_gate.proofs.LowestLine.{lowest_line, none_left, still_there}
+use Rattle.rv_gate.proofs.LowestLine.{lowest_line, still_there}
 use Rattle.rv_cost.proofs.levels.Levels.highest_on.Goals as goal
 
 pub loop-left-smaller : goal.loop-left-smaller
@@ -30,7 +30,7 @@ loop-left-preserved c =
 
 pub returns-clause-value : goal.returns-clause-value
 returns-clause-value c tasks levelled =
-    let none : (k : ℕ) → has c.loop-left.left k ≡ false = λ k. rw c.loop-left-test.false (none_left k) in
+    let none : (k : ℕ) → has c.loop-left.left k ≡ false = λ k. rw c.loop-left-test.false (has-none k) in
     let low =
     c.loop-left.invariant.least (highest_on (schedule_of tasks) c.args.lines)
     (λ k below on. let e = levelled.tops k below in let h = highest_at (schedule_of tasks) c.args.lines k on in omega arith) in
