@@ -79,9 +79,13 @@ shape Sdg = box (83 ∷ 226 ∷ 128 ∷ 160 ∷ [])
 shape Z = box (codes "Z")
 shape Y = box (codes "Y")
 
+-- where the line from above ends
+abbrev pub top_text : Symbol → List ℕ
+top_text symbol = if reach symbol == 0 then codes "0" else codes "-" ++ reach_text symbol
+
 -- the line to a symbol from above, and the one from it down, if they are there
 abbrev pub up_if : Bool → Symbol → List ℕ
-up_if on symbol = if on then codes "<line y1=\"-15\" y2=\"-" ++ (reach_text symbol ++ codes "\"/>") else []
+up_if on symbol = if on then codes "<line y1=\"-15\" y2=\"" ++ (top_text symbol ++ codes "\"/>") else []
 
 abbrev pub down_if : Bool → Symbol → List ℕ
 down_if on symbol = if on then codes "<line y1=\"" ++ (reach_text symbol ++ codes "\" y2=\"15\"/>") else []

@@ -517,7 +517,7 @@ fn up(symbol: Symbol) -> &'static [u8]
         Symbol::Middle => b"<line y1=\"-15\" y2=\"-8\"/>",
         Symbol::H | Symbol::T | Symbol::Tdg | Symbol::S | Symbol::Sdg | Symbol::Z | Symbol::Y =>
             b"<line y1=\"-15\" y2=\"-11\"/>",
-        _ => b"<line y1=\"-15\" y2=\"-0\"/>",
+        _ => b"<line y1=\"-15\" y2=\"0\"/>",
     }
 }
 

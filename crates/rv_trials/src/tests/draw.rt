@@ -128,7 +128,7 @@ const AS_SVG: &str = "\
     <g transform=\"translate(30 45)\"><text x=\"8\" y=\"4\" fill=\"currentColor\" stroke=\"none\" xml:space=\"preserve\">b</text><line y1=\"-6\" y2=\"6\"/></g>\n\
     <g transform=\"translate(15 0)\"><title>t2 -a b</title>\n\
     <g transform=\"translate(0 15)\"><line y1=\"5\" y2=\"15\"/><circle r=\"5\"/></g>\n\
-    <g transform=\"translate(0 45)\"><line y1=\"-15\" y2=\"-0\"/><circle r=\"10\"/><line y1=\"-10\" y2=\"10\"/></g>\n\
+    <g transform=\"translate(0 45)\"><line y1=\"-15\" y2=\"0\"/><circle r=\"10\"/><line y1=\"-10\" y2=\"10\"/></g>\n\
     </g>\n\
     </g>\n\
     </svg>\n";
