@@ -47,7 +47,8 @@ parities_at n ops (suc place) = elim (slice_get ops place) [ None ↦ parities_a
 -- the lines that the operation at the place restarts
 unfoldable pub restarted_at : ℕ → List Op → ℕ → ℕ
 unfolding parities_at
-restarted_at n ops place = elim (slice_get ops place) [ None ↦ 0 | Some op ↦ restart_set n (parities_at n ops place) (direct op) ]
+restarted_at n ops place =
+    elim (slice_get ops place) [ None ↦ 0 | Some op ↦ restart_set n (parities_at n ops place) (direct op) ]
 
 abbrev pub phase_gate_at : List Op → ℕ → Option PhaseGate
 phase_gate_at ops place = option_and_then phase_gate (slice_get ops place)
@@ -74,7 +75,8 @@ has_parity (Some f) g = same_parity f g
 
 abbrev pub joins : ℕ → List Op → Option Parity → ℕ → ℕ → Bool
 joins n ops None i j = false
-joins n ops (Some parity) i j = has_parity (parity_at n ops j) parity && is_kept n ops parity.lines i j && is_kept n ops parity.lines j i
+joins n ops (Some parity) i j =
+    has_parity (parity_at n ops j) parity && is_kept n ops parity.lines i j && is_kept n ops parity.lines j i
 
 -- phase gates stand at both places, on one parity, and no operation between them restarts a line of its set
 abbrev pub joinable : ℕ → List Op → ℕ → ℕ → Bool
@@ -123,7 +125,8 @@ folded_network net = record { lines = net.lines; ops = folded net.lines net.ops 
 -- what an operation restarts is the least closed set of lines that has those whose bit it makes a new value
 abbrev pub RestartsLeast : ℕ → List Op → Type 0
 RestartsLeast n ops =
-    (place : ℕ) (op : Op) → slice_get ops place ≡ Some op → IsLeastClosed n (parities_at n ops place) (direct op) (restarted_at n ops place)
+    (place : ℕ) (op : Op) → slice_get ops place ≡ Some op
+    → IsLeastClosed n (parities_at n ops place) (direct op) (restarted_at n ops place)
 
 -- two places, one after the other, that write a class: S or Z, then T on the same line
 pub record WritesClass (ops : List Op) (i j : ℕ) : Type 0 where

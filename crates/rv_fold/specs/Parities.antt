@@ -53,7 +53,8 @@ direct (Swap a b) = 0
 unfoldable pub closure_step : Parities → ℕ → ℕ → ℕ
 closure_step parities set zero = set
 closure_step parities set (suc line) =
-    if are_apart (parities line).lines set then closure_step parities set line else bit_or (closure_step parities set line) (2 ^ line)
+    if are_apart (parities line).lines set then closure_step parities set line
+    else bit_or (closure_step parities set line) (2 ^ line)
 
 unfoldable pub closure_steps : ℕ → Parities → ℕ → ℕ → ℕ
 unfolding closure_step
@@ -72,7 +73,8 @@ pub record IsClosed (n : ℕ) (parities : Parities) (first set : ℕ) : Type 0 w
 -- the least such set
 pub record IsLeastClosed (n : ℕ) (parities : Parities) (first set : ℕ) : Type 0 where
   pub itself : IsClosed n parities first set
-  pub least : (other : ℕ) → IsClosed n parities first other → (line : ℕ) → IsTrue (has set line) → IsTrue (has other line)
+  pub least : (other : ℕ) → IsClosed n parities first other → (line : ℕ) → IsTrue (has set line)
+      → IsTrue (has other line)
 
 -- each line of the set has a value of its own
 abbrev pub restarted : ℕ → Parities → Parities

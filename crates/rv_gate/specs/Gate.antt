@@ -38,7 +38,8 @@ xor a b = not (same a b)
 
 abbrev pub peres : List Bool → ℕ → ℕ → ℕ → List Bool
 peres word a b c =
-    slice_set (slice_set word b (xor (bit_of word a) (bit_of word b))) c (xor (bit_of word c) (bit_of word a && bit_of word b))
+    slice_set (slice_set word b (xor (bit_of word a) (bit_of word b))) c
+    (xor (bit_of word c) (bit_of word a && bit_of word b))
 
 -- what a gate makes of a word
 abbrev pub act : Shape → List Bool → List Bool
@@ -107,7 +108,8 @@ WantsControls care want = (line : ℕ) → IsTrue (has want line) → IsTrue (ha
 abbrev pub IsGate : Shape → Type 0
 IsGate (Flip care want target) = (target < MOST_LINES) × IsFalse (has care target) × WantsControls care want
 IsGate (Swap care want a b) =
-    (a < MOST_LINES) × (b < MOST_LINES) × (a ≢ b) × IsFalse (has care a) × IsFalse (has care b) × WantsControls care want
+    (a < MOST_LINES) × (b < MOST_LINES) × (a ≢ b) × IsFalse (has care a) × IsFalse (has care b)
+    × WantsControls care want
 IsGate (Peres a b c) = (a < MOST_LINES) × (b < MOST_LINES) × (c < MOST_LINES) × (a ≢ b) × (a ≢ c) × (b ≢ c)
 
 -- the number of what a gate makes of the word of n bits that has the number x

@@ -17,7 +17,8 @@ input_count marks = count_by takes_input marks
 abbrev pub output_count : List Bool → ℕ
 output_count garbage = count_by not garbage
 
--- the bits, in order, on the lines that take one, and the constants on the others; a bit that lacks is 0, and one too many is dropped
+-- the bits, in order, on the lines that take one, and the constants on the others; a bit that lacks is 0,
+-- and one too many is dropped
 unfoldable pub with_constants : List Mark → List Bool → List Bool
 with_constants [] bits = []
 with_constants (Zero ∷ marks) bits = false ∷ with_constants marks bits

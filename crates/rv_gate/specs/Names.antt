@@ -11,7 +11,8 @@ is_name_byte byte =
 -- one or more such bytes, the first not `-` or `.`
 abbrev pub is_name : List ℕ → Bool
 is_name name =
-    nat_lt 0 (length name) && not (slice_index name 0 == 45) && not (slice_index name 0 == 46) && list_all is_name_byte name
+    nat_lt 0 (length name) && not (slice_index name 0 == 45) && not (slice_index name 0 == 46)
+    && list_all is_name_byte name
 
 abbrev pub IsName : List ℕ → Type 0
 IsName name = IsTrue (is_name name)

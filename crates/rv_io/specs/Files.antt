@@ -6,7 +6,8 @@ use Rattle.rv_io.specs.declared.files.Got.{Got}
 use Rattle.rv_io.specs.declared.files.Got.TheVariants as got
 use Rattle.rv_io.specs.Faults.{Rose}
 
--- Files may tell what each name holds, and then also what is started. If `tells` is false, `held`, `is_opened` and `content` mean nothing.
+-- Files may tell what each name holds, and then also what is started. If `tells` is false, `held`,
+-- `is_opened` and `content` mean nothing.
 pub record FilesView : Type 0 where
   pub tells : Bool
   -- the bytes of a name, if it is held

@@ -34,13 +34,16 @@ pub record MemFiles : Type 0 where
   pub piece : ℕ
 
 abbrev pub opened_code : Coded Opened
-opened_code = code_by (List ℕ × ℕ) (coded× (coded_list coded_ℕ) coded_ℕ) (λ o. (o.name, o.place)) (λ p. record { name = p.0; place = p.1 }) (λ _. refl)
+opened_code =
+    code_by (List ℕ × ℕ) (coded× (coded_list coded_ℕ) coded_ℕ) (λ o. (o.name, o.place))
+    (λ p. record { name = p.0; place = p.1 }) (λ _. refl)
 
 abbrev pub files_code : Coded MemFiles
 files_code =
     code_by
     (Names × (Option Opened × (ℕ × (ℕ × (List ℕ × ℕ)))))
-    (coded× (finite.code {R = slice_cmp nat_cmp} (coded_list coded_ℕ) (coded_list coded_ℕ)) (coded× (coded_option opened_code) (coded× coded_ℕ (coded× coded_ℕ (coded× (coded_list coded_ℕ) coded_ℕ)))))
+    (coded× (finite.code {R = slice_cmp nat_cmp} (coded_list coded_ℕ) (coded_list coded_ℕ))
+    (coded× (coded_option opened_code) (coded× coded_ℕ (coded× coded_ℕ (coded× (coded_list coded_ℕ) coded_ℕ)))))
     (λ s. (s.names, (s.started, (s.faults, (s.calls, (s.failing, s.piece))))))
     (λ p. record { names = p.0; started = p.1.0; faults = p.1.1.0; calls = p.1.1.1.0; failing = p.1.1.1.1.0; piece = p.1.1.1.1.1 })
     (λ _. refl)
@@ -83,8 +86,10 @@ start_answer (Some bytes) false = started.Ready
 -- the files after the start of a name
 abbrev pub after_start : MemFiles → List ℕ → Option (List ℕ) → Bool → MemFiles
 after_start s name None fails = record s { started = None; calls = next_count s.calls }
-after_start s name (Some bytes) true = record s { started = None; calls = next_count s.calls; faults = next_count s.faults }
-after_start s name (Some bytes) false = record s { started = Some (record { name = name; place = 0 }); calls = next_count s.calls }
+after_start s name (Some bytes) true =
+    record s { started = None; calls = next_count s.calls; faults = next_count s.faults }
+after_start s name (Some bytes) false =
+    record s { started = Some (record { name = name; place = 0 }); calls = next_count s.calls }
 
 -- what is started by the start of a name that holds this
 abbrev pub opened_at : List ℕ → Option (List ℕ) → Option Opened

@@ -38,7 +38,8 @@ put_answer s bytes false = put.Took (put_count s bytes)
 -- the sink after a put
 abbrev pub after_put : MemSink → List ℕ → Bool → MemSink
 after_put s bytes true = record s { calls = next_count s.calls; faults = next_count s.faults }
-after_put s bytes false = record s { calls = next_count s.calls; bytes = s.bytes ++ take (put_count s bytes) bytes; is_flushed = false }
+after_put s bytes false =
+    record s { calls = next_count s.calls; bytes = s.bytes ++ take (put_count s bytes) bytes; is_flushed = false }
 
 -- a flush fails if its number is among those that fail
 abbrev pub flush_fails : MemSink → Bool

@@ -13,7 +13,9 @@ pub record SafeFiles : Type 0 where
   pub is_unheld : Bool
 
 abbrev pub safe_code : Coded SafeFiles
-safe_code = code_by (MemFiles × Bool) (coded× files_code coded_bool) (λ s. (s.files, s.is_unheld)) (λ p. record { files = p.0; is_unheld = p.1 }) (λ _. refl)
+safe_code =
+    code_by (MemFiles × Bool) (coded× files_code coded_bool) (λ s. (s.files, s.is_unheld))
+    (λ p. record { files = p.0; is_unheld = p.1 }) (λ _. refl)
 
 -- the bytes of a name: none if the files don't hold it
 abbrev pub bytes_at : Names → List ℕ → List ℕ

@@ -65,9 +65,10 @@ abbrev pub Flushes : SinkView → Flushed → SinkView → Type 0
 Flushes old flushed.Done new = IsFlushed old new
 Flushes old flushed.Failed new = SinkFails old new
 
--- A text was sent whole and no fault is counted, or the count rose and a prefix of it was sent. Nothing was flushed. The one clause of
--- every call that sends.
-pub record Sends (old : SinkView) (text : List ℕ) (result : Result (Unit {0}) WriteFault) (new : SinkView) : Type 0 where
+-- A text was sent whole and no fault is counted, or the count rose and a prefix of it was sent. Nothing was flushed.
+-- The one clause of every call that sends.
+pub record Sends (old : SinkView) (text : List ℕ) (result : Result (Unit {0}) WriteFault)
+    (new : SinkView) : Type 0 where
   pub later : old.faults ≤ new.faults
   pub sent : OnOk result (new.sent ≡ grown old.sent text)
   pub flushed : OnOk result (new.is_flushed ≡ flushed_after old.is_flushed text)

@@ -1,4 +1,5 @@
--- What one call does with a reader or a writer of the system's kind: with the bytes that are left, or that were written, if these are known.
+-- What one call does with a reader or a writer of the system's kind: with the bytes that are left, or that were
+-- written, if these are known.
 use Rattle.std.specs.Prelude.{ℕ, ◌≤◌, List, length, nat_eq, take, if◌then◌else◌, Option, Result, Ok, Err}
 use Rattle.std.specs.Io.KnownBytes.{Appends, Consumes, IsAtEnd, Keeps}
 use Rattle.rv_io.specs.declared.files.Got.{Got}
@@ -13,7 +14,8 @@ abbrev pub got_of : {E : Type 0} → Result ℕ E → Got
 got_of (Ok count) = if nat_eq count 0 then got.End else got.Bytes count
 got_of (Err error) = got.Failed
 
--- what is made of the count that a write of some bytes answers, or of its error: if none of them is taken, the write failed
+-- what is made of the count that a write of some bytes answers, or of its error: if none of them is taken,
+-- the write failed
 abbrev pub put_of : {E : Type 0} → Result ℕ E → Put
 put_of (Ok count) = if nat_eq count 0 then put.Failed else put.Took count
 put_of (Err error) = put.Failed

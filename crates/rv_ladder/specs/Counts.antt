@@ -11,8 +11,8 @@ use Rattle.rv_mct.specs.Widened.{lines_with_helpers}
 use Rattle.rv_mct.specs.declared.aux.Aux.{Aux}
 use Rattle.rv_mct.specs.declared.aux.Aux.TheVariants.{Borrowed, Clean}
 
--- What is counted: of an X round a control that wants 0; of a flip with at most two controls that want 1; and of one with
--- three or more, over borrowed lines enough, and over clean ones.
+-- What is counted: of an X round a control that wants 0; of a flip with at most two controls that want 1; and of one
+-- with three or more, over borrowed lines enough, and over clean ones.
 pub record Counted : Type 0 where
   pub zero : ℕ
   pub plain : ℕ → ℕ

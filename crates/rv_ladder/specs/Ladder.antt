@@ -65,7 +65,8 @@ borrowed_over (a ∷ (b ∷ more)) free t =
 unfoldable pub borrowed_net : ℕ → ℕ → ℕ → ℕ → List Op
 borrowed_net lines care want t = borrowed_over (controls_of care want) (rising (is_free care t) lines) t
 
--- by one helper, as in a decomposition: flip it under the first half, the target under it and the second half, and both again
+-- by one helper, as in a decomposition: flip it under the first half, the target under it and the second half,
+-- and both again
 abbrev pub halves_net : ℕ → ℕ → ℕ → ℕ → ℕ → ℕ → List Op
 halves_net lines care want t line helper =
     borrowed_net lines (below care line) (below want line) helper

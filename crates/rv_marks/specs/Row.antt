@@ -5,7 +5,8 @@ use Rattle.rv_gate.specs.declared.circuit.Mark.TheVariants.{Input, Zero, One}
 
 -- what is put in: a bit of the input, or a constant
 abbrev pub constant_of : ℕ → Option Mark
-constant_of byte = if byte == 45 then Some Input else (if byte == 48 then Some Zero else (if byte == 49 then Some One else None))
+constant_of byte =
+    if byte == 45 then Some Input else (if byte == 48 then Some Zero else (if byte == 49 then Some One else None))
 
 abbrev pub constant_byte : Mark → ℕ
 constant_byte Input = 45

@@ -8,7 +8,8 @@ use Rattle.rv_mct.specs.Extends.{Extends, IsPlain}
 use Rattle.rv_mct.specs.Widened.{gate_count, helper_count}
 use Rattle.rv_mct.specs.declared.aux.Aux.{Aux}
 
--- the lines keep their names, labels and marks, and so many come after them: these begin with the constant 0 and end as garbage
+-- the lines keep their names, labels and marks, and so many come after them:
+-- these begin with the constant 0 and end as garbage
 pub record AddsHelpers (count : ℕ) (old new : Cascade) : Type 0 where
   pub helpers : List (List ℕ)
   pub counted : length helpers ≡ count
@@ -22,7 +23,8 @@ pub record AddsHelpers (count : ℕ) (old new : Cascade) : Type 0 where
 abbrev pub output_of : Cascade → List Bool → List Bool
 output_of c bits = without_garbage c.garbage (run c.gates (with_constants c.constants bits))
 
--- It does what the circuit does and gives each helper line back, by NOT, CNOT and Toffoli gates alone, as many as the costs say.
+-- It does what the circuit does and gives each helper line back, by NOT, CNOT and Toffoli gates alone,
+-- as many as the costs say.
 pub record Decomposes (aux : Aux) (c made : Cascade) : Type 0 where
   pub extends : Extends aux (length c.names) (helper_count aux c) made.gates c.gates
   pub plain : All IsPlain made.gates

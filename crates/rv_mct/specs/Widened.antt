@@ -20,8 +20,8 @@ spare_names names = filter (λ name. not (is_taken names name)) (numbered 122 MO
 abbrev pub added_names : List (List ℕ) → ℕ → List (List ℕ)
 added_names names extra = take extra (spare_names names)
 
--- The lines of a circuit, and so many more after them: their labels are their names, they begin with the constant 0, and their
--- ends are garbage. There are no gates.
+-- The lines of a circuit, and so many more after them: their labels are their names, they begin with the constant 0,
+-- and their ends are garbage. There are no gates.
 abbrev pub widened : Cascade → ℕ → Cascade
 widened c extra = record {
   names = c.names ++ added_names c.names extra;

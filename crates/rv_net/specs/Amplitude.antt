@@ -1,4 +1,5 @@
--- Amplitudes of networks, as sums over the eighth root of one. The root of two is not divided out: each H brings it once.
+-- Amplitudes of networks, as sums over the eighth root of one. The root of two is not divided out:
+-- each H brings it once.
 use Rattle.std.specs.Prelude.{ℕ, zero, suc, Bool, true, false, List, [], ◌∷◌, if◌then◌else◌, slice_set}
 pub use Rattle.rv_gate.specs.Gate.{same_word}
 use Rattle.rv_gate.specs.Word.{bit_of}

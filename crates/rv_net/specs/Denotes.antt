@@ -31,7 +31,8 @@ CarriesExtended lines ops gates =
 -- cut at any place, the amplitudes multiply as matrices do
 unfoldable pub IsProductAt : List Op → List Op → List Op → Type 0
 IsProductAt ops first second =
-    (x z : List Bool) → amplitude ops x z ≡ sum_over_words (length x) (λ y. times (amplitude first x y) (amplitude second y z))
+    (x z : List Bool)
+    → amplitude ops x z ≡ sum_over_words (length x) (λ y. times (amplitude first x y) (amplitude second y z))
 
 abbrev pub IsProduct : List Op → Type 0
 IsProduct ops = (place : ℕ) → IsProductAt ops (take place ops) (drop place ops)

@@ -8,9 +8,9 @@ use Rattle.rv_net.specs.Denotes.{Carries}
 use Rattle.rv_net.specs.Network.{network_of, operation_count}
 use Rattle.rv_net.specs.Op.{IsNetwork, Network}
 
--- A network on the lines of the decomposed circuit, with the operations of its gates. It carries the circuit: for each word and whatever
--- the helper lines may hold, its exact amplitudes are those of the circuit's permutation, which gives the helper lines back, times the
--- root of two for each H; no phase is free.
+-- A network on the lines of the decomposed circuit, with the operations of its gates. It carries the circuit: for each
+-- word and whatever the helper lines may hold, its exact amplitudes are those of the circuit's permutation, which gives
+-- the helper lines back, times the root of two for each H; no phase is free.
 pub record Maps (aux : Aux) (c : Cascade) (net : Network) : Type 0 where
   pub valid : IsNetwork net
   pub lines : net.lines ≡ lines_with_helpers aux c

@@ -17,7 +17,8 @@ on_zero c = if c.wanted then [] else X c.line ∷ []
 
 -- a flip of c under a and b
 unfoldable pub toffoli : ℕ → ℕ → ℕ → List Op
-toffoli a b c = H c ∷ Cx b c ∷ Tdg c ∷ Cx a c ∷ T c ∷ Cx b c ∷ Tdg c ∷ Cx a c ∷ T b ∷ T c ∷ H c ∷ Cx a b ∷ T a ∷ Tdg b ∷ Cx a b ∷ []
+toffoli a b c =
+    H c ∷ Cx b c ∷ Tdg c ∷ Cx a c ∷ T c ∷ Cx b c ∷ Tdg c ∷ Cx a c ∷ T b ∷ T c ∷ H c ∷ Cx a b ∷ T a ∷ Tdg b ∷ Cx a b ∷ []
 
 -- a flip under none, one or two controls
 unfoldable pub flip_ops : List Control → ℕ → List Op

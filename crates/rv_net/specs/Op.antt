@@ -15,7 +15,8 @@ goes_to (Cx a b) x = slice_set x b (xor (bit_of x a) (bit_of x b))
 goes_to (Ccx a b c) x = slice_set x c (xor (bit_of x a && bit_of x b) (bit_of x c))
 goes_to (Swap a b) x = slice_set (slice_set x a (bit_of x b)) b (bit_of x a)
 goes_to (Cswap c a b) x =
-    slice_set (slice_set x a (if bit_of x c then bit_of x b else bit_of x a)) b (if bit_of x c then bit_of x a else bit_of x b)
+    slice_set (slice_set x a (if bit_of x c then bit_of x b else bit_of x a)) b
+    (if bit_of x c then bit_of x a else bit_of x b)
 goes_to (Z q) x = x
 goes_to (H q) x = x
 goes_to (S q) x = x

@@ -53,7 +53,8 @@ pub record IsPair (ops : List Op) : Type 0 where
   pub undoes : Undoes earlier later
   pub commuting : All (λ o. IsTrue (commute o later)) between
 
--- The table is right: operations of which it says so commute, and one takes away what it undoes, with a factor of 2 for an H.
+-- The table is right: operations of which it says so commute, and one takes away what it undoes,
+-- with a factor of 2 for an H.
 pub record IsTable (n : ℕ) : Type 0 where
   pub commuting : (p o : Op) (rest : List Op) (x y : List Bool) → IsTrue (commute p o) → OpFitsIn p n → OpFitsIn o n
       → length x ≡ n → amplitude (p ∷ o ∷ rest) x y ≡ amplitude (o ∷ p ∷ rest) x y
@@ -66,7 +67,8 @@ pub record Keeps (net result : Network) : Type 0 where
   pub pairs : ℕ
   pub lines : result.lines ≡ net.lines
   pub valid : IsNetwork result
-  pub amplitudes : (x y : List Bool) → length x ≡ net.lines → amplitude net.ops x y ≡ doubled pairs (amplitude result.ops x y)
+  pub amplitudes : (x y : List Bool) → length x ≡ net.lines
+      → amplitude net.ops x y ≡ doubled pairs (amplitude result.ops x y)
   pub hadamards : count_h net.ops ≡ count_h result.ops + 2 * pairs
   pub operations : length result.ops ≤ length net.ops
   pub t_gates : count_by is_t result.ops ≤ count_by is_t net.ops

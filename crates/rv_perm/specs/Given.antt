@@ -20,7 +20,8 @@ pub record MarkRow (M : Type 0) : Type 0 where
 
 -- the row of marks after a name, on the line with this number
 abbrev pub row_in : {M : Type 0} → List ℕ → (ℕ → Option M) → ℕ → List Lexeme → Option (MarkRow M)
-row_in name mark_of number words = option_map (λ marks. record { marks = marks; line = number }) (marks_after name (marks_of mark_of) words)
+row_in name mark_of number words =
+    option_map (λ marks. record { marks = marks; line = number }) (marks_after name (marks_of mark_of) words)
 
 -- the first such row on lines, before which stand so many others
 abbrev pub first_row : {M : Type 0} → List ℕ → (ℕ → Option M) → ℕ → List (List ℕ) → Option (MarkRow M)
@@ -51,8 +52,10 @@ is_late before row = is_some row || nat_lt 0 (length (numbers_in before))
 -- a directive, by its name and its operands
 abbrev pub directive_fault : List (List ℕ) → List ℕ → List Lexeme → Option ℕ
 directive_fault before name words =
-    if bytes_eq name (codes ".constants") then row_fault (is_late before (constants_in before)) (marks_of constant_of (joined words))
-    else (if bytes_eq name (codes ".garbage") then row_fault (is_late before (garbage_in before)) (marks_of garbage_of (joined words))
+    if bytes_eq name (codes ".constants")
+    then row_fault (is_late before (constants_in before)) (marks_of constant_of (joined words))
+    else (if bytes_eq name (codes ".garbage")
+    then row_fault (is_late before (garbage_in before)) (marks_of garbage_of (joined words))
     else Some code.UNKNOWN_DIRECTIVE)
 
 abbrev pub words_fault : List Lexeme → Option ℕ
@@ -62,7 +65,8 @@ words_fault words = if list_all (λ word. is_decimal word.bytes) words then None
 abbrev pub fault_by : List (List ℕ) → List ℕ → List Lexeme → Option ℕ
 fault_by before line [] = None
 fault_by before line (word ∷ words) =
-    if begins_with_dot word.bytes then directive_fault before word.bytes words else words_fault (tokens_of false separators line)
+    if begins_with_dot word.bytes then directive_fault before word.bytes words
+    else words_fault (tokens_of false separators line)
 
 abbrev pub fault_of : List (List ℕ) → List ℕ → Option ℕ
 fault_of before line = fault_by before line (tokens_of false [] line)

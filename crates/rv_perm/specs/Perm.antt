@@ -47,7 +47,8 @@ lines_for count = lines_up_to MOST_PERM_LINES count
 -- what is wrong with a number that stands first at one place, and at another
 unfoldable pub place_fault : ℕ → ℕ → ℕ → ℕ → Option PermFault
 place_fault count number first place =
-    if nat_lt number count then (if nat_lt first place then Some (Repeated first place) else None) else Some (OutOfRange place)
+    if nat_lt number count then (if nat_lt first place then Some (Repeated first place) else None)
+    else Some (OutOfRange place)
 
 -- what is wrong with the number at a place of a list
 abbrev pub fault_at : List ℕ → ℕ → Option PermFault
@@ -73,4 +74,5 @@ table_of numbers = table_on (lines_for (length numbers)) numbers
 
 -- a circuit on n lines computes the permutation: each word goes to the word of its image
 abbrev pub Computes : ℕ → List Shape → List ℕ → Type 0
-Computes n gates images = (word : List Bool) → length word ≡ n → run gates word ≡ word_of n (slice_index images (number_of word))
+Computes n gates images =
+    (word : List Bool) → length word ≡ n → run gates word ≡ word_of n (slice_index images (number_of word))

@@ -17,7 +17,8 @@ use Rattle.rv_perm.specs.Given.{MarkRow, constants_in, garbage_in, numbers_in, f
 abbrev pub marks_on : {M : Type 0} → ℕ → M → Option (MarkRow M) → Result (List M) PermFault
 marks_on n mark None = Ok (replicate n mark)
 marks_on n mark (Some row) =
-    broken (not (length row.marks == n)) (faults.Text (record { line = row.line; code = code.WRONG_MARK_ROW })) (Ok row.marks)
+    broken (not (length row.marks == n))
+    (faults.Text (record { line = row.line; code = code.WRONG_MARK_ROW })) (Ok row.marks)
 
 -- the permutation of so many lines: first the rows of marks, then the numbers
 abbrev pub marked_on : Option ℕ → Option (MarkRow Mark) → Option (MarkRow Bool) → List ℕ → Result Marked PermFault
@@ -30,7 +31,8 @@ marked_on (Some n) constants garbage numbers =
 
 -- what lines without a fault denote: how many numbers there are comes before all other faults
 abbrev pub end_of : List (List ℕ) → Result Marked PermFault
-end_of lines = marked_on (lines_for (length (numbers_in lines))) (constants_in lines) (garbage_in lines) (numbers_in lines)
+end_of lines =
+    marked_on (lines_for (length (numbers_in lines))) (constants_in lines) (garbage_in lines) (numbers_in lines)
 
 -- the first fault in lines
 abbrev pub fault_in : List (List ℕ) → Option TextFault

@@ -58,7 +58,8 @@ reach_text other = codes "0"
 
 abbrev pub box : List ℕ → List ℕ
 box name =
-    codes "<rect x=\"-11\" y=\"-11\" width=\"22\" height=\"22\"/><text y=\"5\" text-anchor=\"middle\" fill=\"currentColor\" stroke=\"none\">" ++ (name ++ codes "</text>")
+    codes "<rect x=\"-11\" y=\"-11\" width=\"22\" height=\"22\"/><text y=\"5\" text-anchor=\"middle\" fill=\"currentColor\" stroke=\"none\">"
+    ++ (name ++ codes "</text>")
 
 abbrev pub shape : Symbol → List ℕ
 shape Wire = []
@@ -147,7 +148,8 @@ input_end marks.One = codes "<tspan> |1" ++ (226 ∷ 159 ∷ 169 ∷ codes "</ts
 
 abbrev pub input_body : List ℕ → Mark → List ℕ
 input_body label mark =
-    codes "<text x=\"-8\" y=\"4\" text-anchor=\"end\" fill=\"currentColor\" stroke=\"none\" xml:space=\"preserve\">" ++ (label_text label
+    codes "<text x=\"-8\" y=\"4\" text-anchor=\"end\" fill=\"currentColor\" stroke=\"none\" xml:space=\"preserve\">"
+    ++ (label_text label
     ++ input_end mark)
 
 -- what stands after the label of an output: a bar at the wire's end where it is garbage
@@ -157,7 +159,8 @@ output_end false = codes "</text></g>"
 
 abbrev pub output_body : List ℕ → Bool → List ℕ
 output_body label is_garbage =
-    codes "<text x=\"8\" y=\"4\" fill=\"currentColor\" stroke=\"none\" xml:space=\"preserve\">" ++ (label_text label ++ output_end is_garbage)
+    codes "<text x=\"8\" y=\"4\" fill=\"currentColor\" stroke=\"none\" xml:space=\"preserve\">"
+    ++ (label_text label ++ output_end is_garbage)
 
 -- a wire is not drawn under a symbol that the lines to it don't reach
 abbrev pub break_at : Symbol → ℕ → ℕ → List ℕ

@@ -92,7 +92,8 @@ abbrev pub title_start : List ℕ
 title_start = codes "<title>"
 
 abbrev pub input_start : List ℕ
-input_start = codes "<text x=\"-8\" y=\"4\" text-anchor=\"end\" fill=\"currentColor\" stroke=\"none\" xml:space=\"preserve\">"
+input_start =
+    codes "<text x=\"-8\" y=\"4\" text-anchor=\"end\" fill=\"currentColor\" stroke=\"none\" xml:space=\"preserve\">"
 
 abbrev pub output_start : List ℕ
 output_start = codes "<text x=\"8\" y=\"4\" fill=\"currentColor\" stroke=\"none\" xml:space=\"preserve\">"

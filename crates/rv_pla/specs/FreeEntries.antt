@@ -22,4 +22,5 @@ IsAllowed pla word bit = (output : ℕ) → output < pla.outputs → IsTrue (all
 -- no entry is free
 abbrev pub HasNoFree : TwoLevel → Type 0
 HasNoFree pla =
-    (word : List Bool) (output : ℕ) → length word ≡ pla.inputs → output < pla.outputs → is_dont_care (entry pla word output) ≡ false
+    (word : List Bool) (output : ℕ) → length word ≡ pla.inputs → output < pla.outputs
+    → is_dont_care (entry pla word output) ≡ false

@@ -15,7 +15,8 @@ use Rattle.rv_pla.specs.declared.fault.PlaFault.{PlaFault}
 use Rattle.rv_pla.specs.declared.fault.PlaFault.TheVariants.{Conflict}
 use Rattle.rv_pla.specs.declared.pla.TheConstants.{MOST_TERMS}
 
--- A term: the line of the text on which it stands, its cube with the outputs at which it has a `1`, and the sets of the outputs at which it has a `0`, and a `-`.
+-- A term: the line of the text on which it stands, its cube with the outputs at which it has a `1`, and the sets of the
+-- outputs at which it has a `0`, and a `-`.
 pub record Term : Type 0 where
   pub line : ℕ
   pub cube : Cube
@@ -118,7 +119,8 @@ conflict_by (Some on) (Some off) inputs word output = Some (Conflict on off inpu
 -- an output is ON and OFF at the word with a number
 abbrev pub conflict_at : TwoLevel → ℕ → ℕ → Option PlaFault
 conflict_at pla x output =
-    conflict_by (line_on pla (word_of pla.inputs x) output) (line_off pla (word_of pla.inputs x) output) pla.inputs x output
+    conflict_by (line_on pla (word_of pla.inputs x) output)
+    (line_off pla (word_of pla.inputs x) output) pla.inputs x output
 
 -- at the least word, and there at the least output
 unfoldable pub conflict_of : TwoLevel → Option PlaFault

@@ -38,7 +38,8 @@ head_lines inputs outputs count =
 -- the one text of a list of cubes
 unfoldable pub esop_text : ℕ → ℕ → List Cube → List ℕ
 esop_text inputs outputs cubes =
-    spelled (head_lines inputs outputs (length cubes) ++ (map (cube_words inputs outputs) cubes ++ (codes ".e" ∷ []) ∷ []))
+    spelled
+    (head_lines inputs outputs (length cubes) ++ (map (cube_words inputs outputs) cubes ++ (codes ".e" ∷ []) ∷ []))
 
 -- a PLA of type esop whose terms have these cubes
 pub record IsEsopOf (inputs outputs : ℕ) (cubes : List Cube) (pla : TwoLevel) : Type 0 where

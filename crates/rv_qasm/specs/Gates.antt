@@ -9,7 +9,8 @@ is_one_of words word = list_any (λ w. bytes_eq word w) words
 
 abbrev pub is_on_one : List ℕ → Bool
 is_on_one name =
-    is_one_of (codes "x" ∷ codes "y" ∷ codes "z" ∷ codes "h" ∷ codes "s" ∷ codes "sdg" ∷ codes "t" ∷ codes "tdg" ∷ []) name
+    is_one_of
+    (codes "x" ∷ codes "y" ∷ codes "z" ∷ codes "h" ∷ codes "s" ∷ codes "sdg" ∷ codes "t" ∷ codes "tdg" ∷ []) name
 
 abbrev pub is_on_two : List ℕ → Bool
 is_on_two name = is_one_of (codes "cx" ∷ codes "CX" ∷ codes "cz" ∷ codes "swap" ∷ []) name
@@ -50,4 +51,5 @@ is_unsupported_gate name =
 
 -- statements of OpenQASM 2.0 and gates of qelib1.inc that are not supported
 abbrev pub begins_unsupported : List ℕ → Bool
-begins_unsupported name = is_one_of (codes "gate" ∷ codes "opaque" ∷ codes "if" ∷ codes "reset" ∷ []) name || is_unsupported_gate name
+begins_unsupported name =
+    is_one_of (codes "gate" ∷ codes "opaque" ∷ codes "if" ∷ codes "reset" ∷ []) name || is_unsupported_gate name

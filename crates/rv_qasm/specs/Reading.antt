@@ -49,8 +49,11 @@ ended_statements_read text = statements_read nothing_so_far (statements_of text)
 
 -- what a text denotes
 unfoldable pub qasm_of : List ℕ → Result Listing QasmFault
-qasm_of text = faulted faults.Text (ended_statements_read text >>= λ so_far. all_ended (unended_of text) so_far >>= at_end (length (lines_of text)))
+qasm_of text =
+    faulted faults.Text
+    (ended_statements_read text >>= λ so_far. all_ended (unended_of text) so_far >>= at_end (length (lines_of text)))
 
 -- a network, its lines the qubits of one register q, without measurements
 abbrev pub in_register_q : Network → Listing
-in_register_q net = record { net = net; registers = record { name = codes "q"; size = net.lines } ∷ []; measurements = 0 }
+in_register_q net =
+    record { net = net; registers = record { name = codes "q"; size = net.lines } ∷ []; measurements = 0 }

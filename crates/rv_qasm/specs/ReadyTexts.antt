@@ -8,7 +8,8 @@ use Rattle.rv_qasm.specs.declared.texts.OpTexts.{OpTexts}
 -- for each of so many lines its qubit between two texts
 abbrev pub AreBetween : ℕ → List ℕ → List ℕ → Texts → Type 0
 AreBetween lines before after texts =
-    (line : ℕ) → line < lines → IfSome (slice_get texts.texts line) (λ text. short_bytes text ≡ before ++ (qubit line ++ after))
+    (line : ℕ) → line < lines
+    → IfSome (slice_get texts.texts line) (λ text. short_bytes text ≡ before ++ (qubit line ++ after))
 
 -- the name of a gate on one line, with its qubit
 abbrev pub AreStatements : ℕ → List ℕ → Texts → Type 0

@@ -16,7 +16,8 @@ size_of_all registers = sum_by (λ register. register.size) registers
 -- the size of the register of this name
 abbrev pub declared_size : List ℕ → List Register → Option ℕ
 declared_size name [] = None
-declared_size name (register ∷ registers) = if bytes_eq name register.name then Some register.size else declared_size name registers
+declared_size name (register ∷ registers) =
+    if bytes_eq name register.name then Some register.size else declared_size name registers
 
 abbrev pub is_among : List ℕ → List Register → Bool
 is_among name registers = is_some (declared_size name registers)
@@ -28,7 +29,8 @@ is_indexed name before after = is_identifier name && bytes_eq before (codes "[")
 -- `NAME[N]`
 abbrev pub declaration_of : List (List ℕ) → Option Register
 declaration_of (name ∷ before ∷ size ∷ after ∷ []) =
-    if is_indexed name before after && is_count size then Some (record { name = name; size = decimal_value size }) else None
+    if is_indexed name before after && is_count size
+    then Some (record { name = name; size = decimal_value size }) else None
 declaration_of _ = None
 
 -- ---- operands
@@ -87,11 +89,15 @@ register_at first name (register ∷ registers) =
 
 abbrev pub qubits_in : QubitRange → Option (List ℕ) → Result QubitRange ℕ
 qubits_in register None = Ok register
-qubits_in register (Some place) = in_register place register.count (record { first = register.first + decimal_value place; count = 1; is_whole = false })
+qubits_in register (Some place) =
+    in_register place register.count
+    (record { first = register.first + decimal_value place; count = 1; is_whole = false })
 
 -- the qubits that an operand names, or the code of its fault
 abbrev pub qubits_of : List Register → RegisterOperand → Result QubitRange ℕ
-qubits_of registers operand = found_or code.UNKNOWN_REGISTER (register_at 0 operand.name registers) >>= λ register. qubits_in register operand.place
+qubits_of registers operand =
+    found_or code.UNKNOWN_REGISTER (register_at 0 operand.name registers)
+    >>= λ register. qubits_in register operand.place
 
 -- what operands name, or the code of the first fault
 abbrev pub all_qubits_of : List Register → List RegisterOperand → Result (List QubitRange) ℕ
@@ -105,4 +111,5 @@ count_in size (Some place) = in_register place size 1
 
 -- how many classical bits an operand names, or the code of its fault
 abbrev pub classical_bits : List Register → RegisterOperand → Result ℕ ℕ
-classical_bits registers operand = found_or code.UNKNOWN_REGISTER (declared_size operand.name registers) >>= λ size. count_in size operand.place
+classical_bits registers operand =
+    found_or code.UNKNOWN_REGISTER (declared_size operand.name registers) >>= λ size. count_in size operand.place

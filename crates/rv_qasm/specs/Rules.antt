@@ -66,7 +66,8 @@ abbrev pub qreg_read : SoFar → List (List ℕ) → Result SoFar ℕ
 qreg_read so_far tokens = new_register so_far tokens >>= with_quantum so_far
 
 abbrev pub creg_read : SoFar → List (List ℕ) → Result SoFar ℕ
-creg_read so_far tokens = new_register so_far tokens >>= λ register. Ok (record so_far { classical = so_far.classical ++ register ∷ [] })
+creg_read so_far tokens =
+    new_register so_far tokens >>= λ register. Ok (record so_far { classical = so_far.classical ++ register ∷ [] })
 
 -- ---- operands that are looked at and dropped
 
@@ -120,7 +121,8 @@ has_twice (q ∷ qs) = list_any (λ other. other == q) qs || has_twice qs
 
 abbrev pub with_ops : SoFar → List Op → Result SoFar ℕ
 with_ops so_far ops =
-    broken (not (nat_lt (length so_far.ops) MOST_OPS)) code.TOO_MANY_OPS (Ok (record so_far { ops = so_far.ops ++ ops }))
+    broken (not (nat_lt (length so_far.ops) MOST_OPS)) code.TOO_MANY_OPS
+    (Ok (record so_far { ops = so_far.ops ++ ops }))
 
 -- one operation
 abbrev pub op_read : List ℕ → SoFar → List ℕ → Result SoFar ℕ

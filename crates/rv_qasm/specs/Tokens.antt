@@ -1,4 +1,5 @@
--- The tokens of an OpenQASM 2.0 text. Blanks are space, tab, carriage return and line feed, and `//` begins a comment to the end of its line.
+-- The tokens of an OpenQASM 2.0 text. Blanks are space, tab, carriage return and line feed,
+-- and `//` begins a comment to the end of its line.
 use Rattle.std.specs.Prelude.{ℕ, zero, suc, ◌+◌, ◌-◌, Bool, List, [], ◌∷◌, take, drop, ◌==◌, ◌||◌, ◌&&◌, not, if◌then◌else◌, length, slice_index}
 use Rattle.std.specs.Char.{is_ascii_alphabetic, is_ascii_digit}
 use Rattle.std.specs.List.{prefix_len, position_or_len}
@@ -50,7 +51,8 @@ string_length bytes =
     let inside = position_or_len (λ c. c == quote || c == line_feed) bytes in
     if slice_index (drop inside bytes) 0 == quote then inside + 1 else inside
 
--- the length of the first token of bytes that begin with neither a blank nor a comment: a name, a number, a string, `->`, or any other byte
+-- the length of the first token of bytes that begin with neither a blank nor a comment: a name, a number,
+-- a string, `->`, or any other byte
 abbrev pub token_length : ℕ → List ℕ → ℕ
 token_length c bytes =
     if begins_name c then 1 + prefix_len is_in_name bytes
@@ -74,7 +76,8 @@ tokens_after (suc skipped) line (c ∷ bytes) = tokens_after skipped (line_after
 tokens_after zero line (c ∷ bytes) =
     if is_blank (line_feed ∷ []) c then tokens_after 0 (line_after line c) bytes
     else (if begins_comment c bytes then tokens_after (first_end bytes) line bytes
-    else record { bytes = take (token_length c bytes) (c ∷ bytes); line = line } ∷ tokens_after (token_length c bytes - 1) line bytes)
+    else record { bytes = take (token_length c bytes) (c ∷ bytes); line = line }
+    ∷ tokens_after (token_length c bytes - 1) line bytes)
 
 unfoldable pub qasm_tokens : List ℕ → List TokenOnLine
 qasm_tokens text = tokens_after 0 1 text

@@ -5,8 +5,8 @@ use Rattle.rv_text.specs.declared.lines.TheConstants.{MOST_BYTES}
 use Rattle.rv_reader.specs.declared.unread.Unread.{Unread}
 use Rattle.rv_reader.specs.declared.unread.Unread.TheVariants as unread
 
--- A name was read to its end, and no call failed: P holds of its bytes, which are those that it holds, where this is told, and as many as
--- were read.
+-- A name was read to its end, and no call failed: P holds of its bytes, which are those that it holds, where this is
+-- told, and as many as were read.
 pub record IsReadToEnd (name : List ℕ) (old new : FilesView) (P : List ℕ → Type 0) : Type 0 where
   pub bytes : List ℕ
   pub held : old.tells ≡ true → old.held name ≡ Some bytes

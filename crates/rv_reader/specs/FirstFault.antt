@@ -3,11 +3,13 @@ use Rattle.std.specs.Prelude.{ℕ, zero, suc, ◌+◌, List, [], ◌∷◌, ◌+
 use Rattle.std.specs.Option.{option_map, option_or}
 use Rattle.rv_text.specs.declared.fault.TextFault.{TextFault}
 
--- the first line that breaks a rule, and the first rule that it breaks, by what `fault_of` finds in a line after others; `before` stand before the lines
+-- the first line that breaks a rule, and the first rule that it breaks, by what `fault_of` finds in a line after
+-- others; `before` stand before the lines
 abbrev pub first_fault : {L : Type 0} → (List L → L → Option ℕ) → List L → List L → Option TextFault
 first_fault fault_of before [] = None
 first_fault fault_of before (line ∷ lines) =
-    option_or (option_map (λ code. record { line = length before + 1; code = code }) (fault_of before line)) (first_fault fault_of (before ++ line ∷ []) lines)
+    option_or (option_map (λ code. record { line = length before + 1; code = code }) (fault_of before line))
+    (first_fault fault_of (before ++ line ∷ []) lines)
 
 -- what a text denotes, unless it has a fault
 abbrev pub unless_text : {A E : Type 0} → (TextFault → E) → Option TextFault → Result A E → Result A E

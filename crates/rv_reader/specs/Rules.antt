@@ -22,7 +22,8 @@ found_or fault (Some x) = Ok x
 pub record Rules (S : Type 0) : Type 0 where
   -- the state in which a text begins
   pub start : S
-  -- the state after a line, or the code of the first rule that the line breaks; by the state before it, its number counted from 1, and its bytes
+  -- the state after a line, or the code of the first rule that the line breaks; by the state before it, its number
+  -- counted from 1, and its bytes
   pub line_of : S → ℕ → List ℕ → Result S ℕ
 
 -- a fault with the number of its line

@@ -113,7 +113,8 @@ shape_of letter operands =
     let count = length operands in
     let controls = take (control_count letter count) operands in
     if letter == 116 then Flip (line_set controls) (line_set (wanting_one controls)) (line_at operands (count - 1))
-    else (if letter == 102 then Swap (line_set controls) (line_set (wanting_one controls)) (line_at operands (count - 2)) (line_at operands (count - 1))
+    else (if letter == 102 then Swap (line_set controls) (line_set (wanting_one controls))
+    (line_at operands (count - 2)) (line_at operands (count - 1))
     else Peres (line_at operands 0) (line_at operands 1) (line_at operands 2))
 
 -- ---- a gate's line
@@ -132,7 +133,8 @@ named_gate names name ws =
     (broken (not (is_known name)) code.UNKNOWN_GATE
     (gate_of_line names (letter_of name) (operand_count name) ws))
 
--- the gate of a line, by its first token and its operands, on lines with these names; a first token in quotes is no gate's name
+-- the gate of a line, by its first token and its operands, on lines with these names;
+-- a first token in quotes is no gate's name
 abbrev pub gate_of : List (List ℕ) → Lexeme → List Lexeme → Result Shape ℕ
 gate_of names w ws =
     broken w.quoted code.UNKNOWN_GATE

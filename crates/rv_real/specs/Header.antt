@@ -1,4 +1,5 @@
--- The header: what its lines give, and the rules of each directive after them, in the order in which they are looked at.
+-- The header: what its lines give, and the rules of each directive after them,
+-- in the order in which they are looked at.
 use Rattle.std.specs.Prelude.{ℕ, Bool, not, List, [], ◌∷◌, ◌++◌, length, ◌==◌, ◌||◌, ◌&&◌, if◌then◌else◌, nat_lt, is_some, position, Option, Some, None, Result, Ok, Err, codes}
 use Rattle.std.specs.List.{list_any}
 use Rattle.std.specs.Result.{result_err, result_ok}
@@ -101,12 +102,14 @@ row_fault mark_of ws lines = if is_some (row_of_marks mark_of lines (joined ws))
 
 -- `.begin` stands after `.numvars` and `.variables`
 abbrev pub begin_fault : List (List Lexeme) → Option ℕ
-begin_fault before = if is_some (numvars_in before) && is_some (names_in before) then None else Some code.MISSING_DIRECTIVE
+begin_fault before =
+    if is_some (numvars_in before) && is_some (names_in before) then None else Some code.MISSING_DIRECTIVE
 
 -- directives that are dropped with the rest of their line
 abbrev pub is_dropped : List ℕ → Bool
 is_dropped name =
-    bytes_eq name (codes ".version") || bytes_eq name (codes ".inputbus") || bytes_eq name (codes ".outputbus") || bytes_eq name (codes ".state")
+    bytes_eq name (codes ".version") || bytes_eq name (codes ".inputbus") || bytes_eq name (codes ".outputbus")
+    || bytes_eq name (codes ".state")
 
 -- directives that are refused
 abbrev pub is_refused : List ℕ → Bool
@@ -117,11 +120,16 @@ unfoldable pub named_fault : List (List Lexeme) → List ℕ → List Lexeme →
 named_fault before name ws =
     if is_dropped name then None
     else (if bytes_eq name (codes ".numvars") then numvars_fault (numvars_in before) ws
-    else (if bytes_eq name (codes ".variables") then entries_fault (numvars_in before) (names_in before) (each_fault (variable_names ws) ws)
-    else (if bytes_eq name (codes ".inputs") then entries_fault (numvars_in before) (input_labels_in before) (each_fault (labels_of ws) ws)
-    else (if bytes_eq name (codes ".outputs") then entries_fault (numvars_in before) (output_labels_in before) (each_fault (labels_of ws) ws)
-    else (if bytes_eq name (codes ".constants") then entries_fault (numvars_in before) (constants_in before) (row_fault constant_of ws)
-    else (if bytes_eq name (codes ".garbage") then entries_fault (numvars_in before) (garbage_in before) (row_fault garbage_of ws)
+    else (if bytes_eq name (codes ".variables")
+    then entries_fault (numvars_in before) (names_in before) (each_fault (variable_names ws) ws)
+    else (if bytes_eq name (codes ".inputs")
+    then entries_fault (numvars_in before) (input_labels_in before) (each_fault (labels_of ws) ws)
+    else (if bytes_eq name (codes ".outputs")
+    then entries_fault (numvars_in before) (output_labels_in before) (each_fault (labels_of ws) ws)
+    else (if bytes_eq name (codes ".constants")
+    then entries_fault (numvars_in before) (constants_in before) (row_fault constant_of ws)
+    else (if bytes_eq name (codes ".garbage")
+    then entries_fault (numvars_in before) (garbage_in before) (row_fault garbage_of ws)
     else (if is_refused name then Some code.NOT_SUPPORTED
     else (if bytes_eq name (codes ".end") then Some code.DIRECTIVE_OUT_OF_PLACE
     else (if begins_with_dot name then Some code.UNKNOWN_DIRECTIVE

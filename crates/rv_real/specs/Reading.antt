@@ -1,4 +1,5 @@
--- What a text in RevLib's `.real` format denotes, version 2.0: a circuit, or its first fault. A text has three parts: the header, the body, and what follows it.
+-- What a text in RevLib's `.real` format denotes, version 2.0: a circuit, or its first fault. A text has three parts:
+-- the header, the body, and what follows it.
 use Rattle.std.specs.Prelude.{unwrap_or, Bool, true, false, not, ℕ, List, [], ◌∷◌, length, map, replicate, if◌then◌else◌, codes, Option, Some, None, Result, Ok, Err}
 use Rattle.std.specs.List.{list_any, before_first, after_first}
 use Rattle.rv_text.specs.Lines.{lines_of}
@@ -47,13 +48,15 @@ names_so_far header = unwrap_or (names_in header) []
 abbrev pub part_fault : List (List Lexeme) → Lexeme → List Lexeme → Option ℕ
 part_fault before w ws =
     if is_begun before
-    then (if is_ended (body_in before) then Some code.TEXT_AFTER_END else body_fault (names_so_far (header_in before)) (body_in before) w ws)
+    then (if is_ended (body_in before) then Some code.TEXT_AFTER_END
+    else body_fault (names_so_far (header_in before)) (body_in before) w ws)
     else header_fault before w ws
 
 abbrev pub is_unclosed : Lexeme → Bool
 is_unclosed w = not w.closed
 
--- the code of the first rule that a line breaks, where an unclosed quote is looked for first; a line without tokens is skipped
+-- the code of the first rule that a line breaks, where an unclosed quote is looked for first;
+-- a line without tokens is skipped
 abbrev pub fault_of : List (List Lexeme) → List Lexeme → Option ℕ
 fault_of before [] = None
 fault_of before (w ∷ ws) = if list_any is_unclosed (w ∷ ws) then Some code.UNCLOSED_QUOTE else part_fault before w ws

@@ -61,7 +61,8 @@ label_lines c =
 -- the eight lines of the header
 abbrev pub header_lines : Cascade → List (List (List ℕ))
 header_lines c =
-    size_lines (length c.names) ++ variables_line c.names ∷ label_lines c ++ mark_lines c.constants c.garbage ++ (codes ".begin" ∷ []) ∷ []
+    size_lines (length c.names) ++ variables_line c.names ∷ label_lines c ++ mark_lines c.constants c.garbage
+    ++ (codes ".begin" ∷ []) ∷ []
 
 -- header, one line a gate, and the end
 abbrev pub circuit_lines : Cascade → List (List (List ℕ))

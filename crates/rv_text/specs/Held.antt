@@ -31,7 +31,8 @@ pub record HasGiven (held : Held) (lines : List (List ℕ)) : Type 0 where
   pub number : held.number ≡ length lines
   pub ready : held.is_ready ≡ true → slice_get lines (held.number - 1) ≡ Some held.line
 
--- This text was taken so far, in whatever pieces: the lines that line feeds end in it were ready, and the bytes after its last line feed are held.
+-- This text was taken so far, in whatever pieces: the lines that line feeds end in it were ready, and the bytes after
+-- its last line feed are held.
 pub record HasTaken (held : Held) (text : List ℕ) : Type 0 where
   pub given : HasGiven held (ended_after [] text)
   pub begun : begun_after [] text ≡ (if held.is_ready then [] else held.line)

@@ -1,4 +1,5 @@
--- The lines of a text. A line feed ends a line; the last line may lack it. A text that ends with a line feed has no further line, and an empty text has none.
+-- The lines of a text. A line feed ends a line; the last line may lack it. A text that ends with a line feed has no
+-- further line, and an empty text has none.
 use Rattle.std.specs.Prelude.{ℕ, List, [], ◌∷◌, ◌++◌, ◌==◌, if◌then◌else◌}
 use Rattle.std.specs.List.{position_or_len}
 use Rattle.rv_text.specs.Bytes.{line_feed}

@@ -1,4 +1,6 @@
--- The tokens of a line. Blanks part them, and a `#` outside quotes begins a comment to the end of the line. A token is a longest run of other bytes; where quotes are meant, one that begins with `"` reaches to the next `"`, or to the end of the line.
+-- The tokens of a line. Blanks part them, and a `#` outside quotes begins a comment to the end of the line. A token is
+-- a longest run of other bytes; where quotes are meant, one that begins with `"` reaches to the next `"`,
+-- or to the end of the line.
 use Rattle.std.specs.Prelude.{ℕ, Bool, true, false, List, [], ◌∷◌, ◌++◌, ◌==◌, ◌||◌, ◌&&◌, if◌then◌else◌}
 use Rattle.std.specs.List.{flat_map, list_any}
 use Rattle.rv_text.specs.Bytes.{carriage_return, tab, space, quote, hash}

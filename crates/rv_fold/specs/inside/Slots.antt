@@ -28,4 +28,5 @@ HasNone firsts = (key : Parity) → found firsts key ≡ None
 
 -- the second has what the first has, and the place for the parity
 abbrev pub Notes : Firsts → Firsts → Parity → ℕ → Type 0
-Notes before firsts parity place = (key : Parity) → found firsts key ≡ (if same_parity parity key then Some place else found before key)
+Notes before firsts parity place =
+    (key : Parity) → found firsts key ≡ (if same_parity parity key then Some place else found before key)

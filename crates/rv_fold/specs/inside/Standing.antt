@@ -22,10 +22,12 @@ pub record AreSince (n : ℕ) (ops : List Op) (place : ℕ) (sinces : List ℕ) 
 
 -- where the class of the parity begins, if a phase gate before the place has the parity and it is kept
 abbrev pub Begins : ℕ → List Op → ℕ → Parity → Option ℕ → Type 0
-Begins n ops place parity None = (j : ℕ) → j < place → parity_at n ops j ≡ Some parity → Kept n ops parity.lines j place → ⊥
+Begins n ops place parity None =
+    (j : ℕ) → j < place → parity_at n ops j ≡ Some parity → Kept n ops parity.lines j place → ⊥
 Begins n ops place parity (Some first) =
     (first < place) × (parity_at n ops first ≡ Some parity)
-    × ((j : ℕ) → j < place → parity_at n ops j ≡ Some parity → Kept n ops parity.lines j place → (first ≤ j) × Kept n ops parity.lines first place)
+    × ((j : ℕ) → j < place → parity_at n ops j ≡ Some parity → Kept n ops parity.lines j place
+    → (first ≤ j) × Kept n ops parity.lines first place)
 
 -- the class of a phase gate with the parity at the place begins there
 pub record StartsAt (n : ℕ) (ops : List Op) (place : ℕ) (parity : Parity) (first : ℕ) : Type 0 where

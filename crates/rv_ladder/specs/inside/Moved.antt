@@ -14,7 +14,8 @@ met a b (c ∷ more) x = met a b more x && bit_of x c
 abbrev pub moved : ℕ → ℕ → List ℕ → List ℕ → ℕ → List Bool → List Bool
 moved a b [] helpers t x = slice_set x t (xor (bit_of x a && bit_of x b) (bit_of x t))
 moved a b (c ∷ more) [] t x = x
-moved a b (c ∷ more) (h ∷ helpers) t x = slice_set (moved a b more helpers h x) t (xor (met a b more x && bit_of x c) (bit_of x t))
+moved a b (c ∷ more) (h ∷ helpers) t x =
+    slice_set (moved a b more helpers h x) t (xor (met a b more x && bit_of x c) (bit_of x t))
 
 -- the power of w that a rung brings, where its inner part flips
 abbrev pub level : Bool → Bool → Bool → ℕ

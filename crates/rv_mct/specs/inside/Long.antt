@@ -21,7 +21,8 @@ pub record IsCut (n care target line helper : ℕ) : Type 0 where
   pub half : count_lines (below care line) ≡ (count_lines care + 1) / 2
   pub other : count_lines (bit_or (from care line) (2 ^ helper)) ≡ count_lines care / 2 + 1
   pub enough_first : count_lines (below care line) ≤ count (is_free (below care line) helper) n + 2
-  pub enough_second : count_lines (bit_or (from care line) (2 ^ helper)) ≤ count (is_free (bit_or (from care line) (2 ^ helper)) target) n + 2
+  pub enough_second : count_lines (bit_or (from care line) (2 ^ helper))
+      ≤ count (is_free (bit_or (from care line) (2 ^ helper)) target) n + 2
 
 -- what it takes to replace a flip
 pub record Ready (aux : Aux) (n extra care want target : ℕ) : Type 0 where

@@ -47,7 +47,8 @@ pub record IsBlocked (belongs : ℕ → Op → Bool) (cells : Cells) (set place 
 -- a new node, before the others of the slot
 pub record IsPushed (chains : Chains) (slot place : ℕ) (next : Chains) : Type 0 where
   pub heads : next.heads.items ≡ slice_set chains.heads.items slot (length chains.nodes.items + 1)
-  pub nodes : next.nodes.items ≡ chains.nodes.items ++ record { place = place; below = slice_index chains.heads.items slot } ∷ []
+  pub nodes : next.nodes.items
+      ≡ chains.nodes.items ++ record { place = place; below = slice_index chains.heads.items slot } ∷ []
 
 -- where a link leads, an operation stands
 abbrev pub LeadsToOp : Cells → List Node → ℕ → Type 0
@@ -59,13 +60,15 @@ LeadsToOp cells nodes link =
 -- they still have all operations
 abbrev pub AreKept : Cells → Chains → Chains → Type 0
 AreKept cells before after =
-    (belongs : ℕ → Op → Bool) → AreChains belongs cells (length cells) before → AreChains belongs cells (length cells) after
+    (belongs : ℕ → Op → Bool) → AreChains belongs cells (length cells) before
+    → AreChains belongs cells (length cells) after
 
 -- no operation of the slot stands after a place, or none stands at all
 abbrev pub IsBound : Chains → ℕ → Option ℕ → Type 0
 IsBound chains slot bound =
     (belongs : ℕ → Op → Bool) (cells : Cells) (to : ℕ) → AreChains belongs cells to chains
-    → MatchOption bound (NoneFrom cells (belongs slot) 0 to) (λ place. (place < to) × NoneFrom cells (belongs slot) (suc place) to)
+    → MatchOption bound (NoneFrom cells (belongs slot) 0 to)
+    (λ place. (place < to) × NoneFrom cells (belongs slot) (suc place) to)
 
 abbrev pub GivesLatest : Cells → Chains → ℕ → ℕ → Type 0
 GivesLatest cells chains slot latest =
@@ -79,5 +82,6 @@ TellsFree cells chains set place free =
 -- they have one operation more, which belongs to the slots of a set
 abbrev pub AreMore : ℕ → ℕ → Chains → Chains → Type 0
 AreMore set place before after =
-    (belongs : ℕ → Op → Bool) (cells : Cells) (op : Op) → StandsAt cells place op → ((slot : ℕ) → belongs slot op ≡ has set slot)
+    (belongs : ℕ → Op → Bool) (cells : Cells) (op : Op) → StandsAt cells place op
+    → ((slot : ℕ) → belongs slot op ≡ has set slot)
     → AreChains belongs cells place before → AreChains belongs cells (place + 1) after

@@ -19,11 +19,13 @@ pub record Given : Type 0 where
 abbrev pub nothing_given : Given
 nothing_given = record { constants = None; garbage = None; numbers = []; count = 0 }
 
--- One number more. Those beyond the most are counted and not kept, and all values from there on count as one, which no permutation has.
+-- One number more. Those beyond the most are counted and not kept, and all values from there on count as one,
+-- which no permutation has.
 abbrev pub with_number : Given → ℕ → Given
 with_number given number =
     record given {
-      numbers = if nat_lt given.count MOST_NUMBERS then given.numbers ++ min number MOST_NUMBERS ∷ [] else given.numbers;
+      numbers =
+          if nat_lt given.count MOST_NUMBERS then given.numbers ++ min number MOST_NUMBERS ∷ [] else given.numbers;
       count = given.count + 1;
     }
 

@@ -27,12 +27,14 @@ row_given mark_of number bytes = option_map (λ marks. record { marks = marks; l
 abbrev pub constants_given : Given → ℕ → List ℕ → Result Given ℕ
 constants_given given number bytes =
     broken (is_some given.constants || nat_lt 0 given.count) code.DIRECTIVE_OUT_OF_PLACE
-    (found_or code.WRONG_MARK_ROW (row_given constant_of number bytes) >>= λ row. Ok (record given { constants = Some row }))
+    (found_or code.WRONG_MARK_ROW (row_given constant_of number bytes)
+    >>= λ row. Ok (record given { constants = Some row }))
 
 abbrev pub garbage_given : Given → ℕ → List ℕ → Result Given ℕ
 garbage_given given number bytes =
     broken (is_some given.garbage || nat_lt 0 given.count) code.DIRECTIVE_OUT_OF_PLACE
-    (found_or code.WRONG_MARK_ROW (row_given garbage_of number bytes) >>= λ row. Ok (record given { garbage = Some row }))
+    (found_or code.WRONG_MARK_ROW (row_given garbage_of number bytes)
+    >>= λ row. Ok (record given { garbage = Some row }))
 
 unfoldable pub directive_given : Given → ℕ → List ℕ → List Lexeme → Result Given ℕ
 directive_given given number name words =
@@ -43,7 +45,8 @@ directive_given given number name words =
 abbrev pub numbers_given : Given → List Lexeme → Result Given ℕ
 numbers_given given [] = Ok given
 numbers_given given (word ∷ words) =
-    broken (not (is_decimal word.bytes)) code.NOT_A_NUMBER (numbers_given (with_number given (decimal_value word.bytes)) words)
+    broken (not (is_decimal word.bytes)) code.NOT_A_NUMBER
+    (numbers_given (with_number given (decimal_value word.bytes)) words)
 
 abbrev pub line_by : Given → ℕ → List ℕ → List Lexeme → Result Given ℕ
 line_by given number line [] = Ok given

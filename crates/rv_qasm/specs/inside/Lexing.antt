@@ -114,7 +114,9 @@ statement_at b = record { tokens = b.tokens; line = if length b.tokens == 0 then
 -- the statements that `;` ends in the bytes
 unfoldable pub ended_by : Begun → List ℕ → List Statement
 ended_by b [] = []
-ended_by b (c ∷ cs) = if ends b.mode c then statement_at (with_nothing_open b b.mode) ∷ ended_by (begun_on b.line) cs else ended_by (next b c) cs
+ended_by b (c ∷ cs) =
+    if ends b.mode c then statement_at (with_nothing_open b b.mode) ∷ ended_by (begun_on b.line) cs
+    else ended_by (next b c) cs
 
 -- the statement that is begun after the bytes
 unfoldable pub begun_by : Begun → List ℕ → Begun

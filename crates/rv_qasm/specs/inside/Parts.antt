@@ -22,7 +22,8 @@ looked_on so_far seen operand = seen >>= λ _. looked_at so_far (operand ∷ [])
 -- ---- the steps of a statement
 
 abbrev pub gate_on_ranges : List ℕ → SoFar → List QubitRange → Result SoFar ℕ
-gate_on_ranges name so_far ranges = broken (not (sizes_agree ranges)) code.REGISTER_SIZES_DIFFER (each_read name so_far ranges)
+gate_on_ranges name so_far ranges =
+    broken (not (sizes_agree ranges)) code.REGISTER_SIZES_DIFFER (each_read name so_far ranges)
 
 abbrev pub gate_on_operands : List ℕ → SoFar → List RegisterOperand → Result SoFar ℕ
 gate_on_operands name so_far operands = all_qubits_of so_far.quantum operands >>= gate_on_ranges name so_far
@@ -33,4 +34,5 @@ gate_of_size size name so_far tokens = gate_operands size tokens >>= gate_on_ope
 -- `measure`, by what stands before the arrow and after it
 abbrev pub both_read : SoFar → Option RegisterOperand → Option RegisterOperand → Result SoFar ℕ
 both_read so_far from to =
-    found_or code.WRONG_SYNTAX from >>= λ measured. found_or code.WRONG_SYNTAX to >>= λ written. measured_read so_far measured written
+    found_or code.WRONG_SYNTAX from
+    >>= λ measured. found_or code.WRONG_SYNTAX to >>= λ written. measured_read so_far measured written

@@ -23,7 +23,8 @@ registers_of entries = map register_of entries
 -- counted up to the greatest count.
 abbrev pub Follow : ℕ → List (Vec ℕ × Extent) → ℕ → Type 0
 Follow before [] total = total ≡ before
-Follow before (entry ∷ entries) total = (entry.1.before ≡ before) × Follow (min (before + entry.1.size) MOST_PLACES) entries total
+Follow before (entry ∷ entries) total =
+    (entry.1.before ≡ before) × Follow (min (before + entry.1.size) MOST_PLACES) entries total
 
 abbrev pub named : RegisterOperand → Named
 named operand = record { name = operand.name.now; place = option_copied operand.place }

@@ -8,13 +8,15 @@ abbrev pub IsFaultOf : {X E : Type 0} → E → (List ℕ → Result X E) → Li
 IsFaultOf mem denoted text fault = (fault ≡ mem) ⊎ ((more : List ℕ) → denoted (text ++ more) ≡ Err fault)
 
 -- a reader has refused a front of the text
-pub record HasRefused {R X E : Type 0} (refusal : R → Option E) (mem : E) (denoted : List ℕ → Result X E) (reader : R) (text : List ℕ) : Type 0 where
+pub record HasRefused {R X E : Type 0} (refusal : R → Option E) (mem : E) (denoted : List ℕ → Result X E) (reader : R)
+    (text : List ℕ) : Type 0 where
   pub fault : E
   pub kept : refusal reader ≡ Some fault
   pub cause : IsFaultOf mem denoted text fault
 
 -- a reader was fed the text, or a front of it, which it has refused
-abbrev pub IsFed : {R X E : Type 0} → (R → List ℕ → Type 0) → (R → Option E) → E → (List ℕ → Result X E) → Bool → R → List ℕ → Type 0
+abbrev pub IsFed : {R X E : Type 0} → (R → List ℕ → Type 0) → (R → Option E) → E → (List ℕ → Result X E)
+    → Bool → R → List ℕ → Type 0
 IsFed Stands refusal mem denoted true reader text = Stands reader text
 IsFed Stands refusal mem denoted false reader text = HasRefused refusal mem denoted reader text
 

@@ -32,7 +32,8 @@ lines_gave begun number (Err fault) = refused (refusals.Text fault)
 -- the progress after the bytes that come next
 abbrev pub fed_on : {S : Type 0} → Rules S → Progress S → List ℕ → Progress S
 fed_on rules (reading begun number state) piece =
-    lines_gave (begun_after begun piece) (number + length (ended_after begun piece)) (lines_read rules number state (ended_after begun piece))
+    lines_gave (begun_after begun piece) (number + length (ended_after begun piece))
+    (lines_read rules number state (ended_after begun piece))
 fed_on rules (refused refusal) piece = refused refusal
 
 -- the progress after a text
@@ -59,13 +60,15 @@ as_is refusal = refusal
 -- the end of a text
 abbrev pub finished : {S : Type 0} → Rules S → Progress S → Result (Whole S) TextRefusal
 finished rules (reading begun number state) =
-    faulted refusals.Text (lines_read rules number state (last_line begun) >>= with_count (number + length (last_line begun)))
+    faulted refusals.Text
+    (lines_read rules number state (last_line begun) >>= with_count (number + length (last_line begun)))
 finished rules (refused refusal) = Err refusal
 
 -- a piece was taken, or the reader is refused from now on: for the text's first fault, or for want of memory
 abbrev pub FedOn : {S : Type 0} → Rules S → Result (Unit {0}) TextRefusal → Progress S → Progress S → List ℕ → Type 0
 FedOn rules (Ok x) old new piece = (fed_on rules old piece ≡ new) × (told as_is new ≡ Ok tt)
-FedOn rules (Err refusal) old new piece = (new ≡ refused refusal) × ((refusal ≡ refusals.Mem) ⊎ (fed_on rules old piece ≡ refused refusal))
+FedOn rules (Err refusal) old new piece =
+    (new ≡ refused refusal) × ((refusal ≡ refusals.Mem) ⊎ (fed_on rules old piece ≡ refused refusal))
 
 -- a step that stopped for a refusal was to stop for it
 abbrev pub Stops : {Y : Type 0} → TextRefusal → Result Y TextFault → Type 0

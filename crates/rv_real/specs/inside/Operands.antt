@@ -47,7 +47,9 @@ pushed kept operand is_control =
       lines = bit_or kept.lines (2 ^ operand.line);
       is_repeated = kept.is_repeated || has kept.lines operand.line;
       care = if is_control then bit_or kept.care (2 ^ operand.line) else kept.care;
-      want = if is_control then (if operand.is_negative then kept.want else bit_or kept.want (2 ^ operand.line)) else kept.want;
+      want =
+          if is_control then (if operand.is_negative then kept.want else bit_or kept.want (2 ^ operand.line))
+          else kept.want;
       first = kept.second;
       second = kept.third;
       third = operand.line;
@@ -67,5 +69,6 @@ pub record Gathers (lines controls : ℕ) (operands : List Operand) (kept : Oper
 
 -- a step that gathered the operands that were wanted, unless memory ran out
 abbrev pub GivesOperands : ℕ → ℕ → Result Operands Stop → Result (List Operand) ℕ → Type 0
-GivesOperands lines controls (Ok kept) want = (operands : List Operand) × (want ≡ Ok operands) × Gathers lines controls operands kept
+GivesOperands lines controls (Ok kept) want =
+    (operands : List Operand) × (want ≡ Ok operands) × Gathers lines controls operands kept
 GivesOperands lines controls (Err e) want = Fails e want

@@ -24,4 +24,5 @@ pub record IsKeyOf (names : List (List ℕ)) (line key : ℕ) : Type 0 where
 pub record ArePlaces (names : List (List ℕ)) (places : Places) : Type 0 where
   pub keys : length places.keys ≡ 256
   pub lines : length places.lines ≡ 256
-  pub each : (place : ℕ) → place < 256 → 0 < slice_index places.keys place → IsKeyOf names (slice_index places.lines place) (slice_index places.keys place)
+  pub each : (place : ℕ) → place < 256 → 0 < slice_index places.keys place
+      → IsKeyOf names (slice_index places.lines place) (slice_index places.keys place)

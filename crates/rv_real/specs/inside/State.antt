@@ -61,7 +61,8 @@ line_of state (w ∷ ws) = ruled (w ∷ ws) (line_in state w ws)
 
 -- the text is read line by line
 abbrev pub line_rules : Rules State
-line_rules = record { start = in_header no_directives; line_of = λ state number line. line_of state (tokens_of true [] line) }
+line_rules =
+    record { start = in_header no_directives; line_of = λ state number line. line_of state (tokens_of true [] line) }
 
 -- the end of a text of so many lines
 abbrev pub end_in : State → ℕ → Result Cascade TextFault

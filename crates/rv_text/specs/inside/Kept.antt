@@ -13,4 +13,5 @@ pub record IsHeld (held : Held) (room : ℕ) : Type 0 where
 
 -- a value that has taken bytes without a line feed
 abbrev pub with_bytes : Held → List ℕ → Held
-with_bytes old bytes = let line = old.line ++ bytes in record old { line = line; taken = old.taken + length bytes; greatest = max old.greatest (length line) }
+with_bytes old bytes = let line = old.line ++ bytes in
+    record old { line = line; taken = old.taken + length bytes; greatest = max old.greatest (length line) }

@@ -72,7 +72,9 @@ passed (Cx a b) p = record p {
 }
 passed (Cz a b) p = record p {
   half = xor p.half (bit_of p.flips a && bit_of p.flips b);
-  signs = slice_set (slice_set p.signs a (xor (bit_of p.signs a) (bit_of p.flips b))) b (xor (bit_of p.signs b) (bit_of p.flips a));
+  signs =
+      slice_set (slice_set p.signs a (xor (bit_of p.signs a) (bit_of p.flips b))) b
+      (xor (bit_of p.signs b) (bit_of p.flips a));
 }
 passed (Swap a b) p = record p {
   flips = slice_set (slice_set p.flips a (bit_of p.flips b)) b (bit_of p.flips a);
@@ -85,7 +87,8 @@ passed (Cswap c a b) p = p
 
 -- Z on one line
 abbrev pub sign_on : ℕ → ℕ → Pauli
-sign_on n q = record { quarter = false; half = false; flips = replicate n false; signs = slice_set (replicate n false) q true }
+sign_on n q =
+    record { quarter = false; half = false; flips = replicate n false; signs = slice_set (replicate n false) q true }
 
 -- T or Tdg
 abbrev pub turn : Bool → ℕ → Op

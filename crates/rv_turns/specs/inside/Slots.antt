@@ -15,7 +15,8 @@ pub record Slots : Type 0 where
   pub live : ℕ
 
 abbrev pub slots_of : Waiting → Slots
-slots_of w = record { flips = w.flips.items; signs = w.signs.items; quarters = w.quarters; halves = w.halves; live = w.live }
+slots_of w =
+    record { flips = w.flips.items; signs = w.signs.items; quarters = w.quarters; halves = w.halves; live = w.live }
 
 -- the product of a slot
 abbrev pub pauli_at : Slots → ℕ → Pauli
@@ -52,7 +53,9 @@ passed_slots (Cx a b) s = record s {
 }
 passed_slots (Cz a b) s = record s {
   halves = bit_xor s.halves (bit_and (slice_index s.flips a) (slice_index s.flips b));
-  signs = slice_set (slice_set s.signs a (bit_xor (slice_index s.signs a) (slice_index s.flips b))) b (bit_xor (slice_index s.signs b) (slice_index s.flips a));
+  signs =
+      slice_set (slice_set s.signs a (bit_xor (slice_index s.signs a) (slice_index s.flips b))) b
+      (bit_xor (slice_index s.signs b) (slice_index s.flips a));
 }
 passed_slots (Swap a b) s = record s {
   flips = slice_set (slice_set s.flips a (slice_index s.flips b)) b (slice_index s.flips a);
@@ -64,7 +67,9 @@ passed_slots (Ccx a b c) s = record s {
   live = without s.live (bit_or (bit_or (slice_index s.flips a) (slice_index s.flips b)) (slice_index s.signs c));
 }
 passed_slots (Cswap c a b) s = record s {
-  live = without s.live (bit_or (bit_or (slice_index s.flips c) (bit_xor (slice_index s.flips a) (slice_index s.flips b))) (bit_xor (slice_index s.signs a) (slice_index s.signs b)));
+  live =
+      without s.live (bit_or (bit_or (slice_index s.flips c) (bit_xor (slice_index s.flips a) (slice_index s.flips b)))
+      (bit_xor (slice_index s.signs a) (slice_index s.signs b)));
 }
 
 -- the product of the slot is Z on the line, or the identity there

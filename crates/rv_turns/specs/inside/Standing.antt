@@ -32,7 +32,8 @@ pub record Opened (op : Op) (at : ℕ) (new : Waiting) (i : ℕ) : Type 0 where
 pub record Keeps (op : Op) (old new : Joining) : Type 0 where
   pub lines : length new.waiting.flips.items ≡ length old.waiting.flips.items
   pub made : new.made.items ≡ old.made.items ++ Some op ∷ []
-  pub slots : (i : ℕ) → has new.waiting.live i ≡ true → Follows op old.waiting new.waiting i ⊎ Opened op (length old.made.items) new.waiting i
+  pub slots : (i : ℕ) → has new.waiting.live i ≡ true
+      → Follows op old.waiting new.waiting i ⊎ Opened op (length old.made.items) new.waiting i
 
 -- a turn that joins one on the line
 pub record IsPartner (j : Joining) (line : ℕ) (p : Partner) : Type 0 where

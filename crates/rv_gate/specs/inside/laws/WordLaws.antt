@@ -38,7 +38,9 @@ unfolding number_of word_of
 number_of-word_of zero x = omega arith
 number_of-word_of (suc n) x =
     let m = mod-pow-add x 1 n in
-    let e : cond (has x n) (2 ^ length (word_of n x)) 0 ≡ bit_at x n * 2 ^ n = ap (λ k. cond (has x n) (2 ^ k) 0) (length-word_of n x) ∙ cond-times (has x n) (2 ^ n) ∙ ap (λ b. b * 2 ^ n) (bit_value x n) in
+    let e : cond (has x n) (2 ^ length (word_of n x)) 0 ≡ bit_at x n * 2 ^ n =
+    ap (λ k. cond (has x n) (2 ^ k) 0) (length-word_of n x) ∙ cond-times (has x n) (2 ^ n)
+    ∙ ap (λ b. b * 2 ^ n) (bit_value x n) in
     let s : 1 + n ≡ suc n = omega arith in
     let m2 : x % 2 ^ suc n ≡ bit_at x n * 2 ^ n + x % 2 ^ n = ap (λ k. x % 2 ^ k) (sym s) ∙ m in
     omega (arith, e, m2, number_of-word_of n x)
@@ -64,7 +66,9 @@ has_top true n x h =
     let z : n - n ≡ 0 = omega arith in
     let p : 1 * 2 ^ n + x ≡ 2 ^ n + x = omega arith in
     eq-eqb _ 1 (ap (λ k. bit_at k n) (sym p) ∙ e ∙ ap (bit_at 1) z)
-has_top false n x h = ne_eqb _ 1 (let z : 0 + x ≡ x = omega arith in let e : bit_at (0 + x) n ≡ 0 = rw z (bit_at_above x n n h (omega arith)) in λ o. omega arith)
+has_top false n x h =
+    ne_eqb _ 1 (let z : 0 + x ≡ x = omega arith in
+    let e : bit_at (0 + x) n ≡ 0 = rw z (bit_at_above x n n h (omega arith)) in λ o. omega arith)
 
 low_of : (b : Bool) (n x i : ℕ) → i < n → bit_at (cond b (2 ^ n) 0 + x) i ≡ bit_at x i
 low_of true n x i h =
@@ -111,7 +115,8 @@ pub ones_of-word_with_small : (n s : ℕ) → s < 2 ^ n → ones_of (word_with n
 ones_of-word_with_small n s h = ones_of-word_with n s ∙ mod-eq_of_lt h
 
 -- the same word, by its lines and by its number
-pub word_with-mirrored : (n s x : ℕ) → ((i : ℕ) → i < n → bit_at s i ≡ bit_at x (n - 1 - i)) → word_with n s ≡ word_of n x
+pub word_with-mirrored : (n s x : ℕ) → ((i : ℕ) → i < n → bit_at s i ≡ bit_at x (n - 1 - i))
+    → word_with n s ≡ word_of n x
 word_with-mirrored n s x mirror =
     ext_get_or false _ _ (length-word_with n s ∙ sym (length-word_of n x))
     (λ i h.

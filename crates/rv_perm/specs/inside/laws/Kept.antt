@@ -21,17 +21,21 @@ unfolding kept
 kept-none zero = refl
 kept-none (suc most) = refl
 
-pub kept-more : (most : ℕ) (numbers : List ℕ) (n : ℕ) → cond (ltb (length numbers) most) (kept most numbers ++ min n most ∷ []) (kept most numbers) ≡ kept most (numbers ++ n ∷ [])
+pub kept-more : (most : ℕ) (numbers : List ℕ) (n : ℕ)
+    → cond (ltb (length numbers) most) (kept most numbers ++ min n most ∷ []) (kept most numbers)
+    ≡ kept most (numbers ++ n ∷ [])
 unfolding kept
 kept-more most numbers n =
     let small : ℕ → ℕ = λ n. min n most in
-    let whole : map small (numbers ++ n ∷ []) ≡ map small numbers ++ min n most ∷ [] = map-append small numbers (n ∷ []) in
+    let whole : map small (numbers ++ n ∷ []) ≡ map small numbers ++ min n most ∷ [] =
+    map-append small numbers (n ∷ []) in
     let count : length (map small numbers) ≡ length numbers = length-map numbers small in
     elim (cases_lt (length numbers) most) [
       | inl room ↦
           cond-true (ltb (length numbers) most) _ _ (lt-ltb _ _ room)
           ∙ ap (λ ns. ns ++ min n most ∷ []) (take_all most (map small numbers) (omega arith))
-          ∙ sym (ap (take most) whole ∙ take_all most (map small numbers ++ min n most ∷ []) (omega (arith, length_push (map small numbers) (min n most))))
+          ∙ sym (ap (take most) whole ∙ take_all most (map small numbers ++ min n most ∷ [])
+          (omega (arith, length_push (map small numbers) (min n most))))
       | inr full ↦
           cond-false (ltb (length numbers) most) _ _ (le-ltb _ _ full)
           ∙ sym (ap (take most) whole ∙ take-append-le most (map small numbers) (min n most ∷ []) (omega arith))
@@ -46,18 +50,21 @@ eqb_min n x most h =
       | inr past ↦ ne_eqb (min n most) x (λ e. omega arith) ∙ sym (ne_eqb n x (λ e. omega arith))
     ]
 
-preimage_of-kept : (most x : ℕ) (numbers : List ℕ) → x < most → preimage_of (map (λ n. min n most) numbers) x ≡ preimage_of numbers x
+preimage_of-kept : (most x : ℕ) (numbers : List ℕ) → x < most
+    → preimage_of (map (λ n. min n most) numbers) x ≡ preimage_of numbers x
 unfolding preimage_of
 preimage_of-kept most x [] h = refl
 preimage_of-kept most x (n ∷ numbers) h =
     ap (λ b. cond (not b) (1 + preimage_of (map (λ n. min n most) numbers) x) 0) (eqb_min n x most h)
     ∙ ap (λ k. cond (not (eqb n x)) (1 + k) 0) (preimage_of-kept most x numbers h)
 
-place_out : (count number first place : ℕ) → count ≤ number → place_fault count number first place ≡ Some (faults.OutOfRange place)
+place_out : (count number first place : ℕ) → count ≤ number
+    → place_fault count number first place ≡ Some (faults.OutOfRange place)
 unfolding place_fault
 place_out count number first place past = cond-false (ltb number count) _ _ (le-ltb _ _ past)
 
-fault_at-kept : (most p : ℕ) (numbers : List ℕ) → length numbers ≤ most → p < length numbers → fault_at (map (λ n. min n most) numbers) p ≡ fault_at numbers p
+fault_at-kept : (most p : ℕ) (numbers : List ℕ) → length numbers ≤ most → p < length numbers
+    → fault_at (map (λ n. min n most) numbers) p ≡ fault_at numbers p
 fault_at-kept most p numbers few lt =
     let small : ℕ → ℕ = λ n. min n most in
     let n : ℕ = get_or numbers p 0 in
@@ -66,7 +73,8 @@ fault_at-kept most p numbers few lt =
     elim (cases_lt n (length numbers)) [
       | inl in_range ↦
           let same : min n most ≡ n = omega arith in
-          ap (λ k. place_fault k (get_or (map small numbers) p 0) (preimage_of (map small numbers) (get_or (map small numbers) p 0)) p) count
+          ap (λ k. place_fault k (get_or (map small numbers) p 0)
+          (preimage_of (map small numbers) (get_or (map small numbers) p 0)) p) count
           ∙ ap (λ k. place_fault (length numbers) k (preimage_of (map small numbers) k) p) (at ∙ same)
           ∙ ap (λ k. place_fault (length numbers) n k p) (preimage_of-kept most n numbers (omega arith))
       | inr past ↦
@@ -74,11 +82,13 @@ fault_at-kept most p numbers few lt =
           ∙ sym (place_out (length numbers) n _ p past)
     ]
 
-fault_below-kept : (most k : ℕ) (numbers : List ℕ) → length numbers ≤ most → k ≤ length numbers → fault_below (map (λ n. min n most) numbers) k ≡ fault_below numbers k
+fault_below-kept : (most k : ℕ) (numbers : List ℕ) → length numbers ≤ most → k ≤ length numbers
+    → fault_below (map (λ n. min n most) numbers) k ≡ fault_below numbers k
 unfolding first_below
 fault_below-kept most zero numbers few h = refl
 fault_below-kept most (suc k) numbers few h =
-    ap (λ f. option_or f (fault_at (map (λ n. min n most) numbers) k)) (fault_below-kept most k numbers few (omega arith))
+    ap (λ f. option_or f (fault_at (map (λ n. min n most) numbers) k))
+    (fault_below-kept most k numbers few (omega arith))
     ∙ ap (option_or (fault_below numbers k)) (fault_at-kept most k numbers few (omega arith))
 
 place_in_range : (count number first place : ℕ) → place_fault count number first place ≡ None → number < count
@@ -100,29 +110,39 @@ in_range numbers zero p clean lt = absurd (omega arith)
 in_range numbers (suc n) p clean lt =
     let parts = neither (fault_below numbers n) (fault_at numbers n) clean in
     elim (cases_eq p n) [
-      | inl here ↦ rw here (place_in_range (length numbers) (get_or numbers n 0) (preimage_of numbers (get_or numbers n 0)) n parts.1)
+      | inl here ↦ rw here
+          (place_in_range (length numbers) (get_or numbers n 0) (preimage_of numbers (get_or numbers n 0)) n parts.1)
       | inr before ↦ in_range numbers n p parts.0 (omega arith)
     ]
 
 -- numbers in range are kept as they are
-kept-same : (most : ℕ) (numbers : List ℕ) → length numbers ≤ most → ((p : ℕ) → p < length numbers → get_or numbers p 0 < length numbers) → map (λ n. min n most) numbers ≡ numbers
+kept-same : (most : ℕ) (numbers : List ℕ) → length numbers ≤ most
+    → ((p : ℕ) → p < length numbers → get_or numbers p 0 < length numbers) → map (λ n. min n most) numbers ≡ numbers
 kept-same most numbers few in_range =
     let count : length (map (λ n. min n most) numbers) ≡ length numbers = length-map numbers (λ n. min n most) in
     ext_get_or 0 _ _ count
-    (λ p lt. let within : p < length numbers = omega arith in let small = in_range p within in get_or-map (λ n. min n most) numbers p 0 0 within ∙ omega arith)
+    (λ p lt. let within : p < length numbers = omega arith in let small = in_range p within in
+    get_or-map (λ n. min n most) numbers p 0 0 within ∙ omega arith)
 
-pub images_checked-kept : (n most : ℕ) (numbers : List ℕ) → length numbers ≤ most → images_checked n (kept most numbers) ≡ images_checked n numbers
+pub images_checked-kept : (n most : ℕ) (numbers : List ℕ) → length numbers ≤ most
+    → images_checked n (kept most numbers) ≡ images_checked n numbers
 unfolding images_checked kept
 images_checked-kept n most numbers few =
     let small : List ℕ = map (λ n. min n most) numbers in
     let count : length small ≡ length numbers = length-map numbers (λ n. min n most) in
-    ap (λ ns. unless_fault {A = Table} (record { lines = n; images = ns }) (fault_below ns (length ns))) (take_all most small (omega arith))
+    ap (λ ns. unless_fault {A = Table} (record { lines = n; images = ns }) (fault_below ns (length ns)))
+    (take_all most small (omega arith))
     ∙ ap (λ k. unless_fault {A = Table} (record { lines = n; images = small }) (fault_below small k)) count
-    ∙ ap (unless_fault {A = Table} (record { lines = n; images = small })) (fault_below-kept most (length numbers) numbers few (omega arith))
+    ∙ ap (unless_fault {A = Table} (record { lines = n; images = small }))
+    (fault_below-kept most (length numbers) numbers few (omega arith))
     ∙ (by_fault (fault_below numbers (length numbers)) refl)
   where
-    by_fault : (f : Option PermFault) → fault_below numbers (length numbers) ≡ f → unless_fault {A = Table} (record { lines = n; images = map (λ n. min n most) numbers }) f ≡ unless_fault {A = Table} (record { lines = n; images = numbers }) f
-    by_fault None clean = ap (λ ns. Ok (record { lines = n; images = ns })) (kept-same most numbers few (λ p lt. in_range numbers (length numbers) p clean lt))
+    by_fault : (f : Option PermFault) → fault_below numbers (length numbers) ≡ f
+        → unless_fault {A = Table} (record { lines = n; images = map (λ n. min n most) numbers }) f
+        ≡ unless_fault {A = Table} (record { lines = n; images = numbers }) f
+    by_fault None clean =
+        ap (λ ns. Ok (record { lines = n; images = ns }))
+        (kept-same most numbers few (λ p lt. in_range numbers (length numbers) p clean lt))
     by_fault (Some fault) _ = refl
 
 -- ---- how many numbers a permutation has
@@ -133,7 +153,9 @@ lines_up_to-few zero count n is = absurd cc
 lines_up_to-few (suc most) count n is =
     elim (cases_Bool (eqb (2 ^ suc most) count)) [
       | inl all ↦ let e = eqb-true _ _ all in omega arith
-      | inr other ↦ let few = lines_up_to-few most count n (sym (cond-false (eqb (2 ^ suc most) count) _ _ other) ∙ is) in omega (arith, pow-suc 2 most)
+      | inr other ↦ let few =
+          lines_up_to-few most count n (sym (cond-false (eqb (2 ^ suc most) count) _ _ other) ∙ is) in
+          omega (arith, pow-suc 2 most)
     ]
 
 pub lines_for-few : (count n : ℕ) → lines_for count ≡ Some n → count ≤ MOST_NUMBERS

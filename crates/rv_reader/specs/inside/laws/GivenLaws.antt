@@ -23,11 +23,13 @@ first_given-more value_on (first ∷ lines) line =
     ∙ option_or-after (value_on first) (first_given value_on lines) (value_on line)
 
 -- a name is not another one
-pub not_both : (bytes name other : List ℕ) → bytes_eq name other ≡ false → bytes_eq bytes name ≡ true → bytes_eq bytes other ≡ false
+pub not_both : (bytes name other : List ℕ) → bytes_eq name other ≡ false → bytes_eq bytes name ≡ true
+    → bytes_eq bytes other ≡ false
 not_both bytes name other apart is = ap (λ b. bytes_eq b other) ((bytes_eq-Decides bytes name).0 is) ∙ apart
 
 -- a word without a dot is no directive
-pub no_directive : (bytes name : List ℕ) → begins_with_dot name ≡ true → begins_with_dot bytes ≡ false → bytes_eq bytes name ≡ false
+pub no_directive : (bytes name : List ℕ) → begins_with_dot name ≡ true → begins_with_dot bytes ≡ false
+    → bytes_eq bytes name ≡ false
 no_directive bytes name dot none = elim (cases_Bool (bytes_eq bytes name)) [
   | inl is ↦ absurd (true≢false (sym dot ∙ ap begins_with_dot (sym ((bytes_eq-Decides bytes name).0 is)) ∙ none))
   | inr other ↦ other

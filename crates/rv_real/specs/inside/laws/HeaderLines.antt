@@ -24,7 +24,8 @@ step_of (Some fault) x = Err fault
 
 -- ---- the directives after lines of a header
 
-header_same : (h k : Header) → h.numvars ≡ k.numvars → h.names ≡ k.names → h.input_labels ≡ k.input_labels → h.output_labels ≡ k.output_labels → h.constants ≡ k.constants → h.garbage ≡ k.garbage → h ≡ k
+header_same : (h k : Header) → h.numvars ≡ k.numvars → h.names ≡ k.names → h.input_labels ≡ k.input_labels
+    → h.output_labels ≡ k.output_labels → h.constants ≡ k.constants → h.garbage ≡ k.garbage → h ≡ k
 header_same h k a b c d e f =
     ap (λ x. record h { numvars = x }) a
     ∙ ap (λ x. record h { numvars = k.numvars; names = x }) b
@@ -49,14 +50,21 @@ abbrev pub given_after : List (List Lexeme) → List Lexeme → Header
 given_after before line =
     record {
       numvars = option_or (numvars_in before) (on_directive (codes ".numvars") (λ ws. result_ok (line_count ws)) line);
-      names = option_or (names_in before) (on_directive (codes ".variables") (λ ws. result_ok (variable_names ws)) line);
-      input_labels = option_or (input_labels_in before) (on_directive (codes ".inputs") (λ ws. result_ok (labels_of ws)) line);
-      output_labels = option_or (output_labels_in before) (on_directive (codes ".outputs") (λ ws. result_ok (labels_of ws)) line);
-      constants = option_or (constants_in before) (on_directive (codes ".constants") (λ ws. marks_of constant_of (joined ws)) line);
-      garbage = option_or (garbage_in before) (on_directive (codes ".garbage") (λ ws. marks_of garbage_of (joined ws)) line);
+      names =
+          option_or (names_in before) (on_directive (codes ".variables") (λ ws. result_ok (variable_names ws)) line);
+      input_labels =
+          option_or (input_labels_in before) (on_directive (codes ".inputs") (λ ws. result_ok (labels_of ws)) line);
+      output_labels =
+          option_or (output_labels_in before) (on_directive (codes ".outputs") (λ ws. result_ok (labels_of ws)) line);
+      constants =
+          option_or (constants_in before)
+          (on_directive (codes ".constants") (λ ws. marks_of constant_of (joined ws)) line);
+      garbage =
+          option_or (garbage_in before) (on_directive (codes ".garbage") (λ ws. marks_of garbage_of (joined ws)) line);
     }
 
-pub given_more : (before : List (List Lexeme)) (line : List Lexeme) → given_in (before ++ line ∷ []) ≡ given_after before line
+pub given_more : (before : List (List Lexeme)) (line : List Lexeme)
+    → given_in (before ++ line ∷ []) ≡ given_after before line
 given_more before line =
     header_same (given_in (before ++ line ∷ [])) (given_after before line)
     (first_given-more (on_directive (codes ".numvars") (λ ws. result_ok (line_count ws))) before line)
@@ -70,20 +78,24 @@ given_more before line =
 
 once_step : {A : Type 0} (given : Option A) (r : Result A ℕ) (put : Option A → Header)
     → broken (is_some given) code.DIRECTIVE_OUT_OF_PLACE (r >>= λ x. Ok (put (Some x)))
-    ≡ step_of (cond (is_some given) (Some code.DIRECTIVE_OUT_OF_PLACE) (result_err r)) (put (option_or given (result_ok r)))
+    ≡ step_of (cond (is_some given) (Some code.DIRECTIVE_OUT_OF_PLACE) (result_err r))
+    (put (option_or given (result_ok r)))
 once_step (Some x) r put = refl
 once_step None (Ok x) put = refl
 once_step None (Err fault) put = refl
 
-entries_step : {A : Type 0} (numvars : Option ℕ) (given value : Option A) (fault : ℕ → Option ℕ) (rules : ℕ → Result Header ℕ) (put : Option A → Header)
+entries_step : {A : Type 0} (numvars : Option ℕ) (given value : Option A) (fault : ℕ → Option ℕ)
+    (rules : ℕ → Result Header ℕ) (put : Option A → Header)
     → ((lines : ℕ) → rules lines ≡ step_of (fault lines) (put value))
-    → (lines_declared numvars (is_some given) >>= rules) ≡ step_of (entries_fault numvars given fault) (put (option_or given value))
+    → (lines_declared numvars (is_some given) >>= rules)
+    ≡ step_of (entries_fault numvars given fault) (put (option_or given value))
 entries_step None given value fault rules put each = refl
 entries_step (Some lines) (Some x) value fault rules put each = refl
 entries_step (Some lines) None value fault rules put each = each lines
 
 each_step : {A : Type 0} (fits : Bool) (r : Result A ℕ) (put : Option A → Header)
-    → (broken (not fits) code.WRONG_LABEL_COUNT r >>= λ x. Ok (put (Some x))) ≡ step_of (cond fits (result_err r) (Some code.WRONG_LABEL_COUNT)) (put (result_ok r))
+    → (broken (not fits) code.WRONG_LABEL_COUNT r >>= λ x. Ok (put (Some x)))
+    ≡ step_of (cond fits (result_err r) (Some code.WRONG_LABEL_COUNT)) (put (result_ok r))
 each_step true (Ok x) put = refl
 each_step true (Err fault) put = refl
 each_step false r put = refl
@@ -104,8 +116,10 @@ by_name bytes name P here other = elim (cases_Bool (bytes_eq bytes name)) [
 
 -- the names that are refused
 refused_step : (refused is_end dot : Bool) (next : Header)
-    → cond refused (Err code.NOT_SUPPORTED) (cond is_end (Err code.DIRECTIVE_OUT_OF_PLACE) (cond dot (Err code.UNKNOWN_DIRECTIVE) (Err code.MISSING_DIRECTIVE)))
-    ≡ step_of (cond refused (Some code.NOT_SUPPORTED) (cond is_end (Some code.DIRECTIVE_OUT_OF_PLACE) (cond dot (Some code.UNKNOWN_DIRECTIVE) (Some code.MISSING_DIRECTIVE)))) next
+    → cond refused (Err code.NOT_SUPPORTED) (cond is_end (Err code.DIRECTIVE_OUT_OF_PLACE)
+    (cond dot (Err code.UNKNOWN_DIRECTIVE) (Err code.MISSING_DIRECTIVE)))
+    ≡ step_of (cond refused (Some code.NOT_SUPPORTED) (cond is_end (Some code.DIRECTIVE_OUT_OF_PLACE)
+    (cond dot (Some code.UNKNOWN_DIRECTIVE) (Some code.MISSING_DIRECTIVE)))) next
 refused_step true is_end dot next = refl
 refused_step false true dot next = refl
 refused_step false false true next = refl
@@ -116,7 +130,9 @@ module _ (before : List (List Lexeme)) (closed : Bool) (ws : List Lexeme) where
   line_with name = record { bytes = name; quoted = false; closed = closed } ∷ ws
 
   abbrev IsStep : List ℕ → Type 0
-  IsStep name = named_directive (given_in before) name ws ≡ step_of (named_fault before name ws) (given_after before (line_with name))
+  IsStep name =
+      named_directive (given_in before) name ws
+      ≡ step_of (named_fault before name ws) (given_after before (line_with name))
 
   -- the directives that a line doesn't give stay
   numvars_same : numvars_in before ≡ option_or (numvars_in before) None
@@ -138,7 +154,9 @@ module _ (before : List (List Lexeme)) (closed : Bool) (ws : List Lexeme) where
   garbage_same = sym (option_or-none (garbage_in before))
 
   pub given_same : given_in before ≡ given_after before []
-  given_same = header_same (given_in before) (given_after before []) numvars_same names_same inputs_same outputs_same constants_same garbage_same
+  given_same =
+      header_same (given_in before)
+      (given_after before []) numvars_same names_same inputs_same outputs_same constants_same garbage_same
 
   version_step : IsStep (codes ".version")
   unfolding named_directive named_fault
@@ -159,55 +177,74 @@ module _ (before : List (List Lexeme)) (closed : Bool) (ws : List Lexeme) where
   numvars_step : IsStep (codes ".numvars")
   unfolding named_directive named_fault numvars_of
   numvars_step =
-      let next : Header = record (given_in before) { numvars = option_or (numvars_in before) (result_ok (line_count ws)) } in
+      let next : Header =
+      record (given_in before) { numvars = option_or (numvars_in before) (result_ok (line_count ws)) } in
       once_step (numvars_in before) (line_count ws) (λ x. record (given_in before) { numvars = x })
       ∙ ap (step_of (numvars_fault (numvars_in before) ws))
-      (header_same next (given_after before (line_with (codes ".numvars"))) refl names_same inputs_same outputs_same constants_same garbage_same)
+      (header_same next (given_after before (line_with (codes ".numvars"))) refl names_same inputs_same outputs_same
+      constants_same garbage_same)
 
   variables_step : IsStep (codes ".variables")
   unfolding named_directive named_fault variables_of
   variables_step =
-      let next : Header = record (given_in before) { names = option_or (names_in before) (result_ok (variable_names ws)) } in
-      entries_step (numvars_in before) (names_in before) (result_ok (variable_names ws)) (each_fault (variable_names ws) ws) _ (λ x. record (given_in before) { names = x })
+      let next : Header =
+      record (given_in before) { names = option_or (names_in before) (result_ok (variable_names ws)) } in
+      entries_step (numvars_in before) (names_in before) (result_ok (variable_names ws))
+      (each_fault (variable_names ws) ws) _ (λ x. record (given_in before) { names = x })
       (λ lines. each_step (eqb (length ws) lines) (variable_names ws) (λ x. record (given_in before) { names = x }))
       ∙ ap (step_of (entries_fault (numvars_in before) (names_in before) (each_fault (variable_names ws) ws)))
-      (header_same next (given_after before (line_with (codes ".variables"))) numvars_same refl inputs_same outputs_same constants_same garbage_same)
+      (header_same next (given_after before (line_with (codes ".variables"))) numvars_same refl inputs_same outputs_same
+      constants_same garbage_same)
 
   inputs_step : IsStep (codes ".inputs")
   unfolding named_directive named_fault inputs_of
   inputs_step =
-      let next : Header = record (given_in before) { input_labels = option_or (input_labels_in before) (result_ok (labels_of ws)) } in
-      entries_step (numvars_in before) (input_labels_in before) (result_ok (labels_of ws)) (each_fault (labels_of ws) ws) _ (λ x. record (given_in before) { input_labels = x })
+      let next : Header =
+      record (given_in before) { input_labels = option_or (input_labels_in before) (result_ok (labels_of ws)) } in
+      entries_step (numvars_in before) (input_labels_in before) (result_ok (labels_of ws))
+      (each_fault (labels_of ws) ws) _ (λ x. record (given_in before) { input_labels = x })
       (λ lines. each_step (eqb (length ws) lines) (labels_of ws) (λ x. record (given_in before) { input_labels = x }))
       ∙ ap (step_of (entries_fault (numvars_in before) (input_labels_in before) (each_fault (labels_of ws) ws)))
-      (header_same next (given_after before (line_with (codes ".inputs"))) numvars_same names_same refl outputs_same constants_same garbage_same)
+      (header_same next (given_after before (line_with (codes ".inputs"))) numvars_same names_same refl outputs_same
+      constants_same garbage_same)
 
   outputs_step : IsStep (codes ".outputs")
   unfolding named_directive named_fault outputs_of
   outputs_step =
-      let next : Header = record (given_in before) { output_labels = option_or (output_labels_in before) (result_ok (labels_of ws)) } in
-      entries_step (numvars_in before) (output_labels_in before) (result_ok (labels_of ws)) (each_fault (labels_of ws) ws) _ (λ x. record (given_in before) { output_labels = x })
+      let next : Header =
+      record (given_in before) { output_labels = option_or (output_labels_in before) (result_ok (labels_of ws)) } in
+      entries_step (numvars_in before) (output_labels_in before) (result_ok (labels_of ws))
+      (each_fault (labels_of ws) ws) _ (λ x. record (given_in before) { output_labels = x })
       (λ lines. each_step (eqb (length ws) lines) (labels_of ws) (λ x. record (given_in before) { output_labels = x }))
       ∙ ap (step_of (entries_fault (numvars_in before) (output_labels_in before) (each_fault (labels_of ws) ws)))
-      (header_same next (given_after before (line_with (codes ".outputs"))) numvars_same names_same inputs_same refl constants_same garbage_same)
+      (header_same next (given_after before (line_with (codes ".outputs"))) numvars_same names_same inputs_same refl
+      constants_same garbage_same)
 
   constants_step : IsStep (codes ".constants")
   unfolding named_directive named_fault constants_of
   constants_step =
-      let next : Header = record (given_in before) { constants = option_or (constants_in before) (marks_of constant_of (joined ws)) } in
-      entries_step (numvars_in before) (constants_in before) (marks_of constant_of (joined ws)) (row_fault constant_of ws) _ (λ x. record (given_in before) { constants = x })
-      (λ lines. row_step (eqb (length (joined ws)) lines) (marks_of constant_of (joined ws)) (λ x. record (given_in before) { constants = x }))
+      let next : Header =
+      record (given_in before) { constants = option_or (constants_in before) (marks_of constant_of (joined ws)) } in
+      entries_step (numvars_in before) (constants_in before) (marks_of constant_of (joined ws))
+      (row_fault constant_of ws) _ (λ x. record (given_in before) { constants = x })
+      (λ lines. row_step (eqb (length (joined ws)) lines) (marks_of constant_of (joined ws))
+      (λ x. record (given_in before) { constants = x }))
       ∙ ap (step_of (entries_fault (numvars_in before) (constants_in before) (row_fault constant_of ws)))
-      (header_same next (given_after before (line_with (codes ".constants"))) numvars_same names_same inputs_same outputs_same refl garbage_same)
+      (header_same next (given_after before (line_with (codes ".constants"))) numvars_same names_same inputs_same
+      outputs_same refl garbage_same)
 
   garbage_step : IsStep (codes ".garbage")
   unfolding named_directive named_fault garbage_row_of
   garbage_step =
-      let next : Header = record (given_in before) { garbage = option_or (garbage_in before) (marks_of garbage_of (joined ws)) } in
-      entries_step (numvars_in before) (garbage_in before) (marks_of garbage_of (joined ws)) (row_fault garbage_of ws) _ (λ x. record (given_in before) { garbage = x })
-      (λ lines. row_step (eqb (length (joined ws)) lines) (marks_of garbage_of (joined ws)) (λ x. record (given_in before) { garbage = x }))
+      let next : Header =
+      record (given_in before) { garbage = option_or (garbage_in before) (marks_of garbage_of (joined ws)) } in
+      entries_step (numvars_in before) (garbage_in before) (marks_of garbage_of (joined ws)) (row_fault garbage_of ws) _
+      (λ x. record (given_in before) { garbage = x })
+      (λ lines. row_step (eqb (length (joined ws)) lines) (marks_of garbage_of (joined ws))
+      (λ x. record (given_in before) { garbage = x }))
       ∙ ap (step_of (entries_fault (numvars_in before) (garbage_in before) (row_fault garbage_of ws)))
-      (header_same next (given_after before (line_with (codes ".garbage"))) numvars_same names_same inputs_same outputs_same constants_same refl)
+      (header_same next (given_after before (line_with (codes ".garbage"))) numvars_same names_same inputs_same
+      outputs_same constants_same refl)
 
   named_step : (name : List ℕ) → IsStep name
   unfolding named_directive named_fault
@@ -228,14 +265,18 @@ module _ (before : List (List Lexeme)) (closed : Bool) (ws : List Lexeme) where
 -- a line of the header but `.begin`
 pub directive_step : (before : List (List Lexeme)) (bytes : List ℕ) (quoted closed : Bool) (ws : List Lexeme) →
     directive_of (given_in before) (record { bytes = bytes; quoted = quoted; closed = closed }) ws
-    ≡ step_of (cond quoted (Some code.MISSING_DIRECTIVE) (named_fault before bytes ws)) (given_after before (record { bytes = bytes; quoted = quoted; closed = closed } ∷ ws))
+    ≡ step_of (cond quoted (Some code.MISSING_DIRECTIVE) (named_fault before bytes ws))
+    (given_after before (record { bytes = bytes; quoted = quoted; closed = closed } ∷ ws))
 directive_step before bytes true closed ws = refl
 directive_step before bytes false closed ws = named_step before closed ws bytes
 
-pub begin_step : (before : List (List Lexeme)) → (begin_of (given_in before) >>= λ c. Ok (in_body c)) ≡ step_of (begin_fault before) (in_body (circuit_given before []))
+pub begin_step : (before : List (List Lexeme))
+    → (begin_of (given_in before) >>= λ c. Ok (in_body c))
+    ≡ step_of (begin_fault before) (in_body (circuit_given before []))
 unfolding begin_of
 begin_step before = elim (is_some (numvars_in before) && is_some (names_in before)) as (λ t.
-    (broken (not t) code.MISSING_DIRECTIVE (Ok (circuit_given before [])) >>= λ c. Ok (in_body c)) ≡ step_of (cond t None (Some code.MISSING_DIRECTIVE)) (in_body (circuit_given before []))) [
+    (broken (not t) code.MISSING_DIRECTIVE (Ok (circuit_given before [])) >>= λ c. Ok (in_body c))
+    ≡ step_of (cond t None (Some code.MISSING_DIRECTIVE)) (in_body (circuit_given before []))) [
       | true ↦ refl
       | false ↦ refl
     ]
