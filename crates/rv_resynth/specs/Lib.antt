@@ -1,4 +1,3 @@
 pub mod Same
-pub mod Measure
 pub mod Resynthesis
 pub mod inside

@@ -4,9 +4,9 @@ use Rattle.rv_gate.specs.Circuit.{Cascade}
 use Rattle.rv_gate.specs.Marks.{input_count}
 use Rattle.rv_gate.specs.declared.circuit.TheConstants.{MOST_GATES}
 use Rattle.rv_compare.specs.Compare.{AreSame}
-use Rattle.rv_resynth.specs.Measure.{measure}
+use Rattle.rv_search.specs.Measure.{measure}
+use Rattle.rv_search.specs.declared.goal.Goal.{Goal}
 use Rattle.rv_resynth.specs.Same.{Same}
-use Rattle.rv_resynth.specs.declared.goal.Goal.{Goal}
 
 -- the lines have the names, labels and marks that they had
 pub record KeepsLines (old new : Cascade) : Type 0 where

@@ -1,8 +1,9 @@
 -- Lists of gates that do the same.
-use Rattle.std.specs.Prelude.{◌≡◌, ◌≢◌, ℕ, Bool, List, [], ◌∷◌, length, bit_or}
+use Rattle.std.specs.Prelude.{◌≡◌, ◌≢◌, ℕ, Bool, List, length, bit_or}
 use Rattle.rv_gate.specs.declared.gate.Shape.{Shape}
-use Rattle.rv_gate.specs.Gate.{run, touched, AllFit}
+use Rattle.rv_gate.specs.Gate.{run, AllFit}
 use Rattle.rv_mct.specs.Blocks.{count_lines}
+use Rattle.rv_search.specs.Lines.{span}
 
 -- the same on every word of n bits
 abbrev pub Same : ℕ → List Shape → List Shape → Type 0
@@ -16,11 +17,6 @@ Interchangeable left right = (n : ℕ) → AllFit n left → AllFit n right → 
 abbrev pub Differ : List Shape → List Shape → Type 0
 Differ left right =
     (word : List Bool) × AllFit (length word) left × AllFit (length word) right × (run left word ≢ run right word)
-
--- the lines that some of the gates touch
-unfoldable pub span : List Shape → ℕ
-span [] = 0
-span (g ∷ rest) = bit_or (touched g) (span rest)
 
 -- how many lines the gates of both lists touch
 abbrev pub width : List Shape → List Shape → ℕ

@@ -8,9 +8,10 @@ ghost use Rattle.rv_resynth.specs.declared.lines.TheConstants.{MOST_WINDOW_LINES
 ghost use Rattle.rv_resynth.specs.inside.Lines.{AgreesAt, Covers, number_on};
 
 use crate::block::{put_in, same_rows};
-use crate::lines::{MOST_WINDOW_LINES, block_count, list_lines, span};
+use crate::lines::{MOST_WINDOW_LINES, block_count};
 use rv_gate::{Gate, MOST_LINES};
 use rv_many::{Row, run_many};
+use rv_search::{list_lines, span};
 
 // Whether both lists make the same of each word of a block.
 fn agree_in(old: &[Gate], new: &[Gate], lines: &[u8], block: u32) -> bool

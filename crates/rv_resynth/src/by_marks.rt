@@ -5,12 +5,12 @@ ghost use Rattle.rv_resynth.specs.Resynthesis.{IsResynthesisByMarks};
 ghost use Rattle.rv_resynth.specs.inside.Windows.{AreGates};
 ghost use Rattle.rv_resynth.specs.declared.by_marks.MarksFault.TheVariants.{Mem};
 
-use crate::Goal;
 use crate::marked_search::found_by_marks;
 use crate::replacing::all_fit;
 use crate::resynthesis::{frame_of, is_no_dearer, with_gates};
 use rv_compare::{Comparison, MOST_INPUTS, compare_circuits, input_count};
 use rv_gate::{Circuit, Gate, MOST_GATES};
+use rv_search::Goal;
 use std::alloc::{AllocError, Global};
 use thiserror::Error;
 

@@ -7,35 +7,19 @@
 #![tactic(auto)]
 
 mod agreement;
-mod beam;
 mod block;
 mod by_marks;
-mod choices;
-mod common;
-mod completion;
 mod dropped;
-mod find;
-mod goal;
 mod lines;
-mod lower;
-mod marked;
 mod marked_search;
-mod measure;
-mod prices;
-mod pruned;
-mod random;
 mod replacing;
 mod resynthesis;
-mod scale;
-mod space;
-mod table;
-mod thin;
 mod tries;
 mod whole;
 mod window;
 
 pub use agreement::agree;
 pub use by_marks::{MarksFault, resynth_by_marks};
-pub use goal::Goal;
 pub use lines::MOST_WINDOW_LINES;
 pub use resynthesis::resynth;
+pub use rv_search::Goal;

@@ -1,15 +1,12 @@
 ghost use Rattle.std.specs.Prelude.{◌≡◌, ◌≤◌, [], length, IfOk, IfSome, IsTrue};
 ghost use Rattle.rv_gate.specs.declared.circuit.TheConstants.{MOST_GATES};
-ghost use Rattle.rv_resynth.specs.Measure.{measure};
+ghost use Rattle.rv_search.specs.Measure.{measure};
 ghost use Rattle.rv_resynth.specs.Resynthesis.{IsResynthesis};
 ghost use Rattle.rv_resynth.specs.inside.Windows.{AreGates, Replaces};
 
-use crate::Goal;
-use crate::measure::{lines_with, measure};
-use crate::prices::Prices;
-use crate::random::Random;
 use crate::whole::searched;
 use rv_gate::{Circuit, Gate};
+use rv_search::{Goal, Prices, Random, lines_with, measure};
 use std::alloc::{AllocError, Global};
 
 // Whether other gates count no more than those of a circuit.

@@ -2,16 +2,10 @@ ghost use Rattle.std.specs.Prelude.{◌≡◌, ℕ, ◌+◌, ◌<◌, ◌≤◌,
 ghost use Rattle.rv_gate.specs.declared.circuit.TheConstants.{MOST_GATES};
 ghost use Rattle.rv_resynth.specs.inside.Windows.{AreGates, Replaces, Splits};
 
-use crate::beam::Plan;
-use crate::common::{Common, common_of};
-use crate::find::find;
-use crate::prices::Prices;
-use crate::random::Random;
 use crate::replacing::{can_replace, have_room, replace};
-use crate::scale::SCALES;
-use crate::thin::thinned;
 use crate::window::{Choice, Window, collect};
 use rv_gate::{Gate, MOST_GATES};
+use rv_search::{Common, Plan, Prices, Random, SCALES, common_of, find, thinned};
 use std::alloc::{AllocError, Global};
 
 // What a window costs, at most, unless its first gate is dear.

@@ -5,10 +5,8 @@ ghost use Rattle.rv_gate.specs.Commuting.{Commutes};
 ghost use Rattle.rv_gate.specs.Gate.{FitsIn};
 ghost use Rattle.rv_resynth.specs.inside.Windows.{AreGates, Splits};
 
-use crate::common::Common;
-use crate::prices::Prices;
-use crate::random::Random;
 use rv_gate::{Gate, LineSet};
+use rv_search::{Common, Prices, Random};
 use std::alloc::{AllocError, Global};
 
 // So many gates are looked at, at most.

@@ -6,7 +6,7 @@ use Rattle.rv_compare.specs.declared.comparison.TheConstants.{MOST_INPUTS}
 use Rattle.rv_real.specs.Text.{text_of}
 use Rattle.rv_real.proofs.inside.ReadBack.{read_back}
 use Rattle.rv_resynth.specs.Resynthesis.{IsResynthesis, IsResynthesisByMarks}
-use Rattle.rv_resynth.specs.declared.goal.Goal.{Goal}
+use Rattle.rv_search.specs.declared.goal.Goal.{Goal}
 use Rattle.rv_cmd.specs.declared.product.Product.TheVariants as product
 use Rattle.rv_cmd.specs.Commands.Resynth.{IsResynthReport, resynth_limits}
 use Rattle.rv_cmd.specs.Limits.{found_within}

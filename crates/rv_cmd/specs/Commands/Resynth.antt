@@ -2,8 +2,8 @@
 use Rattle.std.specs.Prelude.{◌≡◌, ℕ, Bool, true, false, List, [], ◌∷◌, Option, Some, None, Ok}
 use Rattle.rv_gate.specs.Circuit.{Cascade}
 use Rattle.rv_resynth.specs.Resynthesis.{IsResynthesis, IsResynthesisByMarks}
-use Rattle.rv_resynth.specs.declared.goal.Goal.{Goal}
-use Rattle.rv_resynth.specs.declared.goal.Goal.TheVariants.{Gates, Quantum, T}
+use Rattle.rv_search.specs.declared.goal.Goal.{Goal}
+use Rattle.rv_search.specs.declared.goal.Goal.TheVariants.{Gates, Quantum, T}
 use Rattle.rv_words.specs.declared.command.Goal.TheVariants as wish
 use Rattle.rv_words.specs.declared.command.Goal as wishes
 use Rattle.rv_real.specs.Reading.{real_of}

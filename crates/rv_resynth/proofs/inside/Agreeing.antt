@@ -1,19 +1,16 @@
 -- What it means that both lists of gates were seen to make the same on all words of their lines.
-use Rattle.std.proofs.Common.{◌≡◌, ℕ, ◌+◌, ◌^◌, ◌<◌, ◌≤◌, List, [], ◌∷◌, ◌++◌, length, take, get_or, refl, ap, sym, ◌∙◌, arith, true, false, cond, add-one}
+use Rattle.std.proofs.Common.{◌≡◌, ℕ, ◌^◌, ◌<◌, ◌≤◌, List, [], ◌∷◌, length, ◌∙◌, arith}
 use Rattle.std.specs.Prelude.{All, bit_or}
-use Rattle.std.proofs.lemmas.Bool.{or_left, or_right, cond-true, cond-false}
-use Rattle.rv_mct.specs.Blocks.{count}
-use Rattle.rv_mct.proofs.Rising.{count-suc}
-use Rattle.std.proofs.lemmas.Nat.{or_comm}
-use Rattle.std.proofs.lemmas.List.{take_more}
+use Rattle.std.proofs.lemmas.Bool.{or_left, or_right}
 use Rattle.std.proofs.lemmas.List.Elements.{All-nil, All-cons, All-weaker, All-contains}
 use Rattle.rv_gate.specs.declared.gate.Shape.{Shape}
 use Rattle.rv_gate.specs.Word.{has, bit_of}
 use Rattle.rv_gate.specs.Gate.{touched}
 use Rattle.rv_gate.proofs.inside.GateLemmas.{has-touched}
-use Rattle.rv_gate.proofs.LineSets.{has-or, Within-below, bit_or-assoc}
-use Rattle.rv_resynth.specs.Same.{Interchangeable, span}
-use Rattle.rv_resynth.specs.inside.Lines.{AgreesAt, Covers, ListsTo}
+use Rattle.rv_gate.proofs.LineSets.{has-or, Within-below}
+use Rattle.rv_search.specs.Lines.{ListsTo, span}
+use Rattle.rv_resynth.specs.Same.{Interchangeable}
+use Rattle.rv_resynth.specs.inside.Lines.{AgreesAt, Covers}
 use Rattle.rv_resynth.proofs.inside.Frame.{AlikeIn, same_by_lines, fit_by_set}
 use Rattle.rv_resynth.proofs.inside.Blocks.{AgreeTo, number_small}
 
@@ -29,43 +26,12 @@ covers_right set more gates h =
 
 -- ---- the lines of a list
 
-or_zero : (x : ℕ) → bit_or x 0 ≡ bit_or 0 x
-or_zero x = or_comm x 0
-
-span_push : (gates : List Shape) (g : Shape) → span (gates ++ g ∷ []) ≡ bit_or (span gates) (touched g)
-unfolding span
-span_push [] g = or_zero (touched g)
-span_push (h ∷ rest) g = ap (bit_or (touched h)) (span_push rest g) ∙ bit_or-assoc (touched h) (span rest) (touched g)
-
-pub span_none : (gates : List Shape) → 0 ≡ span (take 0 gates)
-unfolding span
-span_none gates = refl
-
--- one gate more, and its lines
-pub span_more : (gates : List Shape) (k : ℕ) (g : Shape) (set more : ℕ) → k < length gates → g ≡ get_or gates k g
-    → more ≡ touched g
-    → set ≡ span (take k gates) → bit_or set more ≡ span (take (k + 1) gates)
-span_more gates k g set more lt at is so_far =
-    rw (so_far, is) (sym (span_push (take k gates) g) ∙ ap (λ h. span (take k gates ++ h ∷ [])) at ∙ ap span (sym
-    (take_more gates k g lt)))
-
 pub covers_span : (gates : List Shape) → All (Covers (span gates)) gates
 unfolding span
 covers_span [] = All-nil (Covers 0)
 covers_span (g ∷ rest) =
     All-cons (Covers (bit_or (touched g) (span rest))) g rest (λ line on. has-or (touched g) (span rest) line
     ∙ or_left _ _ (has-touched g line ∙ on)) (covers_right (touched g) (span rest) rest (covers_span rest))
-
--- how many lines of a set are below one
-pub count_on : (set line n : ℕ) → has set line ≡ true → n ≡ count (has set) line → n + 1 ≡ count (has set) (line + 1)
-count_on set line n on is =
-    let one : cond {A = ℕ} (has set line) 1 0 ≡ 1 = cond-true (has set line) 1 0 on in
-    omega (arith, ap (count (has set)) (add-one line), count-suc (has set) line)
-
-pub count_off : (set line n : ℕ) → has set line ≡ false → n ≡ count (has set) line → n ≡ count (has set) (line + 1)
-count_off set line n off is =
-    let none : cond {A = ℕ} (has set line) 1 0 ≡ 0 = cond-false (has set line) 1 0 off in
-    omega (arith, ap (count (has set)) (add-one line), count-suc (has set) line)
 
 -- ---- what was seen
 

@@ -2,7 +2,7 @@
 use Rattle.std.proofs.Common.{◌≡◌, ℕ, ◌+◌, ◌-◌, ◌*◌, ◌/◌, ◌%◌, ◌^◌, ◌<◌, ◌≤◌, Bool, false, List, [], ◌∷◌, ◌++◌, length, map, take, get_or, set, sym, ◌∙◌, ap, inl, inr, arith, ext_get_or, get_or-set_same, get_or-set_other, true≢false, zero, suc, ◌≢◌, ◌&&◌}
 use Rattle.std.proofs.lemmas.Bool.{cases_eq, cases_lt, cases_Bool}
 use Rattle.std.proofs.lemmas.List.{get_or-map, length-map}
-use Rattle.std.proofs.lemmas.List.Elements.{All-nil, All-push, All-more, All-weaker, Contains-append_left, Contains-push}
+use Rattle.std.proofs.lemmas.List.Elements.{All-more, All-weaker}
 use Rattle.rv_gate.proofs.AllBelow.{all_below-at}
 use Rattle.rv_gate.proofs.inside.Ones.{has-ones_of, ones_of-lt}
 use Rattle.rv_gate.specs.Gate.{all_below, same}
@@ -12,35 +12,8 @@ use Rattle.rv_gate.specs.declared.gate.Shape.{Shape}
 use Rattle.rv_many.specs.Column.{column, row_bit}
 use Rattle.rv_many.specs.declared.row.Row.{Row}
 use Rattle.rv_many.proofs.Columns.{bit_of-column, blank, column-set, length-column}
-use Rattle.rv_resynth.specs.inside.Lines.{AgreesAt, AlikeOn, ListsTo, number_on}
+use Rattle.rv_resynth.specs.inside.Lines.{AgreesAt, AlikeOn, number_on}
 use Rattle.rv_gate.proofs.Bits.{same_true, same_from}
-
--- ---- lines in a list
-
-pub lists_none : (set : ℕ) (lines : List ℕ) → ListsTo set 0 (take 0 lines)
-lists_none set lines = record { each = λ line lt on. absurd (omega arith); below = All-nil (λ line. line < 64) }
-
-pub lists_more : (set end : ℕ) (lines : List ℕ) → end < 64 → ListsTo set end lines
-    → ListsTo set (end + 1) (lines ++ end ∷ [])
-lists_more set end lines lt h = record {
-  each = λ line below on.
-      elim (cases_eq line end) [
-        | inl e ↦ rw e (Contains-push lines end)
-        | inr ne ↦ Contains-append_left lines (end ∷ []) line (h.each line (omega arith) on)
-      ];
-  below = All-push (λ line. line < 64) lines end h.below lt;
-}
-
-pub lists_same : (set end : ℕ) (lines : List ℕ) → has set end ≡ false → ListsTo set end lines
-    → ListsTo set (end + 1) lines
-lists_same set end lines off h = record {
-  each = λ line below on.
-      elim (cases_eq line end) [
-        | inl e ↦ absurd (true≢false (sym on ∙ ap (has set) e ∙ off))
-        | inr ne ↦ h.each line (omega arith) on
-      ];
-  below = h.below;
-}
 
 -- ---- words put in, line by line
 

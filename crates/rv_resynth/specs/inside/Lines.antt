@@ -1,6 +1,5 @@
 -- The lines of some gates, and the words on them.
-use Rattle.std.specs.Prelude.{◌≡◌, ℕ, ◌<◌, Bool, true, List, length, map, All}
-use Rattle.std.specs.List.{Contains}
+use Rattle.std.specs.Prelude.{◌≡◌, ℕ, Bool, true, List, length, map, All}
 use Rattle.rv_gate.specs.declared.word.TheConstants.{MOST_LINES}
 use Rattle.rv_gate.specs.declared.gate.Shape.{Shape}
 use Rattle.rv_gate.specs.Gate.{run, touches}
@@ -9,11 +8,6 @@ use Rattle.rv_gate.specs.Word.{has, bit_of, ones_of}
 -- the set has each line that the gate touches
 abbrev pub Covers : ℕ → Shape → Type 0
 Covers set g = (line : ℕ) → touches g line ≡ true → has set line ≡ true
-
--- the list has each line of the set below an end
-pub record ListsTo (set end : ℕ) (lines : List ℕ) : Type 0 where
-  pub each : (line : ℕ) → line < end → has set line ≡ true → Contains lines line
-  pub below : All (λ line. line < MOST_LINES) lines
 
 -- the number of the bits that a word has on some lines, the first of them lowest
 abbrev pub number_on : List ℕ → List Bool → ℕ

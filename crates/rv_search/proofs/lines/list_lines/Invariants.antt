@@ -1,8 +1,8 @@
 use Rattle.std.proofs.Common.{◌≡◌, ◌≤◌, take, length}
 use Rattle.rv_gate.specs.Word.{has}
 use Rattle.rv_mct.specs.Blocks.{count}
-use Rattle.rv_resynth.specs.inside.Lines.{ListsTo}
-use Rattle.rv_resynth.proofs.lines.list_lines.Given as goal
+use Rattle.rv_search.specs.Lines.{ListsTo}
+use Rattle.rv_search.proofs.lines.list_lines.Given as goal
 
 abbrev pub invariant-loop-line : goal.invariant-loop-line
 invariant-loop-line l =

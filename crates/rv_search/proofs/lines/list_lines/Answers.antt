@@ -2,10 +2,9 @@ use Rattle.std.proofs.Common.{◌<◌, ◌∙◌, length, refl, sym, arith, leng
 use Rattle.std.proofs.lemmas.List.{take_more_set}
 use Rattle.rv_gate.specs.Word.{has}
 use Rattle.rv_mct.proofs.Rising.{count_zero}
-use Rattle.rv_resynth.proofs.inside.Agreeing.{count_on, count_off}
-use Rattle.rv_resynth.proofs.inside.Blocks.{lists_none, lists_more, lists_same}
-use Rattle.rv_resynth.proofs.lines.list_lines.Goals as goal
-use Rattle.rv_resynth.proofs.lines.list_lines.Goals.{then-has, else-has}
+use Rattle.rv_search.proofs.LineLaws.{count_on, count_off, lists_none, lists_more, lists_same}
+use Rattle.rv_search.proofs.lines.list_lines.Goals as goal
+use Rattle.rv_search.proofs.lines.list_lines.Goals.{then-has, else-has}
 
 pub loop-line-init : goal.loop-line-init
 loop-line-init c =

@@ -1,8 +1,8 @@
 // What the products of a form weigh.
 use std::alloc::{AllocError, Global};
 
-// Of how many scales a search chooses.
-pub(crate) const SCALES: usize = 6;
+/// Of how many scales a search chooses.
+pub const SCALES: usize = 6;
 
 // What a product of each degree weighs, in each scale.
 const DEGREES: [[u32; 9]; SCALES] = [

@@ -4,7 +4,7 @@ ghost use Rattle.rv_gate.specs.declared.circuit.TheConstants.{MOST_GATES};
 ghost use Rattle.rv_gate.specs.declared.word.TheConstants.{MOST_LINES};
 ghost use Rattle.rv_mct.specs.Blocks.{borrowed_ladder_cost, long_cost};
 ghost use Rattle.rv_mct.specs.declared.aux.Aux.TheVariants.{Borrowed};
-ghost use Rattle.rv_resynth.specs.Measure.{cost_of, lacks_line, lines_with, measure, most_controls, t_count, toffolis};
+ghost use Rattle.rv_search.specs.Measure.{cost_of, lacks_line, lines_with, measure, most_controls, t_count, toffolis};
 
 use crate::Goal;
 use rv_cost::quantum_cost;
@@ -12,7 +12,7 @@ use rv_gate::{Gate, Shape};
 use rv_mct::count_lines;
 
 // The quantum cost of gates.
-pub(crate) fn cost_of(gates: &[Gate]) -> u128
+fn cost_of(gates: &[Gate]) -> u128
     requires { length gates.now ≤ MOST_GATES }
     ensures { result ≡ cost_of gates.now }
 {
@@ -91,8 +91,8 @@ fn any_lacks_line(lines: u8, gates: &[Gate]) -> bool
     gates.iter().any(|gate| lacks_line(lines, *gate))
 }
 
-// How many lines there are once one is added if a gate lacks it.
-pub(crate) fn lines_with(lines: u8, gates: &[Gate]) -> u8
+/// How many lines there are once one is added if a gate lacks it.
+pub fn lines_with(lines: u8, gates: &[Gate]) -> u8
     requires { lines ≤ MOST_LINES }
     ensures value { result ≡ lines_with lines gates.now }
     ensures few { result ≤ MOST_LINES + 1 }
@@ -118,8 +118,8 @@ fn t_count(lines: u8, gates: &[Gate]) -> u128
     7 * count
 }
 
-// What a goal counts of gates on so many lines.
-pub(crate) fn measure(goal: Goal, lines: u8, gates: &[Gate]) -> u128
+/// What a goal counts of gates on so many lines.
+pub fn measure(goal: Goal, lines: u8, gates: &[Gate]) -> u128
     requires lines { lines ≤ MOST_LINES }
     requires gates { length gates.now ≤ MOST_GATES }
     ensures { result ≡ measure goal lines gates.now }

@@ -10,19 +10,23 @@ const LEAST_COMMON: u32 = 2;
 // So many gates are looked at for a partner, at most.
 const PARTNERS: usize = 20;
 
+/// Controls that each gate of a window has all or not at all.
 #[derive(Clone, Copy)]
-pub(crate) struct Common {
-    pub(crate) care: LineSet,
-    pub(crate) want: LineSet,
+pub struct Common {
+    /// Their lines.
+    pub care: LineSet,
+    /// Those of them that want 1.
+    pub want: LineSet,
 }
 
 impl Common {
-    // No control at all.
-    pub(crate) fn none() -> Common {
+    /// No control at all.
+    pub fn none() -> Common {
         Common { care: 0, want: 0 }
     }
 
-    pub(crate) fn is_none(&self) -> bool {
+    /// Whether there is no control.
+    pub fn is_none(&self) -> bool {
         self.care == 0
     }
 
@@ -37,8 +41,8 @@ impl Common {
             && gate.wanted() & self.care == self.want
     }
 
-    // Whether the gate has all of them, or touches none of their lines.
-    pub(crate) fn suit(&self, gate: Gate) -> bool {
+    /// Whether the gate has all of them, or touches none of their lines.
+    pub fn suit(&self, gate: Gate) -> bool {
         gate.touched() & self.care == 0 || self.are_in(gate)
     }
 }
@@ -72,8 +76,9 @@ fn shared(gate: Gate, other: Gate) -> Common {
     }
 }
 
-// Chooses the common controls of a window on so many lines that begins with the first gate.
-pub(crate) fn common_of(gates: &[Gate], lines: u32, random: &mut Random) -> Common {
+/// Chooses the common controls of a window on so many lines that begins with the first gate: some that it has, at most
+/// ten, or none. Nothing is promised of the choice.
+pub fn common_of(gates: &[Gate], lines: u32, random: &mut Random) -> Common {
     let Some(first) = gates.first() else {
         return Common::none();
     };

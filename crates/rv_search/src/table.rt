@@ -1,8 +1,8 @@
 // Truth tables of six, seven and eight lines: a bit for each word.
 use crate::scale::Scale;
 
-// The most lines of a table.
-pub(crate) const PLACES: usize = 8;
+/// The most lines of a permutation that is searched for.
+pub const PLACES: usize = 8;
 
 // Of each of the first six lines, the bit that each of 64 words has on it.
 const VARIABLES: [u64; 6] = [

@@ -18,12 +18,9 @@ fn lowest(set: LineSet, count: u32) -> LineSet {
     low
 }
 
-// Four flips with about half of its controls, of which two are of a line that ends as it began.
-pub(crate) fn thinned(
-    alloc: Global,
-    gate: Gate,
-    lines: u8,
-) -> Result<Option<Vec<Gate>>, AllocError> {
+/// Four flips with about half of its controls, of which two are of a line that ends as it began. They may do the same;
+/// nothing is promised of them. Others than flips with 8 to 14 controls that leave one of the lines free have none.
+pub fn thinned(alloc: Global, gate: Gate, lines: u8) -> Result<Option<Vec<Gate>>, AllocError> {
     let Shape::Flip { care, want, target } = gate.shape() else {
         return Ok(None);
     };

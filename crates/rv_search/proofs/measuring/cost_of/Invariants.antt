@@ -1,6 +1,6 @@
 use Rattle.std.proofs.Common.{◌≡◌, ◌≤◌, ◌*◌, ◌^◌, take}
-use Rattle.rv_resynth.specs.Measure.{cost_of}
-use Rattle.rv_resynth.proofs.measure.cost_of.Given as goal
+use Rattle.rv_search.specs.Measure.{cost_of}
+use Rattle.rv_search.proofs.measuring.cost_of.Given as goal
 
 abbrev pub invariant-loop-gate : goal.invariant-loop-gate
 invariant-loop-gate l =

@@ -2,7 +2,7 @@
 use crate::beam::{Plan, Target, search};
 use crate::common::Common;
 use crate::completion::{Marked, completion};
-use crate::find::{follow, gate_of, solve};
+use crate::finding::{follow, gate_of, solve};
 use crate::prices::Prices;
 use crate::random::Random;
 use crate::scale::SCALES;
@@ -218,8 +218,9 @@ fn find_completed<T: Table>(
     solve(space, alloc, &tables, &lines, &Common::none(), plan)
 }
 
-// Gates that may have the circuit's function by its marks, and are one to one as one of its completions is.
-pub(crate) fn find_completion(
+/// Gates that may make one of the permutations with the circuit's function by its marks, by its number. Nothing is
+/// promised of them but that the search ends. On fewer than six lines or more than eight none are found.
+pub fn find_completion(
     alloc: Global,
     circuit: &Circuit,
     prices: &Prices,
@@ -245,8 +246,8 @@ pub(crate) fn find_completion(
     }
 }
 
-// How a beam with free choice goes, by its number.
-pub(crate) fn free_plan(number: usize, bound: u64, effort: u16) -> Plan {
+/// How a beam with free choice on garbage lines goes, by its number and the effort.
+pub fn free_plan(number: usize, bound: u64, effort: u16) -> Plan {
     Plan {
         bound: bound.min(MOST_PRICE) as usize,
         width: 3 + number % 3,
@@ -260,9 +261,9 @@ pub(crate) fn free_plan(number: usize, bound: u64, effort: u16) -> Plan {
     }
 }
 
-// Gates that may have the circuit's function by its marks, for less than the bound. A circuit of more than eight lines
-// isn't looked at.
-pub(crate) fn find_marked(
+/// Gates that may have the circuit's function by its marks, for less than the bound. Nothing is promised of them but
+/// that the search ends. On more than eight lines none are found.
+pub fn find_marked(
     alloc: Global,
     circuit: &Circuit,
     prices: &Prices,

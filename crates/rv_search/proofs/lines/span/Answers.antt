@@ -1,8 +1,8 @@
 use Rattle.std.proofs.Common.{ap, ◌∙◌, arith}
 use Rattle.std.proofs.lemmas.List.{take_all}
-use Rattle.rv_resynth.specs.Same.{span}
-use Rattle.rv_resynth.proofs.inside.Agreeing.{span_more, span_none}
-use Rattle.rv_resynth.proofs.lines.span.Goals as goal
+use Rattle.rv_search.specs.Lines.{span}
+use Rattle.rv_search.proofs.LineLaws.{span_more, span_none}
+use Rattle.rv_search.proofs.lines.span.Goals as goal
 
 pub loop-gate-init : goal.loop-gate-init
 loop-gate-init c = span_none c.args.gates.now

@@ -2,8 +2,8 @@
 // added to what stood on as many lines.
 use std::alloc::{AllocError, Global};
 
-// So many of them are looked at.
-pub(crate) const COMPLETIONS: usize = 8;
+/// So many permutations with a circuit's function are looked at.
+pub const COMPLETIONS: usize = 8;
 
 // The lines of a circuit by their marks, and of each word of inputs and constants what its gates make of it.
 #[derive(Drop)]

@@ -183,8 +183,10 @@ fn find_on<T: Table>(
     solve(space, alloc, &tables, lines, common, plan)
 }
 
-// Gates that may do the same as these, for less than the bound.
-pub(crate) fn find(
+/// Gates that may do the same as these, for less than the bound. Nothing is promised of them but that the search ends.
+///
+/// The common controls count as one line. If there are more than eight, none are found.
+pub fn find(
     alloc: Global,
     gates: &[Gate],
     common: &Common,

@@ -1,7 +1,7 @@
 use Rattle.std.proofs.Common.{◌≡◌, ◌≤◌, ◌*◌, ◌^◌, take}
 use Rattle.std.specs.List.{sum_by}
-use Rattle.rv_resynth.specs.Measure.{gate_toffolis}
-use Rattle.rv_resynth.proofs.measure.t_count.Given as goal
+use Rattle.rv_search.specs.Measure.{gate_toffolis}
+use Rattle.rv_search.proofs.measuring.t_count.Given as goal
 
 abbrev pub invariant-loop-gate : goal.invariant-loop-gate
 invariant-loop-gate l =

@@ -1,14 +1,16 @@
 use crate::Goal;
-use crate::measure::{most_controls, toffolis};
+use crate::measuring::{most_controls, toffolis};
 use rv_gate::{Gate, MOST_LINES, Shape};
 
-// What gates cost in a search, for a goal and on so many lines, and whether a beam passes over what cannot end below
-// its bound.
+/// What gates cost in a search. They decide what is tried, and nothing is promised of them.
 #[derive(Clone, Copy)]
-pub(crate) struct Prices {
-    pub(crate) goal: Goal,
-    pub(crate) lines: u8,
-    pub(crate) bounded: bool,
+pub struct Prices {
+    /// What is to be small.
+    pub goal: Goal,
+    /// The lines of the gates, with one that is added if a gate lacks it.
+    pub lines: u8,
+    /// Whether a beam passes over what cannot end below its bound.
+    pub bounded: bool,
 }
 
 impl Prices {
@@ -30,8 +32,8 @@ impl Prices {
         }
     }
 
-    // What a gate costs.
-    pub(crate) fn gate(&self, gate: Gate) -> u32 {
+    /// What a gate costs.
+    pub fn gate(&self, gate: Gate) -> u32 {
         match gate.shape() {
             Shape::Flip { .. } => self.flip(u32::from(most_controls(gate))),
             Shape::Swap { .. } => match self.goal {
@@ -42,8 +44,8 @@ impl Prices {
         }
     }
 
-    // What some gates cost.
-    pub(crate) fn gates(&self, gates: &[Gate]) -> u64 {
+    /// What some gates cost.
+    pub fn gates(&self, gates: &[Gate]) -> u64 {
         let mut sum = 0u64;
         for gate in gates {
             sum = sum.saturating_add(u64::from(self.gate(*gate)));
@@ -63,8 +65,8 @@ impl Prices {
         sum
     }
 
-    // Whether some gates are as good as others.
-    pub(crate) fn are_as_good(&self, new: &[Gate], old: &[Gate]) -> bool {
+    /// Whether some gates are as good as others.
+    pub fn are_as_good(&self, new: &[Gate], old: &[Gate]) -> bool {
         let (counted, before) = (self.counted(new), self.counted(old));
         counted < before || counted == before && self.gates(new) <= self.gates(old)
     }

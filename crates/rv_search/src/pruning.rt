@@ -98,8 +98,8 @@ fn keep_asked_for(circuit: &Circuit, gates: &mut Vec<Gate>) {
     gates.reverse();
 }
 
-// The gates that a circuit's marks leave.
-pub(crate) fn pruned(alloc: Global, circuit: &Circuit) -> Result<Vec<Gate>, AllocError> {
+/// The gates that a circuit's marks leave. They may have its function by the marks; nothing is promised of them.
+pub fn pruned(alloc: Global, circuit: &Circuit) -> Result<Vec<Gate>, AllocError> {
     let mut gates = without_known(alloc, circuit)?;
     keep_asked_for(circuit, &mut gates);
     Ok(gates)

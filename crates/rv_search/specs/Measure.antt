@@ -6,8 +6,8 @@ use Rattle.rv_gate.specs.declared.gate.Shape.TheVariants.{Flip, Swap, Peres}
 use Rattle.rv_mct.specs.Blocks.{count_lines, long_cost}
 use Rattle.rv_mct.specs.declared.aux.Aux.TheVariants.{Borrowed}
 use Rattle.rv_cost.specs.CircuitCost.{quantum_cost}
-use Rattle.rv_resynth.specs.declared.goal.Goal.{Goal}
-use Rattle.rv_resynth.specs.declared.goal.Goal.TheVariants.{Quantum, T, Gates}
+use Rattle.rv_search.specs.declared.goal.Goal.{Goal}
+use Rattle.rv_search.specs.declared.goal.Goal.TheVariants.{Quantum, T, Gates}
 
 -- the quantum cost of gates
 abbrev pub cost_of : List Shape → ℕ
