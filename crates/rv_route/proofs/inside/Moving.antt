@@ -16,7 +16,6 @@ use Rattle.rv_route.specs.declared.moves.Move.{Move}
 use Rattle.rv_route.specs.inside.Standing.{IsPlacement, IsSwap, Stands, AreAscending, AreMoves, shifted, swaps_of, swaps_by}
 use Rattle.rv_route.proofs.inside.Shifts.{twin, twin_low, twin_high, twin_other, twin-twin, twin-lt, get_or-swap, IsPlacement-swap, IsPlacement-swapped, swapped-append, swapped_none}
 use Rattle.rv_route.proofs.inside.Running.{position_is, stands}
-use Rattle.core.proofs.iter.Rest.{range_with_len_none}
 
 -- ---- where a line stands after swaps
 
@@ -102,11 +101,14 @@ travels_down a (suc d) q =
 
 -- ---- the swaps of a move
 
+none : (a b : ℕ) → b ≤ a → range_with_len a (b - a) ≡ []
+none a b le = let z : b - a ≡ 0 = omega arith in ap (range_with_len a) z
+
 pub swaps_of-up : (a b : ℕ) → a ≤ b → swaps_of a b ≡ swaps_up a b
-swaps_of-up a b le = ap (λ l. swaps_up a b ++ reverse l) (range_with_len_none b a le) ∙ append-nil (swaps_up a b)
+swaps_of-up a b le = ap (λ l. swaps_up a b ++ reverse l) (none b a le) ∙ append-nil (swaps_up a b)
 
 pub swaps_of-down : (a b : ℕ) → b ≤ a → swaps_of a b ≡ swaps_down a b
-swaps_of-down a b le = ap (λ l. l ++ swaps_down a b) (range_with_len_none a b le)
+swaps_of-down a b le = ap (λ l. l ++ swaps_down a b) (none a b le)
 
 pub length-swaps_of : (a b : ℕ) → length (swaps_of a b) ≡ (b - a) + (a - b)
 length-swaps_of a b = grind (arith, length-append, length-range_with_len, length-reverse)
@@ -205,10 +207,10 @@ down_more a b p old now next g some le so_far is pushed =
     (ap (λ l. swaps_up a b ++ l) (falling-more a p some le) ∙ sym (append_assoc (swaps_up a b) (swaps_down a p) ((p - 1) ∷ [])))
 
 pub down_all : (a b p : ℕ) → p ≤ b → a - p ≤ a - b → swaps_down a p ≡ swaps_down a b
-down_all a b p le few = grind (arith, reverse, range_with_len_none)
+down_all a b p le few = grind (arith, reverse, none)
 
 pub down_none : (a : ℕ) → swaps_down a a ≡ []
-down_none a = ap reverse (range_with_len_none a a (omega arith))
+down_none a = ap reverse (none a a (omega arith))
 
 -- ---- gathering
 
