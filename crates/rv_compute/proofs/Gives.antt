@@ -5,8 +5,7 @@ use Rattle.std.proofs.lemmas.List.{length-replicate, replicate-append-replicate}
 use Rattle.rv_gate.specs.Gate.{run, xor}
 use Rattle.rv_gate.specs.Circuit.{Cascade}
 use Rattle.rv_gate.specs.Marks.{with_constants, without_garbage}
-use Rattle.rv_gate.specs.declared.circuit.Mark.TheVariants.{Input, Zero}
-use Rattle.rv_gate.proofs.Marks.{input_count-inputs, with_constants-append, with_constants-inputs, with_constants-zeros, without_garbage-append, without_garbage-outputs, without_garbage-all, with_constants-filled}
+use Rattle.rv_gate.proofs.Marks.{without_garbage-append, without_garbage-outputs, without_garbage-all, with_constants-filled}
 use Rattle.rv_blif.specs.Logic.{Logic, outputs_of}
 use Rattle.rv_compute.specs.Computed.{xor_each, IsComputed, IsComputedWithin, Gives}
 use Rattle.rv_compute.proofs.inside.Ends.{length-outputs_of, length-xor_each}

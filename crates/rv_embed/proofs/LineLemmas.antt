@@ -1,10 +1,9 @@
 -- The least power of two that is enough.
-use Rattle.std.proofs.Common.{◌≡◌, ℕ, zero, suc, ◌^◌, ◌<◌, ◌≤◌, Bool, true, false, not, ltb, List, length, get_or, sym, ap, ◌∙◌, inl, inr, arith, zero-add}
+use Rattle.std.proofs.Common.{◌≡◌, ℕ, ◌^◌, ◌<◌, ◌≤◌, Bool, true, false, not, ltb, List, length, get_or, sym, ap, ◌∙◌, inl, inr, arith, zero-add}
 use Rattle.std.specs.List.{position_or_len, range_with_len}
 use Rattle.std.proofs.lemmas.List.FromFn.{length-range_with_len, get_or-range_with_len}
 use Rattle.std.proofs.lemmas.List.Sums.{passes_at_first, fails_before_first, prefix_len-le-length}
 use Rattle.std.proofs.lemmas.Bool.{cases_lt, false≢true, le-ltb, ltb-false, not-true}
-use Rattle.std.proofs.Math.Nat.{pow-suc}
 use Rattle.rv_embed.specs.LeastBelow.{least_below}
 use Rattle.rv_embed.specs.Embedding.{least_power}
 use Rattle.rv_gate.proofs.Bits.{below_power}

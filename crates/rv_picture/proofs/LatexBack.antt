@@ -9,8 +9,7 @@ use Rattle.std.specs.Option.{option_map}
 use Rattle.std.proofs.lemmas.Bool.{and_from, and_parts, cases_Bool, eqb-true, le-ltb, lt-ltb}
 use Rattle.std.proofs.lemmas.List.{length-map}
 use Rattle.std.proofs.lemmas.List.Folds.{list_all-append}
-use Rattle.std.proofs.lemmas.List.Elements.{All-get_or}
-use Rattle.rv_gate.specs.Circuit.{AreLabels, Cascade, IsCascade, IsLabel}
+use Rattle.rv_gate.specs.Circuit.{Cascade, IsCascade, IsLabel}
 use Rattle.rv_gate.specs.Gate.{same}
 use Rattle.rv_gate.specs.declared.circuit.Mark.{Mark}
 use Rattle.rv_gate.specs.declared.circuit.Mark.TheVariants as marks

@@ -12,12 +12,12 @@ use Rattle.std.specs.Str.{all_ascii_digits}
 use Rattle.std.specs.Str.Parse.{digits_value_after}
 use Rattle.std.proofs.lemmas.Bool.{and_from, and_parts, cases_Bool, cases_eq, cases_lt, eqb-true, le-ltb, lt-ltb}
 use Rattle.std.proofs.lemmas.List.{append-nil, length-drop, length-take}
-use Rattle.std.proofs.lemmas.List.Elements.{All-get_or, All-head, All-tail}
+use Rattle.std.proofs.lemmas.List.Elements.{All-head, All-tail}
 use Rattle.std.proofs.lemmas.List.FromFn.{length-map-range_with_len}
 use Rattle.std.proofs.lemmas.List.Folds.{list_all-append}
 use Rattle.std.proofs.Math.Nat.{div-le_self, mul-le-mul_right, mul_assoc}
 use Rattle.rv_text.proofs.inside.Decimal.{decimal_value-decimal, is_decimal-decimal}
-use Rattle.rv_gate.specs.Circuit.{AreLabels, Cascade, IsCascade, IsLabel}
+use Rattle.rv_gate.specs.Circuit.{Cascade, IsCascade, IsLabel}
 use Rattle.rv_gate.specs.Gate.{same}
 use Rattle.rv_gate.specs.declared.circuit.Mark.{Mark}
 use Rattle.rv_gate.specs.declared.circuit.Mark.TheVariants as marks

@@ -1,17 +1,16 @@
 -- The text of an SVG, as pieces that are added one after another.
 use Rattle.std.proofs.Common.{◌≡◌, ◌∙◌, ℕ, ◌+◌, ◌<◌, List, [], ◌∷◌, ◌++◌, length, take, get_or, refl, ap, sym}
-use Rattle.std.proofs.Common.{append_assoc, arith, max, slice_get, Some}
+use Rattle.std.proofs.Common.{append_assoc, arith}
 use Rattle.std.specs.Prelude.{codes, decimal}
 use Rattle.std.specs.List.{flat_map, range_with_len}
 use Rattle.std.proofs.lemmas.List.{append-nil, length-take, take_more}
 use Rattle.std.proofs.lemmas.Fmt.{decimal_digit}
-use Rattle.std.proofs.lemmas.Option.{get_or_from_slice_get, slice_get_within}
 use Rattle.rv_gate.specs.Circuit.{Cascade}
 use Rattle.rv_draw.specs.declared.symbol.Symbol.{Symbol}
 use Rattle.rv_draw.specs.Drawing.{block_count}
 use Rattle.rv_picture.specs.Cut.{text_of_lines}
 use Rattle.rv_picture.specs.Svg.{all_gate_lines, block_lines, break_at, breaks, column_count, gate_lines, head, margin}
-use Rattle.rv_picture.specs.Svg.{middle_of, picture_height, picture_width, placed, size, svg_with, titled, widest, width}
+use Rattle.rv_picture.specs.Svg.{middle_of, picture_height, picture_width, placed, size, svg_with, titled}
 use Rattle.rv_picture.proofs.Texts.{line_text, lines-append}
 
 -- what stands in a group

@@ -3,7 +3,7 @@ use Rattle.std.proofs.Common.{◌≡◌, ◌≢◌, ℕ, zero, suc, ◌+◌, ◌
 use Rattle.std.proofs.lemmas.Bool.{cases_eq, cases_Bool, cond-true, cond-false, or_cases, eqb-true, and_parts, false_from_ne_true, not-true, false≢true}
 use Rattle.rv_gate.specs.Word.{has, bit_of, number_of, ones_of}
 use Rattle.rv_gate.specs.declared.word.TheConstants.{MOST_LINES}
-use Rattle.rv_gate.specs.Gate.{holds, flip, act, run, FitsIn, IsGate, IsFlip, IsFlipOn}
+use Rattle.rv_gate.specs.Gate.{holds, flip, act, run, FitsIn, IsFlipOn}
 use Rattle.rv_gate.specs.declared.gate.Shape.{Shape}
 use Rattle.rv_gate.specs.declared.gate.Shape.TheVariants.{Flip}
 use Rattle.rv_gate.proofs.inside.GateLemmas.{holds_Decides, length-run, run-append, holds_none}

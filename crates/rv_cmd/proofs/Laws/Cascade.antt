@@ -1,14 +1,14 @@
 -- The cascade of `esop` gives what the PLA asks, with its constants put in and its garbage left out.
 use Rattle.std.proofs.Common.{◌≡◌, ◌∙◌, ℕ, zero, suc, ◌+◌, ◌<◌, Bool, true, false, List, [], ◌∷◌, ◌++◌, length, replicate, ap, ap₂, refl, sym, subst, arith}
 use Rattle.std.specs.Prelude.{IsTrue}
-use Rattle.std.proofs.lemmas.List.{append-nil, length-replicate}
+use Rattle.std.proofs.lemmas.List.{length-replicate}
 use Rattle.rv_gate.specs.Circuit.{Cascade}
 use Rattle.rv_gate.specs.Gate.{run, xor}
 use Rattle.rv_gate.specs.Marks.{with_constants, without_garbage}
 use Rattle.rv_gate.specs.Word.{bit_of, has}
 use Rattle.rv_gate.specs.declared.circuit.Mark.TheVariants.{Input, Zero}
 use Rattle.rv_gate.specs.declared.gate.Shape.{Shape}
-use Rattle.rv_gate.proofs.Marks.{input_count-append, input_count-inputs, input_count-zeros, output_count-append, output_count-garbage, output_count-outputs, with_constants-append, with_constants-inputs, with_constants-zeros, without_garbage-all, without_garbage-append, without_garbage-outputs, with_constants-filled}
+use Rattle.rv_gate.proofs.Marks.{input_count-append, input_count-inputs, input_count-zeros, output_count-append, output_count-garbage, output_count-outputs, without_garbage-all, without_garbage-append, without_garbage-outputs, with_constants-filled}
 use Rattle.rv_pla.specs.FreeEntries.{allows}
 use Rattle.rv_pla.specs.Pla.{TwoLevel, entry}
 use Rattle.rv_cube.specs.Esop.{Esop, esop_value}

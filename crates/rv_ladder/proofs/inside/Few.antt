@@ -1,5 +1,5 @@
 -- A gate has few operations.
-use Rattle.std.proofs.Common.{◌≡◌, ℕ, zero, suc, ◌+◌, ◌-◌, ◌*◌, ◌/◌, ◌^◌, ◌<◌, ◌≤◌, Bool, true, false, cond, eqb}
+use Rattle.std.proofs.Common.{◌≡◌, ℕ, ◌+◌, ◌-◌, ◌*◌, ◌/◌, ◌^◌, ◌<◌, ◌≤◌, Bool, true, false, cond, eqb}
 use Rattle.std.proofs.Common.{ne_eqb, [], ◌∷◌, nat_lt, ap, inl, inr, arith}
 use Rattle.std.specs.Prelude.{bit_or}
 use Rattle.std.proofs.lemmas.Bool.{cases_lt, lt-ltb}
@@ -12,7 +12,6 @@ use Rattle.rv_gate.proofs.LineSets.{has-line}
 use Rattle.rv_mct.specs.Blocks.{count, count_lines, is_free}
 use Rattle.rv_mct.specs.declared.aux.Aux.{Aux}
 use Rattle.rv_mct.specs.declared.aux.Aux.TheVariants.{Borrowed, Clean}
-use Rattle.rv_mct.proofs.Rising.{count_zero, count-suc}
 use Rattle.rv_mct.proofs.inside.Splits.{count_none, count_one, count_same}
 use Rattle.rv_ladder.specs.Counts.{flip_count, gate_count, ladder_count, long_count, operations, zero_count}
 use Rattle.rv_mct.proofs.Walks.{count_few}
