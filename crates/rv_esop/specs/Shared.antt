@@ -1,11 +1,12 @@
 -- Cascades that add a value to the outputs, and what they cost.
-use Rattle.std.specs.Prelude.{ℕ, ◌≡◌, Bool, false, List, [], ◌∷◌, ◌++◌, length, if◌then◌else◌, count_ones}
+use Rattle.std.specs.Prelude.{ℕ, ◌≡◌, ◌≤◌, Bool, false, List, [], ◌∷◌, ◌++◌, All, length, if◌then◌else◌, count_ones}
 use Rattle.std.specs.List.{sum_by}
 use Rattle.rv_gate.specs.Circuit.{Cascade}
 use Rattle.rv_gate.specs.Gate.{run, controls, xor}
 use Rattle.rv_gate.specs.declared.gate.Shape.{Shape}
 use Rattle.rv_pla.specs.Cube.{matches}
 use Rattle.rv_pla.specs.declared.cube.Cube.{Cube}
+use Rattle.rv_pla.specs.declared.cube.TheConstants.{MOST_INPUTS}
 use Rattle.rv_exorlink.specs.declared.goal.Goal.{Goal}
 use Rattle.rv_exorlink.specs.Weight.{flip_cost}
 use Rattle.rv_esop.specs.Cascade.{esop_lines, xor_set}
@@ -34,6 +35,10 @@ gate_cost goal gate = flip_cost goal (count_ones (controls gate))
 
 abbrev pub cost_of : Goal → List Shape → ℕ
 cost_of goal gates = sum_by (gate_cost goal) gates
+
+-- no gate has more controls than a flip of a cube can have
+abbrev pub AreShort : List Shape → Type 0
+AreShort gates = All (λ gate. count_ones (controls gate) ≤ MOST_INPUTS) gates
 
 -- a circuit on the lines for so many inputs and outputs
 abbrev pub IsOnLines : ℕ → ℕ → Cascade → Type 0

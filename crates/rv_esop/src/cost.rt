@@ -1,10 +1,10 @@
 // What circuits cost by a goal.
-ghost use Rattle.std.specs.Prelude.{◌≡◌, ◌≤◌, length, IfSome, IsTrue};
+ghost use Rattle.std.specs.Prelude.{◌≡◌, ◌<◌, ◌≤◌, length, IfSome, IsFalse, IsTrue, is_some};
 ghost use Rattle.rv_gate.specs.declared.circuit.TheConstants.{MOST_GATES};
 ghost use Rattle.rv_pla.specs.declared.cube.TheConstants.{MOST_OUTPUTS};
 ghost use Rattle.rv_cube.specs.declared.list.TheConstants.{MOST_CUBES};
 ghost use Rattle.rv_esop.specs.Cascade.{cascade_of, flips_of_cubes};
-ghost use Rattle.rv_esop.specs.Shared.{cost_of};
+ghost use Rattle.rv_esop.specs.Shared.{AreShort, cost_of};
 
 use super::count::count_of;
 use rv_cube::{CubeList, MOST_CUBES};
@@ -15,7 +15,8 @@ use rv_pla::{Cube, MOST_OUTPUTS};
 // What gates cost together, if none has more than 16 controls.
 fn cost_of(gates: &[Gate], goal: Goal) -> Option<u64>
     requires { length gates.now ≤ MOST_GATES }
-    ensures { IfSome result (λ cost. cost ≡ cost_of goal gates.now) }
+    ensures cost { IfSome result (λ cost. cost ≡ cost_of goal gates.now) }
+    ensures some { AreShort gates.now → IsTrue (is_some result) }
 {
     let mut cost = 0u64;
     for gate in gates {
@@ -42,9 +43,11 @@ fn plain_cost(cubes: &[Cube], inputs: u8, outputs: u8, goal: Goal) -> u64
     cost
 }
 
-/// Whether a circuit costs no more than the cascade of a list.
+/// Whether a circuit costs no more than the cascade of a list; false where a gate has more than 16 controls.
 pub fn is_no_dearer(circuit: &Circuit, cubes: &CubeList, goal: Goal) -> bool
-    ensures { IsTrue result → cost_of goal circuit.now.gates ≤ cost_of goal (cascade_of cubes.now).gates }
+    ensures no_dearer { IsTrue result → cost_of goal circuit.now.gates ≤ cost_of goal (cascade_of cubes.now).gates }
+    ensures dearer { AreShort circuit.now.gates → IsFalse result
+        → cost_of goal (cascade_of cubes.now).gates < cost_of goal circuit.now.gates }
 {
     circuit.recall_invariant();
     match cost_of(circuit.gates(), goal) {
