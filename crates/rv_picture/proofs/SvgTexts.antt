@@ -1,16 +1,17 @@
 -- The text of an SVG, as pieces that are added one after another.
 use Rattle.std.proofs.Common.{◌≡◌, ◌∙◌, ℕ, ◌+◌, ◌<◌, List, [], ◌∷◌, ◌++◌, length, take, get_or, refl, ap, sym}
-use Rattle.std.proofs.Common.{append_assoc, arith}
+use Rattle.std.proofs.Common.{append_assoc, arith, max, slice_get, Some}
 use Rattle.std.specs.Prelude.{codes, decimal}
 use Rattle.std.specs.List.{flat_map, range_with_len}
 use Rattle.std.proofs.lemmas.List.{append-nil, length-take, take_more}
 use Rattle.std.proofs.lemmas.Fmt.{decimal_digit}
+use Rattle.std.proofs.lemmas.Option.{get_or_from_slice_get, slice_get_within}
 use Rattle.rv_gate.specs.Circuit.{Cascade}
 use Rattle.rv_draw.specs.declared.symbol.Symbol.{Symbol}
 use Rattle.rv_draw.specs.Drawing.{block_count}
 use Rattle.rv_picture.specs.Cut.{text_of_lines}
 use Rattle.rv_picture.specs.Svg.{all_gate_lines, block_lines, break_at, breaks, column_count, gate_lines, head, margin}
-use Rattle.rv_picture.specs.Svg.{middle_of, picture_height, picture_width, placed, size, svg_with, titled}
+use Rattle.rv_picture.specs.Svg.{middle_of, picture_height, picture_width, placed, size, svg_with, titled, widest, width}
 use Rattle.rv_picture.proofs.Texts.{line_text, lines-append}
 
 -- what stands in a group
@@ -86,6 +87,16 @@ gates_more {G = G} draws title lines gates i gate lt is =
     ∙ ap text_of_lines (sym (gates-append draws title lines 0 (take i gates) (gate ∷ [])) ∙ ap (all_gate_lines draws title lines 0) (sym more))
 
 -- ---- one label more
+
+widest-push : (labels : List (List ℕ)) (label : List ℕ) → widest (labels ++ label ∷ []) ≡ max (widest labels) (width label)
+widest-push [] label = omega arith
+widest-push (first ∷ labels) label = (let rest = widest-push labels label in omega (arith, rest))
+
+pub widest_more : (labels : List (List ℕ)) (i : ℕ) (label : List ℕ) → slice_get labels i ≡ Some label
+    → max (widest (take i labels)) (width label) ≡ widest (take (i + 1) labels)
+widest_more labels i label h =
+    let here : get_or labels i label ≡ label = get_or_from_slice_get labels i label label h in
+    sym (ap widest (take_more labels i label (slice_get_within labels i label h) ∙ ap (λ l. take i labels ++ l ∷ []) here) ∙ widest-push (take i labels) label)
 
 -- ---- the whole
 

@@ -1,8 +1,8 @@
 use Rattle.std.proofs.Common.{◌∙◌, ◌≤◌, ℕ, length, ap, arith, max}
 use Rattle.std.proofs.lemmas.List.{take_all}
 use Rattle.rv_picture.specs.Svg.{widest, width}
+use Rattle.rv_picture.proofs.SvgTexts.{widest_more}
 use Rattle.rv_picture.proofs.svg.widest_label.Goals as goal
-use Rattle.rv_draw.proofs.Texts.{widest-more}
 
 pub loop-line-preserved : goal.loop-line-preserved
 loop-line-preserved c =
@@ -10,9 +10,9 @@ loop-line-preserved c =
     let line = c.loop-line.line in
     record {
       inputs = c.wider-inputs.ensures.value ∙ ap (λ (m : ℕ). max m (width c.input_label.result.now)) c.loop-line.invariant.inputs
-          ∙ widest-more lines.input_labels line c.input_label.result.now c.input_label.ensures;
+          ∙ widest_more lines.input_labels line c.input_label.result.now c.input_label.ensures;
       outputs = c.wider-outputs.ensures.value ∙ ap (λ (m : ℕ). max m (width c.output_label.result.now)) c.loop-line.invariant.outputs
-          ∙ widest-more lines.output_labels line c.output_label.result.now c.output_label.ensures;
+          ∙ widest_more lines.output_labels line c.output_label.result.now c.output_label.ensures;
       few_inputs = c.wider-inputs.ensures.few;
       few_outputs = c.wider-outputs.ensures.few;
     }
