@@ -47,6 +47,12 @@ is_t (T q) = true
 is_t (Tdg q) = true
 is_t op = false
 
+-- a Toffoli or a Fredkin gate, which stands for several T
+abbrev pub has_three_lines : Op → Bool
+has_three_lines (Ccx a b c) = true
+has_three_lines (Cswap c a b) = true
+has_three_lines op = false
+
 -- the lines of the operation differ, and are below n
 abbrev pub OpFitsIn : Op → ℕ → Type 0
 OpFitsIn (X q) n = q < n
