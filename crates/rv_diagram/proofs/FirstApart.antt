@@ -1,5 +1,5 @@
 -- Where two sides differ.
-use Rattle.std.proofs.Common.{◌≡◌, ℕ, ◌+◌, ◌*◌, ◌^◌, ◌<◌, ◌≤◌, ◌⊎◌, Bool, true, false, ◌&&◌, List, [], ◌∷◌, ◌++◌, length, get_or, take, All, Option, Some, None, inl, inr, refl, sym, ap, ◌∙◌, arith, add-one, length-append}
+use Rattle.std.proofs.Common.{◌≡◌, ℕ, ◌+◌, ◌*◌, ◌^◌, ◌<◌, ◌≤◌, ◌⊎◌, Bool, true, false, ◌&&◌, List, [], ◌∷◌, ◌++◌, length, get_or, take, All, Some, inl, inr, refl, sym, ap, ◌∙◌, arith, add-one, length-append}
 use mir.Val.{bool_byte}
 use Rattle.std.proofs.Math.Nat.{pow-suc}
 use Rattle.std.proofs.Math.Pow.{pow_mono}
@@ -202,11 +202,3 @@ apart_some start now last a b agree inputs number count k is_agree below is leas
     )
 
 -- the same, of functions that are equal at each word
-pub first_apart_on : (inputs : ℕ) (f g f2 g2 : List Bool → List Bool) (found : Option ℕ) → ((x : List Bool) → f x ≡ f2 x) → ((x : List Bool) → g x ≡ g2 x) → IsFirstApart inputs f g found
-    → IsFirstApart inputs f2 g2 found
-first_apart_on inputs f g f2 g2 None same_f same_g is = λ x. sym (same_f x) ∙ is x ∙ same_g x
-first_apart_on inputs f g f2 g2 (Some number) same_f same_g is = (
-  is.0,
-  λ e. is.1 (same_f (word_of inputs number) ∙ e ∙ sym (same_g (word_of inputs number))),
-  λ less lt. sym (same_f (word_of inputs less)) ∙ is.2 less lt ∙ same_g (word_of inputs less),
-)

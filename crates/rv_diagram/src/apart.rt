@@ -1,7 +1,6 @@
 // Where two sides differ.
-ghost use Rattle.std.specs.Prelude.{◌≡◌, ℕ, ◌<◌, ◌≤◌, ◌^◌, ◌&&◌, Bool, true, List, All, length, take, IfOk, IfSome, OnOk};
-ghost use Rattle.rv_gate.specs.Gate.{FitsIn, all_below, run, same};
-ghost use Rattle.rv_gate.specs.Marks.{output_count, with_constants, without_garbage};
+ghost use Rattle.std.specs.Prelude.{◌≡◌, ℕ, ◌<◌, ◌≤◌, ◌^◌, ◌&&◌, Bool, true, List, All, length, IfOk, IfSome};
+ghost use Rattle.rv_gate.specs.Gate.{all_below, same};
 ghost use Rattle.rv_gate.specs.Word.{bit_of, number_of};
 ghost use Rattle.rv_gate.specs.declared.word.TheConstants.{MOST_LINES};
 ghost use Rattle.rv_diagram.specs.declared.edge.Node.{Node as AnyNode};
@@ -9,7 +8,7 @@ ghost use Rattle.rv_diagram.specs.Diagram.{IsEdge, IsFirstApart, IsNarrowed, Kee
 
 use crate::diagram::Diagram;
 use crate::edge::{DiagramFault, Edge};
-use rv_gate::{Circuit, Gate, MOST_LINES, Mark, Word};
+use rv_gate::{MOST_LINES, Word};
 use std::alloc::{AllocError, Global};
 
 /// A function where a bit of the input word is this one.
@@ -19,8 +18,8 @@ pub(crate) struct Narrowed {
     pub(crate) bit: bool,
 }
 
-// So many lines that hold 0.
-fn start_lines(alloc: Global, count: usize) -> Result<Vec<Edge>, AllocError>
+/// So many lines that hold 0.
+pub fn blank_lines(alloc: Global, count: usize) -> Result<Vec<Edge>, AllocError>
     ensures count { IfOk result (λ lines. length lines.items ≡ count) }
     ensures edges { IfOk result (λ lines. (nodes : List AnyNode) → All (IsEdge nodes) lines.items) }
 {
@@ -144,74 +143,5 @@ impl Diagram {
             return Err(DiagramFault::TooLarge);
         }
         Ok(Some(number))
-    }
-
-    /// The number of the first word, of so many bits, at which the functions of two circuits with marks differ; none,
-    /// where they are the same at all words. Each has lines to work on.
-    pub fn apart_on(
-        &mut self,
-        constants_a: &[Mark],
-        gates_a: &[Gate],
-        garbage_a: &[bool],
-        lines_a: &mut [Edge],
-        constants_b: &[Mark],
-        gates_b: &[Gate],
-        garbage_b: &[bool],
-        lines_b: &mut [Edge],
-        inputs: u8,
-    ) -> Result<Option<u64>, DiagramFault>
-        requires few_a { length lines_a.old ≤ MOST_LINES }
-        requires constants_a { length constants_a.now ≡ length lines_a.old }
-        requires garbage_a { length garbage_a.now ≡ length lines_a.old }
-        requires fits_a { All (λ gate. FitsIn gate (length lines_a.old)) gates_a.now }
-        requires edges_a { All (IsEdge self.old) lines_a.old }
-        requires few_b { length lines_b.old ≤ MOST_LINES }
-        requires constants_b { length constants_b.now ≡ length lines_b.old }
-        requires garbage_b { length garbage_b.now ≡ length lines_b.old }
-        requires fits_b { All (λ gate. FitsIn gate (length lines_b.old)) gates_b.now }
-        requires edges_b { All (IsEdge self.old) lines_b.old }
-        requires outputs { output_count garbage_a.now ≡ output_count garbage_b.now }
-        requires inputs { inputs ≤ MOST_LINES }
-        ensures { IfOk result (IsFirstApart inputs
-            (λ x. without_garbage garbage_a.now (run gates_a.now (with_constants constants_a.now x)))
-            (λ x. without_garbage garbage_b.now (run gates_b.now (with_constants constants_b.now x)))) }
-    {
-        let kept_a = self.give_outputs(constants_a, gates_a, garbage_a, lines_a)?;
-        let kept_b = self.give_outputs(constants_b, gates_b, garbage_b, lines_b)?;
-        let found = self.first_apart(&lines_a[..kept_a], &lines_b[..kept_b], inputs)?;
-        Ok(found)
-    }
-
-    /// The number of the first word, of so many bits, at which the functions of two circuits with marks differ; none,
-    /// where they are the same at all words.
-    pub fn first_apart_of(
-        &mut self,
-        alloc: Global,
-        a: &Circuit,
-        b: &Circuit,
-        inputs: u8,
-    ) -> Result<Option<u64>, DiagramFault>
-        requires outputs { output_count a.now.garbage ≡ output_count b.now.garbage }
-        requires inputs { inputs ≤ MOST_LINES }
-        ensures { IfOk result (IsFirstApart inputs
-            (λ x. without_garbage a.now.garbage (run a.now.gates (with_constants a.now.constants x)))
-            (λ x. without_garbage b.now.garbage (run b.now.gates (with_constants b.now.constants x)))) }
-    {
-        a.recall_invariant();
-        b.recall_invariant();
-        let mut lines_a = start_lines(alloc, usize::from(a.line_count()))?;
-        let mut lines_b = start_lines(alloc, usize::from(b.line_count()))?;
-        let found = self.apart_on(
-            a.constant_row(),
-            a.gates(),
-            a.garbage_row(),
-            &mut lines_a,
-            b.constant_row(),
-            b.gates(),
-            b.garbage_row(),
-            &mut lines_b,
-            inputs,
-        )?;
-        Ok(found)
     }
 }

@@ -14,7 +14,7 @@ mod operation;
 mod order;
 mod signals;
 
-pub use diagram::Diagram;
+pub use apart::blank_lines;
+pub use diagram::{Diagram, MOST_NODES};
 pub use edge::{DiagramFault, Edge};
-pub use marks::output_count;
 pub use order::{Order, order_of};
