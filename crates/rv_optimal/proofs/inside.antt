@@ -1,0 +1,11 @@
+pub mod Packing
+pub mod Running
+pub mod Reaching
+pub mod Meeting
+pub mod Codes
+pub mod Searching
+pub mod After
+pub mod Members
+pub mod Growing
+pub mod Sides
+pub mod Loops

@@ -1,0 +1,4 @@
+pub mod Library
+pub mod Shortest
+pub mod Circuit
+pub mod inside
