@@ -1,5 +1,5 @@
 use Rattle.std.proofs.Common.{◌+◌, ◌*◌}
-use Rattle.rv_compute.proofs.engine.Engine.+making.Given as goal
+use Rattle.rv_schedule.proofs.engine.Engine.+making.Given as goal
 
 abbrev pub decreases-make : goal.decreases-make
 decreases-make l = 2 * l.depth

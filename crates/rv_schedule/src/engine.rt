@@ -1,5 +1,5 @@
 // The search for a plan: nodes are made where they are needed, and taken back where a line is wanted.
-use crate::net::{NONE, Net, at, put_at};
+use crate::net::{NONE, Net, at, number_of, put_at};
 use crate::plan::{Plan, Step};
 use std::alloc::{AllocError, Global};
 
@@ -35,13 +35,25 @@ pub(crate) struct Way {
     pub(crate) order: Order,
 }
 
+// The line of a signal, and how many nodes that are being made need it.
+#[derive(Clone, Copy)]
+struct Standing {
+    line: u8,
+    locks: u32,
+}
+
+const NOWHERE: Standing = Standing {
+    line: NO_LINE,
+    locks: 0,
+};
+
 #[derive(Drop)]
 struct Engine {
     way: Way,
     extra: usize,
-    // Of each signal, its line, and how many nodes that are being made need it.
-    stands: Vec<u8>,
-    locks: Vec<u32>,
+    // of each signal
+    standing: Vec<Standing>,
+    // of each line its signal
     held: Vec<u32>,
     steps: Vec<Step>,
     price: u64,
@@ -52,29 +64,62 @@ struct Engine {
 
 impl Engine {
     fn new(alloc: Global, net: &Net, extra: usize, way: Way) -> Result<Engine, AllocError> {
-        let signals = net.prices.len();
         let first = net.inputs.saturating_add(net.outputs.len());
-        let lines = first.saturating_add(extra);
-        let mut engine = Engine {
+        let standing = vec![in alloc; NOWHERE; net.count()]?;
+        let held = vec![in alloc; NONE; first.saturating_add(extra)]?;
+        Ok(Engine {
             way,
             extra,
-            stands: vec![in alloc; NO_LINE; signals]?,
-            locks: vec![in alloc; 0u32; signals]?,
-            held: vec![in alloc; NONE; lines]?,
+            standing,
+            held,
             steps: Vec::new(alloc),
             price: 0,
             left: u64::MAX,
             used: 0,
-        };
+        })
+    }
+
+    // Puts the inputs on their lines.
+    fn begin(&mut self, net: &Net) {
         for input in 0..net.inputs.min(64) {
-            put_at(&mut engine.stands, input, input as u8);
-            put_at(&mut engine.held, input, input as u32);
+            self.stand(input as u32, input as u8);
+            put_at(&mut self.held, input, input as u32);
         }
-        Ok(engine)
+    }
+
+    fn standing(&self, signal: u32) -> Standing {
+        at(&self.standing, signal as usize, NOWHERE)
+    }
+
+    // A signal stands on a line.
+    fn stand(&mut self, signal: u32, line: u8) {
+        let standing = self.standing(signal);
+        put_at(
+            &mut self.standing,
+            signal as usize,
+            Standing { line, ..standing },
+        );
+    }
+
+    // So many nodes more, or less, need a signal.
+    fn set_locks(&mut self, signal: u32, locks: u32) {
+        let standing = self.standing(signal);
+        put_at(
+            &mut self.standing,
+            signal as usize,
+            Standing { locks, ..standing },
+        );
+    }
+
+    // A step more.
+    fn push(&mut self, step: Step, price: u64) -> Result<(), AllocError> {
+        self.price = self.price.saturating_add(price);
+        self.steps.push(step)?;
+        Ok(())
     }
 
     fn line_of(&self, signal: u32) -> u8 {
-        at(&self.stands, signal as usize, NO_LINE)
+        self.standing(signal).line
     }
 
     fn is_standing(&self, signal: u32) -> bool {
@@ -84,7 +129,7 @@ impl Engine {
     // The input on whose line a node stands.
     fn base_of(&self, net: &Net, signal: u32) -> u32 {
         if self.way.on_inputs {
-            at(&net.bases, signal as usize, NONE)
+            net.base(signal)
         } else {
             NONE
         }
@@ -94,31 +139,59 @@ impl Engine {
         net.cone(signal) & self.left != 0
     }
 
-    // Whether no user waits for a signal.
-    fn is_idle(&self, net: &Net, signal: u32) -> bool {
-        for user in net.users(signal) {
-            if !self.is_standing(*user) && self.is_wanted(net, *user) {
+    // Whether a node that needs a signal waits for it.
+    fn is_awaited(&self, net: &Net, signal: u32) -> bool {
+        let mut place = net.first_user(signal);
+        for _ in 0..net.user_count() {
+            let Some((user, next)) = net.user(place) else {
                 return false;
+            };
+            if !self.is_standing(user) && self.is_wanted(net, user) {
+                return true;
             }
+            place = next;
         }
+        false
+    }
+
+    // Whether a node that needs a signal stands.
+    fn is_used(&self, net: &Net, signal: u32) -> bool {
+        let mut place = net.first_user(signal);
+        for _ in 0..net.user_count() {
+            let Some((user, next)) = net.user(place) else {
+                return false;
+            };
+            if self.is_standing(user) {
+                return true;
+            }
+            place = next;
+        }
+        false
+    }
+
+    // Whether an output that is to be made is this signal.
+    fn is_due(&self, net: &Net, signal: u32) -> bool {
         for p in 0..net.outputs.len() {
             if self.left >> (p % 64) & 1 == 1 && at(&net.outputs, p, NONE) == signal {
-                return false;
+                return true;
             }
         }
-        true
+        false
+    }
+
+    // Whether no user waits for a signal.
+    fn is_idle(&self, net: &Net, signal: u32) -> bool {
+        !self.is_awaited(net, signal) && !self.is_due(net, signal)
     }
 
     // Whether what a node needs stands, beside the input on whose line it is.
     fn can_take_back(&self, net: &Net, signal: u32) -> bool {
-        let base = at(&net.bases, signal as usize, NONE);
+        let base = net.base(signal);
         let needs_base = base != NONE && !self.way.on_inputs;
         if needs_base && !self.is_standing(base) {
             return false;
         }
-        net.chain_needs(signal)
-            .iter()
-            .all(|need| self.is_standing(*need))
+        self.have_needs(net, signal)
     }
 
     // Adds the nodes of a chain to a line, or takes them back.
@@ -140,19 +213,17 @@ impl Engine {
             };
             let node = at(chain, place, NONE);
             let is_last = place.saturating_add(1) >= count;
-            let start = if is_last && !on_base {
-                None
-            } else {
-                at(&net.starts, node as usize, None)
-            };
-            self.steps.push(Step {
+            let step = Step {
                 signal: node,
-                start,
+                start: if is_last && !on_base {
+                    None
+                } else {
+                    net.start(node)
+                },
                 line,
                 is_copy: false,
-            })?;
-            let price = at(&net.prices, node as usize, 0);
-            self.price = self.price.saturating_add(price);
+            };
+            self.push(step, net.price(node))?;
         }
         Ok(())
     }
@@ -161,10 +232,10 @@ impl Engine {
         let base = self.base_of(net, signal);
         let line = self.line_of(signal);
         self.toggle(net, signal, line, base != NONE, true)?;
-        put_at(&mut self.stands, signal as usize, NO_LINE);
+        self.stand(signal, NO_LINE);
         put_at(&mut self.held, usize::from(line), base);
         if base != NONE {
-            put_at(&mut self.stands, base as usize, line);
+            self.stand(base, line);
         }
         Ok(())
     }
@@ -173,17 +244,12 @@ impl Engine {
     fn loss(&self, net: &Net, signal: u32) -> u64 {
         let mut price = 0u64;
         for node in net.chain(signal) {
-            price = price.saturating_add(at(&net.prices, *node as usize, 0));
+            price = price.saturating_add(net.price(*node));
         }
         if !self.is_idle(net, signal) {
             return price.saturating_add(WAITED);
         }
-        let is_dead = !self.is_wanted(net, signal)
-            && net
-                .users(signal)
-                .iter()
-                .all(|user| !self.is_standing(*user));
-        if is_dead {
+        if !self.is_wanted(net, signal) && !self.is_used(net, signal) {
             return 0;
         }
         price.saturating_add(AGAIN)
@@ -200,7 +266,7 @@ impl Engine {
                 self.used = self.used.max(line.saturating_add(1).saturating_sub(first));
                 return Ok(Some(line as u8));
             }
-            let is_locked = at(&self.locks, signal as usize, 0) > 0;
+            let is_locked = self.standing(signal).locks > 0;
             if !is_locked && self.can_take_back(net, signal) {
                 let loss = self.loss(net, signal);
                 if loss < least {
@@ -217,41 +283,58 @@ impl Engine {
         Ok(Some(line))
     }
 
+    // The line of an input, or one that holds nothing; or none.
+    fn line_for(&mut self, net: &Net, base: u32) -> Result<u8, AllocError> {
+        if base != NONE {
+            return Ok(self.line_of(base));
+        }
+        let line = self.free_line(net)?;
+        Ok(line.unwrap_or(NO_LINE))
+    }
+
     fn lock(&mut self, net: &Net, signal: u32) {
         for need in net.chain_needs(signal) {
-            let locks = at(&self.locks, *need as usize, 0);
-            put_at(&mut self.locks, *need as usize, locks.saturating_add(1));
+            let locks = self.standing(*need).locks;
+            self.set_locks(*need, locks.saturating_add(1));
         }
     }
 
     fn unlock(&mut self, net: &Net, signal: u32) {
         for need in net.chain_needs(signal) {
-            let locks = at(&self.locks, *need as usize, 0);
-            put_at(&mut self.locks, *need as usize, locks.saturating_sub(1));
+            let locks = self.standing(*need).locks;
+            self.set_locks(*need, locks.saturating_sub(1));
         }
+    }
+
+    // The heaviest need of a node that doesn't stand.
+    fn next_need(&self, net: &Net, signal: u32) -> u32 {
+        let (mut most, mut next) = (0u32, NONE);
+        for need in net.chain_needs(signal) {
+            if !self.is_standing(*need) && net.weight(*need) >= most {
+                most = net.weight(*need);
+                next = *need;
+            }
+        }
+        next
+    }
+
+    // Whether all that a node needs stands.
+    fn have_needs(&self, net: &Net, signal: u32) -> bool {
+        net.chain_needs(signal)
+            .iter()
+            .all(|need| self.is_standing(*need))
     }
 
     // Makes what a node needs, the heaviest first.
     #[cycle(making)]
     fn make_needs(&mut self, net: &Net, signal: u32, depth: u32) -> Result<bool, AllocError> {
-        let needs = net.chain_needs(signal);
-        for _ in 0..needs.len() {
-            let (mut most, mut next) = (0u32, NONE);
-            for need in needs {
-                if !self.is_standing(*need) && net.weight(*need) >= most {
-                    most = net.weight(*need);
-                    next = *need;
-                }
-            }
+        for _ in 0..net.chain_needs(signal).len() {
+            let next = self.next_need(net, signal);
             if next != NONE && !self.make(net, next, depth)? {
                 return Ok(false);
             }
         }
-        Ok(
-            net.chain_needs(signal)
-                .iter()
-                .all(|need| self.is_standing(*need)),
-        )
+        Ok(self.have_needs(net, signal))
     }
 
     // Makes a signal. `false` where that isn't possible.
@@ -268,24 +351,43 @@ impl Engine {
             return Ok(false);
         }
         let base = self.base_of(net, signal);
-        let line = if base == NONE {
-            match self.free_line(net)? {
-                Some(line) => line,
-                None => return Ok(false),
-            }
-        } else {
-            self.line_of(base)
-        };
+        let line = self.line_for(net, base)?;
         if line == NO_LINE {
             return Ok(false);
         }
         self.toggle(net, signal, line, base != NONE, false)?;
         if base != NONE {
-            put_at(&mut self.stands, base as usize, NO_LINE);
+            self.stand(base, NO_LINE);
         }
         put_at(&mut self.held, usize::from(line), signal);
-        put_at(&mut self.stands, signal as usize, line);
+        self.stand(signal, line);
         self.unlock(net, signal);
+        Ok(true)
+    }
+
+    // Makes an output on its line.
+    fn output_at_once(&mut self, net: &Net, signal: u32, line: u8) -> Result<bool, AllocError> {
+        self.lock(net, signal);
+        if !self.make_needs(net, signal, MOST_DEPTH)? {
+            return Ok(false);
+        }
+        self.unlock(net, signal);
+        self.toggle(net, signal, line, false, false)?;
+        Ok(true)
+    }
+
+    // Makes an output, and copies it to its line.
+    fn output_by_copy(&mut self, net: &Net, signal: u32, line: u8) -> Result<bool, AllocError> {
+        if !self.make(net, signal, MOST_DEPTH)? {
+            return Ok(false);
+        }
+        let copy = Step {
+            signal,
+            start: None,
+            line,
+            is_copy: true,
+        };
+        self.push(copy, 1)?;
         Ok(true)
     }
 
@@ -297,69 +399,82 @@ impl Engine {
         let is_node = signal as usize >= net.inputs;
         let at_once = self.way.direct && self.is_idle(net, signal) || net.is_alias(signal);
         if is_node && at_once && !self.is_standing(signal) {
-            self.lock(net, signal);
-            if !self.make_needs(net, signal, MOST_DEPTH)? {
-                return Ok(false);
-            }
-            self.unlock(net, signal);
-            self.toggle(net, signal, line, false, false)?;
-            return Ok(true);
+            self.output_at_once(net, signal, line)
+        } else {
+            self.output_by_copy(net, signal, line)
         }
-        if !self.make(net, signal, MOST_DEPTH)? {
+    }
+
+    // The last node that stands on a line.
+    fn last_node(&self, net: &Net) -> u32 {
+        let mut last = NONE;
+        for signal in &self.held {
+            let is_node = *signal != NONE && *signal as usize >= net.inputs;
+            if is_node && (last == NONE || *signal > last) {
+                last = *signal;
+            }
+        }
+        last
+    }
+
+    // Takes back a node; what it needs is made before.
+    fn clear(&mut self, net: &Net, signal: u32) -> Result<bool, AllocError> {
+        let own = self.standing(signal).locks;
+        self.set_locks(signal, own.saturating_add(1));
+        self.lock(net, signal);
+        if !self.make_needs(net, signal, MOST_DEPTH)? || self.steps.len() > MOST_STEPS {
             return Ok(false);
         }
-        self.steps.push(Step {
-            signal,
-            start: None,
-            line,
-            is_copy: true,
-        })?;
-        self.price = self.price.saturating_add(1);
+        self.unlock(net, signal);
+        self.set_locks(signal, own);
+        self.take_back(net, signal)?;
         Ok(true)
     }
 
     // Takes back all nodes, the last one first.
     fn clean(&mut self, net: &Net) -> Result<bool, AllocError> {
         for _ in 0..MOST_STEPS {
-            let mut last = NONE;
-            for line in 0..self.held.len() {
-                let signal = at(&self.held, line, NONE);
-                if signal != NONE
-                    && signal as usize >= net.inputs
-                    && (last == NONE || signal > last)
-                {
-                    last = signal;
-                }
-            }
+            let last = self.last_node(net);
             if last == NONE {
                 return Ok(true);
             }
-            let own = at(&self.locks, last as usize, 0);
-            put_at(&mut self.locks, last as usize, own.saturating_add(1));
-            self.lock(net, last);
-            if !self.make_needs(net, last, MOST_DEPTH)? || self.steps.len() > MOST_STEPS {
+            if !self.clear(net, last)? {
                 return Ok(false);
             }
-            self.unlock(net, last);
-            put_at(&mut self.locks, last as usize, own);
-            self.take_back(net, last)?;
         }
         Ok(false)
     }
+
+    // Makes the outputs, and takes back all nodes.
+    fn run(&mut self, net: &Net, places: &[usize]) -> Result<bool, AllocError> {
+        self.begin(net);
+        for p in places {
+            if !self.output(net, *p)? {
+                return Ok(false);
+            }
+        }
+        self.clean(net)
+    }
 }
 
-// The outputs in an order.
+// By what the place of an output is sorted.
+fn key_of(net: &Net, order: Order, p: usize) -> u32 {
+    let weight = net.weight(at(&net.outputs, p, NONE));
+    match order {
+        Order::First => number_of(p),
+        Order::Last => u32::MAX - number_of(p),
+        Order::Light => weight,
+        Order::Heavy => u32::MAX - weight,
+    }
+}
+
+// The places of the outputs in an order.
 fn ordered(alloc: Global, net: &Net, order: Order) -> Result<Vec<usize>, AllocError> {
     let mut places = Vec::new(alloc);
     for p in 0..net.outputs.len() {
         places.push(p)?;
     }
-    match order {
-        Order::First => {}
-        Order::Last => places.reverse(),
-        Order::Light => places.sort_by_key(|p| net.weight(at(&net.outputs, *p, NONE)))?,
-        Order::Heavy => places.sort_by_key(|p| u32::MAX - net.weight(at(&net.outputs, *p, NONE)))?,
-    }
+    places.sort_by_key(|p| key_of(net, order, *p))?;
     Ok(places)
 }
 
@@ -372,12 +487,7 @@ pub(crate) fn plan_of(
 ) -> Result<Option<Plan>, AllocError> {
     let places = ordered(alloc, net, way.order)?;
     let mut engine = Engine::new(alloc, net, usize::from(extra), way)?;
-    for p in &places {
-        if !engine.output(net, *p)? {
-            return Ok(None);
-        }
-    }
-    if !engine.clean(net)? {
+    if !engine.run(net, &places)? {
         return Ok(None);
     }
     Ok(Some(Plan {
