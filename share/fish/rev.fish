@@ -1,12 +1,13 @@
 # fish completion for rev: copy this file to ~/.config/fish/completions/
 # >>> fish
-set -l commands embed esop compute synth single templates resynth decompose route compare simulate draw map fold reduce check toreal cost flow demo
+set -l commands embed esop compute synth single optimal templates resynth decompose route compare simulate draw map fold reduce check toreal cost flow demo
 complete -c rev -n "not __fish_seen_subcommand_from $commands" -f
 complete -c rev -n "not __fish_seen_subcommand_from $commands" -a embed -d 'a permutation that gives a function, on few lines'
 complete -c rev -n "not __fish_seen_subcommand_from $commands" -a esop -d 'a cascade that adds a function, or its sum of products'
 complete -c rev -n "not __fish_seen_subcommand_from $commands" -a compute -d 'a circuit for a logic network, found by a search'
 complete -c rev -n "not __fish_seen_subcommand_from $commands" -a synth -d 'a circuit that computes a permutation'
 complete -c rev -n "not __fish_seen_subcommand_from $commands" -a single -d 'a circuit of single-target gates that computes a permutation'
+complete -c rev -n "not __fish_seen_subcommand_from $commands" -a optimal -d 'a circuit with the fewest gates, for a permutation of up to four lines'
 complete -c rev -n "not __fish_seen_subcommand_from $commands" -a templates -d 'a circuit simplified by pairs and templates'
 complete -c rev -n "not __fish_seen_subcommand_from $commands" -a resynth -d 'a circuit that does the same and is no dearer, found by a search'
 complete -c rev -n "not __fish_seen_subcommand_from $commands" -a decompose -d 'a circuit of NOT, CNOT and Toffoli gates that does the same'
@@ -28,6 +29,7 @@ complete -c rev -n '__fish_seen_subcommand_from compare' -l from -x -a 'real pla
 complete -c rev -n '__fish_seen_subcommand_from esop' -l to -x -a 'real pla' -d 'the form that is written'
 complete -c rev -n '__fish_seen_subcommand_from synth' -l method -x -a 'best out both' -d 'how the gates are found'
 complete -c rev -n '__fish_seen_subcommand_from flow' -l method -x -a 'best out both single' -d 'how the circuit is found: by transformations, or by single-target gates'
+complete -c rev -n '__fish_seen_subcommand_from optimal' -l gates -x -a 'mct mpmct' -d 'the gates of the circuit: Toffoli gates with positive controls, or with controls of both kinds'
 complete -c rev -n '__fish_seen_subcommand_from templates' -l library -r -F -d 'a circuit that is one more template, after the built-in ones'
 complete -c rev -n '__fish_seen_subcommand_from flow' -l simplify -d 'the circuit is simplified by pairs and the built-in templates before it is decomposed'
 complete -c rev -n '__fish_seen_subcommand_from map flow' -l blocks -x -a 'exact relative toffoli near' -d 'blocks of their own for each gate, blocks whose phases cancel, the Toffoli gates themselves, or blocks with CNOT between neighbours'

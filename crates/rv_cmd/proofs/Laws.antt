@@ -10,6 +10,7 @@ pub mod Esop
 pub mod Flow
 pub mod Fold
 pub mod Map
+pub mod Optimal
 pub mod Reduce
 pub mod Resynth
 pub mod Route

@@ -11,6 +11,7 @@ pub mod Esop
 pub mod Flow
 pub mod Fold
 pub mod Map
+pub mod Optimal
 pub mod Reduce
 pub mod Resynth
 pub mod Route
@@ -35,6 +36,7 @@ use Rattle.rv_cmd.specs.Commands.Esop.{esop_row}
 use Rattle.rv_cmd.specs.Commands.Flow.{flow_row, flow_synthesis}
 use Rattle.rv_cmd.specs.Commands.Fold.{fold_row}
 use Rattle.rv_cmd.specs.Commands.Map.{map_row}
+use Rattle.rv_cmd.specs.Commands.Optimal.{optimal_row}
 use Rattle.rv_cmd.specs.Commands.Reduce.{reduce_row}
 use Rattle.rv_cmd.specs.Commands.Resynth.{resynth_goal, resynth_row}
 use Rattle.rv_cmd.specs.Commands.Route.{route_row}
@@ -66,6 +68,7 @@ row_for command.Draw s = reads_first (draw_row s.origin s.picture s.wrap)
 row_for command.Compare s = reads_first (compare_row s.origin s.all)
 row_for command.Resynth s = reads_first (resynth_row (resynth_goal s.goal) s.marks)
 row_for command.Compute s = reads_first (compute_row s.lines)
+row_for command.Optimal s = reads_first (optimal_row s.gates)
 
 abbrev pub row_of : Settings → Row
 row_of settings = row_for settings.command settings

@@ -17,6 +17,7 @@ pub(crate) mod esop;
 pub(crate) mod flow;
 pub(crate) mod fold;
 pub(crate) mod map;
+pub(crate) mod optimal;
 pub(crate) mod reduce;
 pub(crate) mod resynth;
 pub(crate) mod route;
@@ -68,5 +69,6 @@ pub(crate) fn make<F: Files>(
         Command::Compare => compare::compare(alloc, settings, files),
         Command::Resynth => resynth::resynth(alloc, settings, files),
         Command::Compute => compute::compute(alloc, settings, files),
+        Command::Optimal => optimal::optimal(alloc, settings, files),
     }
 }

@@ -158,6 +158,7 @@ mod functions;
 mod limits;
 mod made;
 mod one_pass;
+mod optimal;
 mod reduce;
 mod route;
 mod searches;

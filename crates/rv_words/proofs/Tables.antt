@@ -3,7 +3,7 @@ use Rattle.std.proofs.Common.{◌≡◌, [], ◌∷◌, Err, None, Some, refl, c
 use Rattle.clap.proofs.OnLiterals.{clap_on_literals}
 use Rattle.rv_words.specs.declared.command.Command.TheVariants.{Synth, Embed, Esop, Decompose, Map, Simulate, Demo, Fold, Check, Single, Route}
 use Rattle.rv_words.specs.declared.fault.ArgumentFault.TheVariants.{NotUnderstood, UnknownCommand, NotUsed, BadValue, InputCount, TwiceStandard}
-use Rattle.rv_words.specs.declared.options.TheConstants.{METHOD, TO, FROM, AUX, LINES, SEED, ALL, GOAL, EFFORT, BLOCKS, AS}
+use Rattle.rv_words.specs.declared.options.TheConstants.{METHOD, TO, FROM, AUX, LINES, SEED, ALL, GOAL, EFFORT, BLOCKS, AS, GATES}
 use Rattle.rv_words.specs.Line.{value_of, line, refusal}
 use Rattle.rv_words.specs.Values.{number_in, values_in}
 use Rattle.rv_words.specs.Settings.{read, read_by, settings_of}
@@ -151,6 +151,10 @@ unknown_blocks = refl
 unknown_picture : settings_of (codes "draw" ∷ codes "--as" ∷ codes "pdf" ∷ []) ≡ Err (BadValue AS)
 unfolding settings_of read read_by values_in refusal value_of line clap_on_literals
 unknown_picture = refl
+
+unknown_gates : settings_of (codes "optimal" ∷ codes "--gates" ∷ codes "ncv" ∷ []) ≡ Err (BadValue GATES)
+unfolding settings_of read read_by values_in refusal value_of line clap_on_literals
+unknown_gates = refl
 
 -- ---- numbers
 

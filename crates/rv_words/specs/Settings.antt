@@ -53,6 +53,7 @@ read_inputs command g values =
       marks = is_flag_given g (codes "marks");
       blocks = values.blocks;
       picture = values.picture;
+      gates = values.gates;
     }))
 
 abbrev pub read_by_values : Command → Given → Result Values ℕ → Result Settings ArgumentFault

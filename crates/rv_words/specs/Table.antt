@@ -3,8 +3,8 @@ use Rattle.std.specs.Prelude.{ℕ, Bool, false, List, [], ◌∷◌, ◌==◌, �
 use Rattle.std.specs.List.{list_any}
 use Rattle.std.specs.Str.{bytes_eq}
 use Rattle.rv_words.specs.declared.command.Command.{Command}
-use Rattle.rv_words.specs.declared.command.Command.TheVariants.{Synth, Embed, Esop, Templates, Decompose, Map, Cost, Simulate, ToReal, Flow, Demo, Fold, Reduce, Check, Single, Route, Draw, Compare, Resynth, Compute}
-use Rattle.rv_words.specs.declared.options.TheConstants.{METHOD, TO, FROM, LIBRARY, AUX, LINES, SEED, ALL, SIMPLIFY, WRAP, GOAL, EFFORT, MARKS, BLOCKS, AS}
+use Rattle.rv_words.specs.declared.command.Command.TheVariants.{Synth, Embed, Esop, Templates, Decompose, Map, Cost, Simulate, ToReal, Flow, Demo, Fold, Reduce, Check, Single, Route, Draw, Compare, Resynth, Compute, Optimal}
+use Rattle.rv_words.specs.declared.options.TheConstants.{METHOD, TO, FROM, LIBRARY, AUX, LINES, SEED, ALL, SIMPLIFY, WRAP, GOAL, EFFORT, MARKS, BLOCKS, AS, GATES}
 
 -- a command's name, how many inputs it takes at the least and at the most, and the places of the options that it uses
 pub record Usage : Type 0 where
@@ -37,12 +37,13 @@ usage_of Draw = row (codes "draw") 0 1 (FROM ∷ WRAP ∷ AS ∷ [])
 usage_of Compare = row (codes "compare") 1 2 (FROM ∷ ALL ∷ [])
 usage_of Resynth = row (codes "resynth") 0 1 (GOAL ∷ EFFORT ∷ SEED ∷ MARKS ∷ [])
 usage_of Compute = row (codes "compute") 0 1 (LINES ∷ [])
+usage_of Optimal = row (codes "optimal") 0 1 (GATES ∷ [])
 
 abbrev pub commands : List Command
 commands =
     Synth ∷ Embed ∷ Esop ∷ Templates ∷ Decompose ∷ Map ∷ Cost ∷ Simulate ∷ ToReal ∷ Flow ∷ Demo ∷ Fold ∷ Reduce ∷ Check
     ∷ Single ∷ Route ∷ Draw
-    ∷ Compare ∷ Resynth ∷ Compute ∷ []
+    ∷ Compare ∷ Resynth ∷ Compute ∷ Optimal ∷ []
 
 -- the command of this name
 abbrev pub command_of : List ℕ → Option Command

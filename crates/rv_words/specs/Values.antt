@@ -9,6 +9,8 @@ use Rattle.rv_words.specs.declared.choice.TheConstants.{MOST_EFFORT}
 use Rattle.rv_tbs.specs.declared.method.Method.TheVariants.{Best, Out, Both}
 use Rattle.rv_mct.specs.declared.aux.Aux.{Aux}
 use Rattle.rv_mct.specs.declared.aux.Aux.TheVariants.{Borrowed, Clean}
+use Rattle.rv_optimal.specs.declared.library.Library.{Library}
+use Rattle.rv_optimal.specs.declared.library.Library.TheVariants.{Mixed, Positive}
 use Rattle.rv_words.specs.declared.command.Command.{Command}
 use Rattle.rv_words.specs.declared.command.Command.TheVariants.{Compare, Compute, Esop, Flow, Resynth}
 use Rattle.rv_words.specs.declared.command.Blocks.{Blocks}
@@ -21,7 +23,7 @@ use Rattle.rv_words.specs.declared.command.PictureForm.{PictureForm}
 use Rattle.rv_words.specs.declared.command.PictureForm.TheVariants.{Text, Svg, Latex}
 use Rattle.rv_words.specs.declared.command.Form.{Form}
 use Rattle.rv_words.specs.declared.command.Form.TheVariants.{Real, Pla, Qasm, Perm, Blif}
-use Rattle.rv_words.specs.declared.options.TheConstants.{METHOD, TO, FROM, AUX, LINES, SEED, WRAP, GOAL, EFFORT, BLOCKS, AS}
+use Rattle.rv_words.specs.declared.options.TheConstants.{METHOD, TO, FROM, AUX, LINES, SEED, WRAP, GOAL, EFFORT, BLOCKS, AS, GATES}
 use Rattle.rv_words.specs.Given.{Given}
 
 -- `flow` also takes single-target gates, which `synth` leaves to `single`
@@ -115,6 +117,12 @@ picture_of value =
     else (if bytes_eq value (codes "latex") then Some Latex
     else None))
 
+abbrev pub gates_of : List ℕ → Option Library
+gates_of value =
+    if bytes_eq value (codes "mct") then Some Positive
+    else (if bytes_eq value (codes "mpmct") then Some Mixed
+    else None)
+
 -- the number of one to five decimal digits
 abbrev pub number_written : List ℕ → Option ℕ
 number_written text = if is_short_decimal 5 text then Some (decimal_value text) else None
@@ -179,6 +187,9 @@ blocks_in g = chosen BLOCKS Exact blocks_of (g (codes "blocks"))
 abbrev pub picture_in : Given → Result PictureForm ℕ
 picture_in g = chosen AS Text picture_of (g (codes "as"))
 
+abbrev pub gates_in : Given → Result Library ℕ
+gates_in g = chosen GATES Positive gates_of (g (codes "gates"))
+
 -- the values of the options that take one of a list or a range
 pub record Values : Type 0 where
   pub method : Synthesis
@@ -192,6 +203,7 @@ pub record Values : Type 0 where
   pub effort : ℕ
   pub blocks : Blocks
   pub picture : PictureForm
+  pub gates : Library
 
 -- all values, or the place of the first that is bad
 unfoldable pub values_in : Command → Given → Result Values ℕ
@@ -207,6 +219,7 @@ values_in command g = do
   effort ← effort_in command g
   blocks ← blocks_in g
   picture ← picture_in g
+  gates ← gates_in g
   Ok (record {
     method = method;
     to = to;
@@ -219,4 +232,5 @@ values_in command g = do
     effort = effort;
     blocks = blocks;
     picture = picture;
+    gates = gates;
   })

@@ -2,17 +2,18 @@
 ghost use Rattle.std.specs.Prelude.{◌≡◌, IfOk};
 ghost use Rattle.clap.specs.Matches.{first_value, found_of};
 ghost use Rattle.rv_words.specs.Values.{IsLineCount, aux_in, aux_of, blocks_in, blocks_of, effort_in, form_to};
-ghost use Rattle.rv_words.specs.Values.{form_from};
+ghost use Rattle.rv_words.specs.Values.{form_from, gates_in, gates_of};
 ghost use Rattle.rv_words.specs.Values.{goal_in, goal_of, lines_in, method_in, most_lines, picture_in, picture_of};
 ghost use Rattle.rv_words.specs.Values.{usual_effort, usual_goal, usual_lines, usual_seed};
 ghost use Rattle.rv_words.specs.Values.{method_of, origin_in, seed_in, to_in, usual_form, values_in, wrap_in};
 
 use crate::number::number_in;
-use crate::options::{AS, AUX, BLOCKS, EFFORT, FROM, GOAL, LINES, METHOD, SEED, TO, WRAP};
+use crate::options::{AS, AUX, BLOCKS, EFFORT, FROM, GATES, GOAL, LINES, METHOD, SEED, TO, WRAP};
 use crate::{Blocks, Command, Form, Goal, PictureForm, Synthesis};
 use clap::ArgMatches;
 use rv_gate::MOST_LINES;
 use rv_mct::Aux;
+use rv_optimal::Library;
 use rv_perm::MOST_DEMO_LINES;
 use rv_tbs::Method;
 use std::marker::Model;
@@ -34,6 +35,7 @@ pub(crate) struct Values {
     pub(crate) effort: u16,
     pub(crate) blocks: Blocks,
     pub(crate) picture: PictureForm,
+    pub(crate) gates: Library,
 }
 
 impl Model for Values {
@@ -53,6 +55,7 @@ impl Model for Values {
       effort = v.effort;
       blocks = v.blocks;
       picture = v.picture;
+      gates = v.gates;
     } };
 }
 
@@ -196,6 +199,16 @@ fn picture_of(value: &str) -> Option<PictureForm>
     }
 }
 
+fn gates_of(value: &str) -> Option<Library>
+    ensures { result ≡ gates_of value.now }
+{
+    match value {
+        "mct" => Some(Library::Positive),
+        "mpmct" => Some(Library::Mixed),
+        _ => None,
+    }
+}
+
 fn method_in(matches: &ArgMatches<'_>, command: Command) -> Result<Synthesis, u8>
     ensures { result ≡ method_in command (first_value (found_of matches.now)) }
 {
@@ -322,6 +335,15 @@ fn picture_in(matches: &ArgMatches<'_>) -> Result<PictureForm, u8>
     }
 }
 
+fn gates_in(matches: &ArgMatches<'_>) -> Result<Library, u8>
+    ensures { result ≡ gates_in (first_value (found_of matches.now)) }
+{
+    match matches.get_str("gates") {
+        Some(value) => gates_of(value).ok_or(GATES),
+        None => Ok(Library::Positive),
+    }
+}
+
 // All values, or the place of the first that is bad.
 #[tactic(auto, unfolding(crate::specs::Values::values_in))]
 pub(crate) fn values_in(matches: &ArgMatches<'_>, command: Command) -> Result<Values, u8>
@@ -340,5 +362,6 @@ pub(crate) fn values_in(matches: &ArgMatches<'_>, command: Command) -> Result<Va
         effort: effort_in(matches, command)?,
         blocks: blocks_in(matches)?,
         picture: picture_in(matches)?,
+        gates: gates_in(matches)?,
     })
 }

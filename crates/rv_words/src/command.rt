@@ -5,7 +5,7 @@ ghost use Rattle.std.specs.Str.{bytes_eq};
 ghost use Rattle.rv_words.specs.Table.{command_of, is_used, needs_goal, usage_of};
 
 use crate::options::{
-    ALL, AS, AUX, BLOCKS, EFFORT, FROM, GOAL, LIBRARY, LINES, MARKS, METHOD, SEED, SIMPLIFY, TO,
+    ALL, AS, AUX, BLOCKS, EFFORT, FROM, GATES, GOAL, LIBRARY, LINES, MARKS, METHOD, SEED, SIMPLIFY, TO,
     WRAP,
 };
 use rv_tbs::Method;
@@ -54,6 +54,8 @@ pub enum Command {
     Resynth,
     /// Writes a circuit that adds what a logic network computes to its outputs, found by a search.
     Compute,
+    /// Writes a circuit that computes a permutation, and than which none has fewer gates.
+    Optimal,
 }
 
 // A command's name, how many inputs it takes at the least and at the most, and the options that it uses.
@@ -107,10 +109,11 @@ pub(crate) fn usage_of(command: Command) -> Usage
         Command::Compare => row("compare", 1, 2, &[FROM, ALL]),
         Command::Resynth => row("resynth", 0, 1, &[GOAL, EFFORT, SEED, MARKS]),
         Command::Compute => row("compute", 0, 1, &[LINES]),
+        Command::Optimal => row("optimal", 0, 1, &[GATES]),
     }
 }
 
-static COMMANDS: [Command; 20] = [
+static COMMANDS: [Command; 21] = [
     Command::Synth,
     Command::Embed,
     Command::Esop,
@@ -131,6 +134,7 @@ static COMMANDS: [Command; 20] = [
     Command::Compare,
     Command::Resynth,
     Command::Compute,
+    Command::Optimal,
 ];
 
 // The command of this name.

@@ -32,9 +32,11 @@ pub(crate) const BLOCKS: u8 = 13;
 
 pub(crate) const AS: u8 = 14;
 
-pub(crate) static PLACES: [u8; 15] = [
+pub(crate) const GATES: u8 = 15;
+
+pub(crate) static PLACES: [u8; 16] = [
     METHOD, TO, FROM, LIBRARY, AUX, LINES, SEED, ALL, SIMPLIFY, WRAP, GOAL, EFFORT, MARKS, BLOCKS,
-    AS,
+    AS, GATES,
 ];
 
 /// What the option at a place is called.
@@ -56,7 +58,8 @@ pub fn option_name(place: u8) -> &'static str
         EFFORT => "effort",
         MARKS => "marks",
         BLOCKS => "blocks",
-        _ => "as",
+        AS => "as",
+        _ => "gates",
     }
 }
 

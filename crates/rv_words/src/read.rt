@@ -118,6 +118,7 @@ fn read_inputs(
         marks: is_flag_given(matches, "marks"),
         blocks: values.blocks,
         picture: values.picture,
+        gates: values.gates,
     })
 }
 

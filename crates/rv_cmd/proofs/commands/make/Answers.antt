@@ -55,6 +55,9 @@ pub compute-requires-clause-lines : goal.compute-requires-clause-lines
 compute-requires-clause-lines g c =
     let Few : Command → Type 0 = λ doing. IsLineCount doing c.args.settings.now.lines in (subst Few c.in-Compute.is c.requires.asked.lines).1
 
+pub optimal-requires : goal.optimal-requires
+optimal-requires g c = names_read-by c.args.settings.now command.Optimal c.requires.asked c.in-Optimal.is refl
+
 pub cost-requires : goal.cost-requires
 cost-requires g c = names_read-by c.args.settings.now command.Cost c.requires.asked c.in-Cost.is refl
 
