@@ -235,3 +235,53 @@ fn a_circuit_is_compared_with_a_logic_network(rt: HostRuntime) {
     ];
     expect_compares(&rt, rt.alloc(), "compare --from blif c.real other", &CASES);
 }
+
+// Nodes that are written before their operands, rows that end with 0, constants, an input that is passed on, lines that
+// go on, returns, and what comes after the end.
+#[test]
+fn a_logic_network_gives_what_its_covers_say(rt: HostRuntime) {
+    const SUMS: &str = written!(
+        5,
+        "a b c s m",
+        "---00",
+        "111--",
+        "t3 a b m\nt2 a b\nt3 b c m\nt2 a b\nt2 a s\nt2 b s\nt2 c s\n"
+    );
+    const ADDER: &str = concat!(
+        "# adder\n.model add\n.inputs a b \\\nc\n.outputs s\n.outputs d\n.names p c s\n10 1\n01 1\n",
+        ".names a b p\n11 0\n00 0\n.names a b c d\n11- 1\n1-1 1\n-11 1\n.end\nrest\n"
+    );
+    // C17 of ISCAS, with two of its inputs at 0.
+    const C17: &str = concat!(
+        ".model c17\n.inputs 1 2 3\n.outputs 22 23\n.names 6\n.names 7\n.names 1 3 10\n11 0\n.names 3 6 11\n",
+        "11 0\n.names 2 11 16\n11 0\n.names 11 7 19\n11 0\n.names 10 16 22\n11 0\n.names 16 19 23\n11 0\n.end\n"
+    );
+    const CASES: [(&str, &str, u8, &str); 4] = [
+        (SUMS, ADDER, 0, "same\n"),
+        (
+            written!(6, "a b c o z d", "---000", "111---", "t1 o\nt2 a d\n"),
+            ".inputs a b c\n.outputs o z a\n.names o\n1\n.names z\n",
+            0,
+            "same\n",
+        ),
+        (
+            written!(4, "a b c y", "---0", "111-", "t2 -a y\n"),
+            ".inputs a b c\r\n.outputs \\\r\ny\r\n.names a y\r\n0 1\r\n",
+            0,
+            "same\n",
+        ),
+        (
+            written!(
+                5,
+                "a b c p q",
+                "---00",
+                "111--",
+                "t2 b p\nt4 a -b c p\nt2 b q\n"
+            ),
+            C17,
+            0,
+            "same\n",
+        ),
+    ];
+    expect_compares(&rt, rt.alloc(), "compare --from blif c.real other", &CASES);
+}

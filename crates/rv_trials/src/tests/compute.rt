@@ -116,7 +116,7 @@ fn a_circuit_with_work_lines_gives_the_network(rt: HostRuntime) {
 // The line is that of the first fault.
 #[test]
 fn a_text_that_denotes_no_network_is_refused(rt: HostRuntime) {
-    const CASES: [(&str, &str, u8, &str); 23] = [
+    const CASES: [(&str, &str, u8, &str); 31] = [
         ("compute", over!("s", ".latch a s\n"), 3, "-:4: latch"),
         ("compute", over!("s", ".mlatch a s\n"), 3, "-:4: latch"),
         (
@@ -214,6 +214,19 @@ fn a_text_that_denotes_no_network_is_refused(rt: HostRuntime) {
             over!("s", ".names a t s\n11 1\n.names s t\n1 1\n"),
             3,
             "-:4: cycle",
+        ),
+        ("compute", ".names\n", 3, "-:1: missing name"),
+        ("compute", ".inputs a a\n", 3, "-:1: driven twice"),
+        ("compute", ".inputs a\n.names a a\n", 3, "-:2: driven twice"),
+        ("compute", "11 1\n", 3, "-:1: row out of place"),
+        ("compute", ".names a b c\n1 1\n", 3, "-:2: wrong row length"),
+        ("compute", ".inputs a\n", 3, "-:1: no outputs"),
+        ("compute", "\n.outputs y\n", 3, "-:2: never driven"),
+        (
+            "compute",
+            ".outputs y\n.names x y\n1 1\n.names y x\n1 1\n",
+            3,
+            "-:2: cycle",
         ),
     ];
     expect_each(&rt, rt.alloc(), &CASES);
