@@ -19,8 +19,6 @@ mod placing;
 mod port;
 mod product;
 mod row;
-#[cfg(test)]
-mod tests;
 
 pub use fault::BlifFault;
 pub use logic::{Logic, MOST_SIGNALS};

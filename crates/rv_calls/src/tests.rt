@@ -1,4 +1,6 @@
 // Public calls of the libraries, a file of tests for each of them.
+// Where memory is wanting a helper ends the test, and answers no error: a `?` beside objects that need dropping is dear
+// to prove, in each function that it stands in.
 use rv_gate::{Circuit, Gate, MOST_LINES, Names};
 use rv_reader::TextReader;
 use std::alloc::Global;
@@ -18,6 +20,11 @@ mod real_texts;
 mod simulation;
 mod templates;
 mod tokens;
+
+// It is so, by what is named. One small function, since what an assertion prints is dear to prove.
+fn expect_true(rt: &impl Abort, name: &str, is_so: bool) {
+    assert!(rt; is_so, "{name}");
+}
 
 // What a text denotes, or its first fault.
 fn read<R: TextReader>(rt: &impl Abort, alloc: Global, text: &[u8]) -> Result<R::Object, R::Fault> {
@@ -53,8 +60,7 @@ fn circuit_of(rt: &impl Abort, alloc: Global, lines: u8, gates: &[Gate], times: 
     let mut circuit = Circuit::new(names).expect(rt, "a circuit");
     for _ in 0..times {
         for gate in gates {
-            assert!(rt; gate.fits(circuit.line_count()));
-            assert!(rt; circuit.push(*gate).is_ok());
+            push(rt, &mut circuit, *gate);
         }
     }
     circuit

@@ -1,10 +1,11 @@
 // Whole runs over files and sinks in memory: tables of what is typed, what the inputs hold, and how the run ends. A
 // table is a constant of texts and numbers, since its proof is short then, however many rows it has.
+// Where memory is wanting a helper ends the test, and answers no error: a `?` beside objects that need dropping is dear
+// to prove, in each function that it stands in.
 use rv_cmd::run;
 use rv_io::{MemFiles, MemSink};
 use std::alloc::Global;
 use std::process::Abort;
-use std::test::Fail;
 
 // A circuit as one types it, by the number of its lines, their names and its gates.
 macro_rules! typed {
@@ -213,60 +214,97 @@ struct Ended {
     errs: MemSink,
 }
 
+fn push_word(rt: &impl Abort, alloc: Global, words: &mut Vec<String>, word: &str) {
+    let word = String::from_str(alloc, word).expect(rt, "memory");
+    words.push(word).expect(rt, "memory");
+}
+
 // The words of a command line, apart by blanks. An empty word is typed as two quotes.
-fn words_of(alloc: Global, typed: &str) -> Result<Vec<String>, Fail> {
+fn words_of(rt: &impl Abort, alloc: Global, typed: &str) -> Vec<String> {
     let mut words = Vec::new(alloc);
     for word in typed.split_whitespace() {
-        let word = if word == "''" { "" } else { word };
-        words.push(String::from_str(alloc, word)?)?;
+        push_word(rt, alloc, &mut words, if word == "''" { "" } else { word });
     }
-    Ok(words)
+    words
+}
+
+fn push_text(rt: &impl Abort, text: &mut String, part: &str) {
+    text.push_str(part).expect(rt, "memory");
+}
+
+// A number after a text.
+fn push_number(rt: &impl Abort, alloc: Global, text: &mut String, before: &str, number: u32) {
+    let part = format!(in alloc; "{before}{number}").expect(rt, "memory");
+    push_text(rt, text, &part);
 }
 
 // The names x0, x1 and so on, so many, apart by spaces.
-fn names(alloc: Global, count: u32) -> Result<String, Fail> {
-    let mut names = String::from_str(alloc, "x0")?;
+fn names(rt: &impl Abort, alloc: Global, count: u32) -> String {
+    let mut names = String::new(alloc);
+    push_text(rt, &mut names, "x0");
     for line in 1..count {
-        names.push_str(&format!(in alloc; " x{line}")?)?;
+        push_number(rt, alloc, &mut names, " x", line);
     }
-    Ok(names)
+    names
 }
 
 // A circuit as one types it on so many lines, by its gates.
-fn circuit_on(alloc: Global, lines: u32, gates: &str) -> Result<String, Fail> {
-    let names = names(alloc, lines)?;
-    Ok(format!(in alloc; ".numvars {lines}\n.variables {names}\n.begin\n{gates}.end\n")?)
+fn circuit_on(rt: &impl Abort, alloc: Global, lines: u32, gates: &str) -> String {
+    let names = names(rt, alloc, lines);
+    let mut circuit = String::new(alloc);
+    push_number(rt, alloc, &mut circuit, ".numvars ", lines);
+    push_text(rt, &mut circuit, "\n.variables ");
+    push_text(rt, &mut circuit, &names);
+    push_text(rt, &mut circuit, "\n.begin\n");
+    push_text(rt, &mut circuit, gates);
+    push_text(rt, &mut circuit, ".end\n");
+    circuit
+}
+
+fn append(rt: &impl Abort, text: &mut Vec<u8>, part: &[u8]) {
+    text.extend_from_slice(part).expect(rt, "memory");
 }
 
 // A text of a part so many times over, between a first and a last part.
 fn repeated(
+    rt: &impl Abort,
     alloc: Global,
     first: &[u8],
     part: &[u8],
     count: usize,
     last: &[u8],
-) -> Result<Vec<u8>, Fail> {
-    let mut text = Vec::from_slice(alloc, first)?;
+) -> Vec<u8> {
+    let mut text = Vec::new(alloc);
+    append(rt, &mut text, first);
     for _ in 0..count {
-        text.extend_from_slice(part)?;
+        append(rt, &mut text, part);
     }
-    text.extend_from_slice(last)?;
-    Ok(text)
+    append(rt, &mut text, last);
+    text
 }
 
-fn file_of(alloc: Global, name: &str, text: &[u8]) -> Result<MemFiles, Fail> {
+// An output or an error output with so much room.
+fn sink_of(rt: &impl Abort, alloc: Global, room: u32) -> MemSink {
+    MemSink::new(alloc, room).expect(rt, "memory")
+}
+
+fn add_file(rt: &impl Abort, files: &mut MemFiles, name: &str, text: &[u8]) {
+    files.add(name, text).expect(rt, "memory");
+}
+
+fn file_of(rt: &impl Abort, alloc: Global, name: &str, text: &[u8]) -> MemFiles {
     let mut files = MemFiles::new(alloc);
-    files.add(name, text)?;
-    Ok(files)
+    add_file(rt, &mut files, name, text);
+    files
 }
 
 // What a name holds.
 type Input<'a> = (&'a str, &'a [u8]);
 
-fn files_of(alloc: Global, first: Input, second: Input) -> Result<MemFiles, Fail> {
-    let mut files = file_of(alloc, first.0, first.1)?;
-    files.add(second.0, second.1)?;
-    Ok(files)
+fn files_of(rt: &impl Abort, alloc: Global, first: Input, second: Input) -> MemFiles {
+    let mut files = file_of(rt, alloc, first.0, first.1);
+    add_file(rt, &mut files, second.0, second.1);
+    files
 }
 
 // Runs words over files and sinks in memory. It says nothing of the run, so that no caller has to read its contract.
@@ -282,62 +320,60 @@ fn run_words(
 
 // Runs what is typed over these files and this output.
 fn end_of(
+    rt: &impl Abort,
     alloc: Global,
     typed: &str,
     files: &mut MemFiles,
     mut out: MemSink,
-) -> Result<Ended, Fail> {
-    let words = words_of(alloc, typed)?;
-    let mut errs = MemSink::new(alloc, 100)?;
+) -> Ended {
+    let words = words_of(rt, alloc, typed);
+    let mut errs = sink_of(rt, alloc, 100);
     let status = run_words(alloc, &words, files, &mut out, &mut errs);
-    Ok(Ended { status, out, errs })
+    Ended { status, out, errs }
+}
+
+// These are one small function each, since what an assertion prints is dear to prove.
+fn expect_same(rt: &impl Abort, words: &str, got: &[u8], want: &[u8]) {
+    assert_eq!(rt; got, want, "{words}");
+}
+
+fn expect_status(rt: &impl Abort, words: &str, got: u8, want: u8) {
+    assert_eq!(rt; got, want, "{words}");
+}
+
+fn expect_true(rt: &impl Abort, words: &str, is_so: bool) {
+    assert!(rt; is_so, "{words}");
 }
 
 // What was reported is this line, or nothing if there is none.
-fn expect_line(rt: &impl Abort, words: &str, errs: &[u8], line: &str) {
-    if line.is_empty() {
-        assert_eq!(rt; errs, b"".as_slice(), "{words}");
-        return;
+fn is_report(errs: &[u8], line: &[u8]) -> bool {
+    match errs.strip_prefix(b"rev: ") {
+        Some(told) => !line.is_empty() && told.strip_suffix(b"\n") == Some(line),
+        None => line.is_empty() && errs.is_empty(),
     }
-    let (first, rest) = errs.split_at(errs.len().min(5));
-    let (told, end) = rest.split_at(rest.len().saturating_sub(1));
-    assert_eq!(rt; told, line.as_bytes(), "{words}");
-    assert_eq!(rt; (first, end), (b"rev: ".as_slice(), b"\n".as_slice()));
+}
+
+fn expect_line(rt: &impl Abort, words: &str, errs: &[u8], line: &str) {
+    expect_true(rt, words, is_report(errs, line.as_bytes()));
 }
 
 // The status, the output and the error output are those that are wanted.
 fn expect_end(rt: &impl Abort, words: &str, ended: &Ended, want: Want) {
-    assert_eq!(rt; ended.status, want.status, "{words}");
+    expect_status(rt, words, ended.status, want.status);
     expect_line(rt, words, ended.errs.bytes(), want.line);
-    assert_eq!(rt; ended.out.bytes(), want.out, "{words}");
+    expect_same(rt, words, ended.out.bytes(), want.out);
 }
 
 // Runs what is typed over these files.
-fn expect_by(
-    rt: &impl Abort,
-    alloc: Global,
-    words: &str,
-    files: &mut MemFiles,
-    want: Want,
-) -> Result<(), Fail> {
-    let list = words_of(alloc, words)?;
-    let mut out = MemSink::new(alloc, ROOM)?;
-    let mut errs = MemSink::new(alloc, 100)?;
-    let status = run_words(alloc, &list, files, &mut out, &mut errs);
-    expect_end(rt, words, &Ended { status, out, errs }, want);
-    Ok(())
+fn expect_by(rt: &impl Abort, alloc: Global, words: &str, files: &mut MemFiles, want: Want) {
+    let ended = end_of(rt, alloc, words, files, sink_of(rt, alloc, ROOM));
+    expect_end(rt, words, &ended, want);
 }
 
 // Runs what is typed over an input, by its name.
-fn expect(
-    rt: &impl Abort,
-    alloc: Global,
-    words: &str,
-    input: Input,
-    want: Want,
-) -> Result<(), Fail> {
-    let mut files = file_of(alloc, input.0, input.1)?;
-    expect_by(rt, alloc, words, &mut files, want)
+fn expect(rt: &impl Abort, alloc: Global, words: &str, input: Input, want: Want) {
+    let mut files = file_of(rt, alloc, input.0, input.1);
+    expect_by(rt, alloc, words, &mut files, want);
 }
 
 // Runs what is typed over two inputs, by their names.
@@ -348,66 +384,35 @@ fn expect_over_two(
     first: Input,
     second: Input,
     want: Want,
-) -> Result<(), Fail> {
-    let mut files = files_of(alloc, first, second)?;
-    expect_by(rt, alloc, words, &mut files, want)
+) {
+    let mut files = files_of(rt, alloc, first, second);
+    expect_by(rt, alloc, words, &mut files, want);
 }
 
 // Runs what is typed over standard input.
-fn expect_on(
-    rt: &impl Abort,
-    alloc: Global,
-    words: &str,
-    text: &[u8],
-    want: Want,
-) -> Result<(), Fail> {
-    let mut files = file_of(alloc, "-", text)?;
-    expect_by(rt, alloc, words, &mut files, want)
+fn expect_on(rt: &impl Abort, alloc: Global, words: &str, text: &[u8], want: Want) {
+    expect(rt, alloc, words, ("-", text), want);
 }
 
 // Runs each of these over standard input: what is typed, the text, the status, and what is told.
-fn expect_each(
-    rt: &impl Abort,
-    alloc: Global,
-    cases: &[(&str, &str, u8, &str)],
-) -> Result<(), Fail> {
+fn expect_each(rt: &impl Abort, alloc: Global, cases: &[(&str, &str, u8, &str)]) {
     for (words, text, status, tells) in cases {
-        expect_on(rt, alloc, words, text.as_bytes(), told(*status, tells))?;
+        expect_on(rt, alloc, words, text.as_bytes(), told(*status, tells));
     }
-    Ok(())
 }
 
 // Runs what is typed over each of these texts of an input, and writes the text beside it.
-fn expect_texts(
-    rt: &impl Abort,
-    alloc: Global,
-    words: &str,
-    name: &str,
-    cases: &[(&str, &str)],
-) -> Result<(), Fail> {
+fn expect_texts(rt: &impl Abort, alloc: Global, words: &str, name: &str, cases: &[(&str, &str)]) {
     for (text, out) in cases {
-        expect(
-            rt,
-            alloc,
-            words,
-            (name, text.as_bytes()),
-            writes(out.as_bytes()),
-        )?;
+        let want = writes(out.as_bytes());
+        expect(rt, alloc, words, (name, text.as_bytes()), want);
     }
-    Ok(())
 }
 
 // Runs what is typed over a text of an input, which is refused with this line after the name and a colon.
-fn expect_fault(
-    rt: &impl Abort,
-    alloc: Global,
-    words: &str,
-    input: Input,
-    line: &str,
-) -> Result<(), Fail> {
-    let mut files = file_of(alloc, input.0, input.1)?;
-    let line = format!(in alloc; "{}:{line}", input.0)?;
-    expect_by(rt, alloc, words, &mut files, fails(3, &line))
+fn expect_fault(rt: &impl Abort, alloc: Global, words: &str, input: Input, line: &str) {
+    let line = format!(in alloc; "{}:{line}", input.0).expect(rt, "memory");
+    expect(rt, alloc, words, input, fails(3, &line));
 }
 
 // Runs what is typed over each of these texts of an input, each with the same first part. It is refused with the line
@@ -419,19 +424,40 @@ fn expect_faults(
     name: &str,
     first: &[u8],
     cases: &[(&[u8], &str)],
-) -> Result<(), Fail> {
+) {
     for (text, line) in cases {
-        let text = repeated(alloc, first, text, 1, b"")?;
-        expect_fault(rt, alloc, words, (name, &text), line)?;
+        let text = repeated(rt, alloc, first, text, 1, b"");
+        expect_fault(rt, alloc, words, (name, &text), line);
     }
-    Ok(())
+}
+
+// How many lines a text has.
+fn line_count(text: &[u8]) -> usize {
+    let mut count = 0usize;
+    for byte in text {
+        if *byte == b'\n' {
+            count = count.saturating_add(1);
+        }
+    }
+    count
+}
+
+// The text begins so.
+fn expect_head(rt: &impl Abort, words: &str, text: &[u8], head: &[u8]) {
+    expect_true(rt, words, text.starts_with(head));
 }
 
 // A text of which it is only said how it begins, and how many lines it has.
 fn expect_begun(rt: &impl Abort, words: &str, text: &[u8], header: &[u8], lines: usize) {
-    assert!(rt; text.starts_with(header), "{words}");
-    let ends = text.iter().filter(|byte| **byte == b'\n').count();
-    assert_eq!(rt; ends, lines, "{words}");
+    expect_head(rt, words, text, header);
+    expect_true(rt, words, line_count(text) == lines);
+}
+
+// A run ended well, and wrote so many lines, which begin so.
+fn expect_written(rt: &impl Abort, words: &str, ended: &Ended, header: &[u8], lines: usize) {
+    expect_status(rt, words, ended.status, 0);
+    expect_line(rt, words, ended.errs.bytes(), "");
+    expect_begun(rt, words, ended.out.bytes(), header, lines);
 }
 
 // Runs what is typed over an input, and writes so many lines, which begin so.
@@ -442,23 +468,30 @@ fn expect_lines(
     input: Input,
     header: &[u8],
     lines: usize,
-) -> Result<(), Fail> {
-    let mut files = file_of(alloc, input.0, input.1)?;
-    let out = MemSink::new(alloc, 50_000_000)?;
-    let ended = end_of(alloc, words, &mut files, out)?;
-    assert_eq!(rt; ended.status, 0);
-    expect_line(rt, words, ended.errs.bytes(), "");
-    expect_begun(rt, words, ended.out.bytes(), header, lines);
-    Ok(())
+) {
+    let mut files = file_of(rt, alloc, input.0, input.1);
+    let ended = end_of(rt, alloc, words, &mut files, sink_of(rt, alloc, 50_000_000));
+    expect_written(rt, words, &ended, header, lines);
 }
 
 // What a run over standard input writes, which ends well.
-fn output_of(rt: &impl Abort, alloc: Global, words: &str, text: &[u8]) -> Result<MemSink, Fail> {
-    let mut files = file_of(alloc, "-", text)?;
-    let out = MemSink::new(alloc, ROOM)?;
-    let ended = end_of(alloc, words, &mut files, out)?;
-    assert_eq!(rt; ended.status, 0);
-    Ok(ended.out)
+fn output_of(rt: &impl Abort, alloc: Global, words: &str, text: &[u8]) -> MemSink {
+    let mut files = file_of(rt, alloc, "-", text);
+    let ended = end_of(rt, alloc, words, &mut files, sink_of(rt, alloc, ROOM));
+    expect_status(rt, words, ended.status, 0);
+    ended.out
+}
+
+// Runs what is typed over standard input, and writes a text that begins so.
+fn expect_begin(rt: &impl Abort, alloc: Global, words: &str, text: &[u8], head: &str) {
+    let out = output_of(rt, alloc, words, text);
+    expect_head(rt, words, out.bytes(), head.as_bytes());
+}
+
+// The status of a run over these files, whatever it writes.
+fn status_of(rt: &impl Abort, alloc: Global, words: &str, files: &mut MemFiles) -> u8 {
+    let ended = end_of(rt, alloc, words, files, sink_of(rt, alloc, 1000));
+    ended.status
 }
 
 const CYCLES: &str = "1 0 3 2 5 7 4 6\n";

@@ -15,5 +15,5 @@ fn the_greatest_quantum_cost_of_the_most_gates(rt: HostRuntime) {
         quantum: 19342813113834066794250240,
         depth: 1 << 20,
     };
-    assert_eq!(rt; circuit_cost(&circuit), wanted);
+    assert!(rt; circuit_cost(&circuit) == wanted);
 }

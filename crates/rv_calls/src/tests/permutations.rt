@@ -1,11 +1,10 @@
 // Texts that are no permutation.
-use super::fault_of;
+use super::{expect_true, fault_of};
 use rv_perm::{PermFault, PermReader};
 use rv_text::TextFault;
-use std::test::Fail;
 
 #[test]
-fn each_fault_stands_at_its_line(rt: HostRuntime) -> Result<(), Fail> {
+fn each_fault_stands_at_its_line(rt: HostRuntime) {
     const CASES: [(&str, u32, u8); 5] = [
         (".constants, -", 1, 2),
         ("99999999999\n.garbage -", 2, 3),
@@ -16,13 +15,12 @@ fn each_fault_stands_at_its_line(rt: HostRuntime) -> Result<(), Fail> {
     for (text, line, code) in CASES {
         let fault = fault_of::<PermReader>(&rt, rt.alloc(), text.as_bytes());
         let want = PermFault::Text(TextFault { line, code });
-        assert_eq!(rt; fault, Some(want), "in {text}");
+        expect_true(&rt, text, fault == Some(want));
     }
-    Ok(())
 }
 
 #[test]
-fn the_first_fault_of_the_numbers_is_named(rt: HostRuntime) -> Result<(), Fail> {
+fn the_first_fault_of_the_numbers_is_named(rt: HostRuntime) {
     let cases = [
         (".constants -0\n{} , []", PermFault::Length(0)),
         (".garbage 1\n0 1 2", PermFault::Length(3)),
@@ -31,7 +29,6 @@ fn the_first_fault_of_the_numbers_is_named(rt: HostRuntime) -> Result<(), Fail> 
     ];
     for (text, want) in cases {
         let fault = fault_of::<PermReader>(&rt, rt.alloc(), text.as_bytes());
-        assert_eq!(rt; fault, Some(want), "in {text}");
+        expect_true(&rt, text, fault == Some(want));
     }
-    Ok(())
 }

@@ -1,13 +1,12 @@
 // Texts of PLA files: their faults, entries and terms.
-use super::{fault_of, read};
+use super::{expect_true, fault_of, read};
 use rv_pla::{Cube, Entry, Kind, PlaFault, PlaReader};
 use rv_text::TextFault;
 use std::alloc::Global;
 use std::process::Abort;
-use std::test::Fail;
 
 #[test]
-fn each_fault_stands_at_its_line(rt: HostRuntime) -> Result<(), Fail> {
+fn each_fault_stands_at_its_line(rt: HostRuntime) {
     const CASES: [(&str, u32, u8); 12] = [
         (".i 1\n\n.e\n", 3, 1),
         ("11 1", 1, 1),
@@ -25,26 +24,27 @@ fn each_fault_stands_at_its_line(rt: HostRuntime) -> Result<(), Fail> {
     for (text, line, code) in CASES {
         let fault = fault_of::<PlaReader>(&rt, rt.alloc(), text.as_bytes());
         let want = PlaFault::Text(TextFault { line, code });
-        assert_eq!(rt; fault, Some(want), "in {text}");
+        expect_true(&rt, text, fault == Some(want));
     }
-    Ok(())
 }
 
 // The entries at the words 10, 01, 00 and 11, of which the last is nowhere said.
-fn entries(rt: &impl Abort, alloc: Global, kind: &str) -> Result<[Entry; 4], Fail> {
-    let text = format!(in alloc; ".i 2\n.o 1\n.type {kind}\n10 4\n01 0\n0|0 2\n.end\n")?;
-    let pla = read::<PlaReader>(rt, alloc, text.as_bytes())?;
-    assert_eq!(rt; (pla.inputs(), pla.outputs()), (2, 1));
-    Ok([
+fn entries(rt: &impl Abort, alloc: Global, kind: &str) -> [Entry; 4] {
+    let text = format!(in alloc; ".i 2\n.o 1\n.type {kind}\n10 4\n01 0\n0|0 2\n.end\n");
+    let text = text.expect(rt, "memory");
+    let pla = read::<PlaReader>(rt, alloc, text.as_bytes()).expect(rt, "a PLA");
+    assert!(rt; pla.inputs() == 2);
+    assert!(rt; pla.outputs() == 1);
+    [
         pla.value(2, 0),
         pla.value(1, 0),
         pla.value(0, 0),
         pla.value(3, 0),
-    ])
+    ]
 }
 
 #[test]
-fn entries_by_the_type(rt: HostRuntime) -> Result<(), Fail> {
+fn entries_by_the_type(rt: HostRuntime) {
     let (one, zero, free) = (Entry::One, Entry::Zero, Entry::Free);
     let cases = [
         ("f", [one, zero, zero, zero]),
@@ -54,22 +54,22 @@ fn entries_by_the_type(rt: HostRuntime) -> Result<(), Fail> {
         ("esop", [one, zero, zero, zero]),
     ];
     for (kind, want) in cases {
-        assert_eq!(rt; entries(&rt, rt.alloc(), kind)?, want, "in {kind}");
+        expect_true(&rt, kind, entries(&rt, rt.alloc(), kind) == want);
     }
-    Ok(())
 }
 
 #[test]
-fn sizes_and_terms(rt: HostRuntime) -> Result<(), Fail> {
+fn sizes_and_terms(rt: HostRuntime) {
     let text = b".p 2\n.i 2\n.ilb a b\n.o 1\n1- 1\n-1 1\n.e\n.x";
-    let pla = read::<PlaReader>(&rt, rt.alloc(), text)?;
-    assert_eq!(rt; (pla.inputs(), pla.outputs(), pla.kind()), (2, 1, Kind::Fd));
-    assert_eq!(rt; pla.term_count(), 2);
+    let pla = read::<PlaReader>(&rt, rt.alloc(), text).expect(&rt, "a PLA");
+    assert!(rt; pla.inputs() == 2);
+    assert!(rt; pla.outputs() == 1);
+    assert!(rt; pla.kind() == Kind::Fd);
+    assert!(rt; pla.term_count() == 2);
     let want = Cube {
         care: 2,
         want: 2,
         outs: 1,
     };
-    assert_eq!(rt; pla.ones(1), want);
-    Ok(())
+    assert!(rt; pla.ones(1) == want);
 }

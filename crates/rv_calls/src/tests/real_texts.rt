@@ -1,29 +1,28 @@
 // Texts in the `.real` format: one with each kind of gate, and each fault.
-use super::{fault_of, read};
+use super::{expect_true, fault_of, read};
 use rv_gate::{Circuit, Gate, Mark, Shape};
 use rv_real::{RealFault, RealReader};
 use rv_text::TextFault;
 use std::alloc::Global;
 use std::process::Abort;
-use std::test::Fail;
 
 fn expect_marks(rt: &impl Abort, circuit: &Circuit) {
-    assert_eq!(rt; circuit.line_count(), 4);
-    assert_eq!(rt; circuit.input_label(3), b"0 # in".as_slice());
-    assert_eq!(rt; circuit.output_label(3), b"d".as_slice());
-    assert_eq!(rt; circuit.constant(3), Mark::Zero);
+    assert!(rt; circuit.line_count() == 4);
+    assert!(rt; circuit.input_label(3) == b"0 # in".as_slice());
+    assert!(rt; circuit.output_label(3) == b"d".as_slice());
+    assert!(rt; circuit.constant(3) == Mark::Zero);
     assert!(rt; circuit.garbage(2) && !circuit.garbage(3));
 }
 
 fn expect_shapes(rt: &impl Abort, gates: &[Gate], wanted: &[Shape]) {
-    assert_eq!(rt; gates.len(), wanted.len());
+    assert!(rt; gates.len() == wanted.len());
     for (gate, want) in gates.iter().zip(wanted) {
-        assert_eq!(rt; gate.shape(), *want);
+        assert!(rt; gate.shape() == *want);
     }
 }
 
 #[test]
-fn each_kind_of_gate_is_read_with_the_marks_of_the_lines(rt: HostRuntime) -> Result<(), Fail> {
+fn each_kind_of_gate_is_read_with_the_marks_of_the_lines(rt: HostRuntime) {
     let text =
         b"# adder\r\n.inputbus x 2\n.numvars 4\n\n.variables a b c d\n.inputs a b c \"0 # in\"\r\n.constants -- -0\n.garbage 1-1-\n.begin\nt3 a b d\n\tt2 a b\r\nt3 b -c d# \"\nt2 b c\np a b d\nf3 -d a b\n.end x\n#\"";
     let wanted = [
@@ -55,23 +54,22 @@ fn each_kind_of_gate_is_read_with_the_marks_of_the_lines(rt: HostRuntime) -> Res
             b: 1,
         },
     ];
-    let circuit = read::<RealReader>(&rt, rt.alloc(), text)?;
+    let circuit = read::<RealReader>(&rt, rt.alloc(), text).expect(&rt, "a circuit");
     expect_marks(&rt, &circuit);
     expect_shapes(&rt, circuit.gates(), &wanted);
-    Ok(())
 }
 
 // The first fault of a text, at whose front H stands for three lines.
-fn fault(rt: &impl Abort, alloc: Global, text: &str) -> Result<Option<RealFault>, Fail> {
+fn fault(rt: &impl Abort, alloc: Global, text: &str) -> Option<RealFault> {
     let Some(rest) = text.strip_prefix("H") else {
-        return Ok(fault_of::<RealReader>(rt, alloc, text.as_bytes()));
+        return fault_of::<RealReader>(rt, alloc, text.as_bytes());
     };
-    let text = format!(in alloc; ".numvars 2\n.variables a b\n.begin{rest}")?;
-    Ok(fault_of::<RealReader>(rt, alloc, text.as_bytes()))
+    let text = format!(in alloc; ".numvars 2\n.variables a b\n.begin{rest}").expect(rt, "memory");
+    fault_of::<RealReader>(rt, alloc, text.as_bytes())
 }
 
 #[test]
-fn each_fault_stands_at_its_line(rt: HostRuntime) -> Result<(), Fail> {
+fn each_fault_stands_at_its_line(rt: HostRuntime) {
     const CASES: [(&str, u32, u8); 28] = [
         (".begin", 1, 1),
         ("\".numvars\" 2", 1, 1),
@@ -103,9 +101,8 @@ fn each_fault_stands_at_its_line(rt: HostRuntime) -> Result<(), Fail> {
         (".numvars 2\n.variables a -b", 2, 19),
     ];
     for (text, line, code) in CASES {
-        let fault = fault(&rt, rt.alloc(), text)?;
+        let fault = fault(&rt, rt.alloc(), text);
         let want = RealFault::Text(TextFault { line, code });
-        assert_eq!(rt; fault, Some(want), "in {text}");
+        expect_true(&rt, text, fault == Some(want));
     }
-    Ok(())
 }

@@ -5,7 +5,6 @@ use rv_io::{HostFiles, MemFiles, MemSink};
 use rv_simulate::{WordsEnd, simulate_words};
 use std::alloc::Global;
 use std::process::Abort;
-use std::test::Fail;
 
 // A text of words, how it ends, and what is sent before.
 type Case<'a> = (&'a [u8], WordsEnd, &'a [u8]);
@@ -32,8 +31,8 @@ fn expect(rt: &impl Abort, alloc: Global, circuit: &Circuit, all: bool, cases: &
     for (text, want, sent) in cases {
         for piece in [usize::MAX, 1] {
             let (end, out) = simulated(rt, alloc, circuit, all, text, piece);
-            assert_eq!(rt; end, *want);
-            assert_eq!(rt; out.bytes(), *sent);
+            assert!(rt; end == *want);
+            assert!(rt; out.bytes() == *sent);
         }
     }
 }
@@ -72,7 +71,7 @@ fn adder(rt: &impl Abort, alloc: Global) -> Circuit {
     let first = Gate::peres(0, 1, 3).expect(rt, "peres");
     let second = Gate::peres(1, 2, 3).expect(rt, "peres");
     let mut adder = circuit_of(rt, alloc, 4, &[first, second], 1);
-    assert_eq!(rt; adder.line_count(), 4);
+    assert!(rt; adder.line_count() == 4);
     adder.set_constant(3, Mark::Zero);
     adder.set_garbage(0, true);
     adder.set_garbage(1, true);
@@ -82,7 +81,7 @@ fn adder(rt: &impl Abort, alloc: Global) -> Circuit {
 // A line that is constant, and whose output is garbage.
 fn constant(rt: &impl Abort, alloc: Global) -> Circuit {
     let mut constant = circuit_of(rt, alloc, 1, &[], 0);
-    assert_eq!(rt; constant.line_count(), 1);
+    assert!(rt; constant.line_count() == 1);
     constant.set_garbage(0, true);
     constant.set_constant(0, Mark::One);
     constant
@@ -107,32 +106,31 @@ fn a_line_that_is_constant_takes_no_bit(rt: HostRuntime) {
     expect(&rt, rt.alloc(), &constant, false, &WRONG);
 }
 
-fn many_words(alloc: Global) -> Result<Vec<u8>, Fail> {
+fn many_words(rt: &impl Abort, alloc: Global) -> Vec<u8> {
     let mut text = Vec::new(alloc);
     for _ in 0..131 {
-        text.extend_from_slice(b"101\n011\n")?;
+        text.extend_from_slice(b"101\n011\n").expect(rt, "memory");
     }
-    Ok(text)
+    text
 }
 
 fn expect_many_answers(rt: &impl Abort, answers: &[u8]) {
-    assert_eq!(rt; answers.len(), 1048);
+    assert!(rt; answers.len() == 1048);
     for pair in answers.chunks(8) {
-        assert_eq!(rt; pair, b"001\n111\n".as_slice());
+        assert!(rt; pair == b"001\n111\n".as_slice());
     }
 }
 
 // So many words and gates that words run side by side.
 #[test]
-fn many_words_are_answered_as_one_is(rt: HostRuntime) -> Result<(), Fail> {
+fn many_words_are_answered_as_one_is(rt: HostRuntime) {
     let circuit = circuit_of(&rt, rt.alloc(), 3, &[flip(&rt, 0, 0)], 129);
-    let text = many_words(rt.alloc())?;
+    let text = many_words(&rt, rt.alloc());
     for piece in [usize::MAX, 100, 4] {
         let (end, out) = simulated(&rt, rt.alloc(), &circuit, false, &text, piece);
-        assert_eq!(rt; end, WordsEnd::Done);
+        assert!(rt; end == WordsEnd::Done);
         expect_many_answers(&rt, out.bytes());
     }
-    Ok(())
 }
 
 #[test]
@@ -141,6 +139,6 @@ fn a_line_that_never_ends_is_too_long(rt: HostRuntime) {
     let mut files = HostFiles::new(&rt);
     let mut out = MemSink::new(rt.alloc(), 100).expect(&rt, "a sink");
     let end = simulate_words(&circuit, false, &mut files, "/dev/zero", &mut out);
-    assert_eq!(rt; end, WordsEnd::TooLong);
-    assert_eq!(rt; out.bytes(), b"".as_slice());
+    assert!(rt; end == WordsEnd::TooLong);
+    assert!(rt; out.bytes().is_empty());
 }

@@ -2,59 +2,55 @@
 use super::*;
 use std::alloc::Global;
 use std::process::Abort;
-use std::test::Fail;
 
 #[test]
-fn options_stand_anywhere(rt: HostRuntime) -> Result<(), Fail> {
+fn options_stand_anywhere(rt: HostRuntime) {
     const CASES: [(&str, &str, u8, &str); 4] = [
         ("synth --method=out", CYCLES, 0, CIRCUIT_OF_CYCLES),
         ("--method out synth", CYCLES, 0, CIRCUIT_OF_CYCLES),
         ("synth - --method out", CYCLES, 0, CIRCUIT_OF_CYCLES),
         ("synth --method out -- -", CYCLES, 0, CIRCUIT_OF_CYCLES),
     ];
-    expect_each(&rt, rt.alloc(), &CASES)
+    expect_each(&rt, rt.alloc(), &CASES);
 }
 
 // Runs what is typed over two permutations, of which one has a fault.
-fn expect_by_name(rt: &impl Abort, alloc: Global, cases: &[(&str, u8, &str)]) -> Result<(), Fail> {
+fn expect_by_name(rt: &impl Abort, alloc: Global, cases: &[(&str, u8, &str)]) {
     for (words, status, tells) in cases {
         let (p, r) = (
             ("p.txt", CYCLES.as_bytes()),
             ("r.txt", b"0 1 1 2".as_slice()),
         );
-        expect_over_two(rt, alloc, words, p, r, told(*status, tells))?;
+        expect_over_two(rt, alloc, words, p, r, told(*status, tells));
     }
-    Ok(())
 }
 
 #[test]
-fn an_input_goes_by_its_name(rt: HostRuntime) -> Result<(), Fail> {
+fn an_input_goes_by_its_name(rt: HostRuntime) {
     const CASES: [(&str, u8, &str); 3] = [
         ("synth p.txt --method out", 0, CIRCUIT_OF_CYCLES),
         ("synth q.txt", 4, "cannot read q.txt"),
         ("synth r.txt", 3, "r.txt: image repeated at places 1 and 2"),
     ];
-    expect_by_name(&rt, rt.alloc(), &CASES)
+    expect_by_name(&rt, rt.alloc(), &CASES);
 }
 
 // Each line is refused over a standard input that would serve.
-fn expect_not_taken(rt: &impl Abort, alloc: Global, cases: &[(&str, &str)]) -> Result<(), Fail> {
+fn expect_not_taken(rt: &impl Abort, alloc: Global, cases: &[(&str, &str)]) {
     for (words, line) in cases {
-        expect_on(rt, alloc, words, CYCLES.as_bytes(), fails(2, line))?;
+        expect_on(rt, alloc, words, CYCLES.as_bytes(), fails(2, line));
     }
-    Ok(())
 }
 
-fn expect_not_understood(rt: &impl Abort, alloc: Global, typed: &[&str]) -> Result<(), Fail> {
+fn expect_not_understood(rt: &impl Abort, alloc: Global, typed: &[&str]) {
     for words in typed {
         let want = fails(2, "words not understood");
-        expect_on(rt, alloc, words, CYCLES.as_bytes(), want)?;
+        expect_on(rt, alloc, words, CYCLES.as_bytes(), want);
     }
-    Ok(())
 }
 
 #[test]
-fn arguments_of_another_form_are_not_understood(rt: HostRuntime) -> Result<(), Fail> {
+fn arguments_of_another_form_are_not_understood(rt: HostRuntime) {
     const TYPED: [&str; 11] = [
         "",
         "--help",
@@ -68,11 +64,11 @@ fn arguments_of_another_form_are_not_understood(rt: HostRuntime) -> Result<(), F
         "map c.real d.real e.real",
         "simulate c.real w.txt v.txt",
     ];
-    expect_not_understood(&rt, rt.alloc(), &TYPED)
+    expect_not_understood(&rt, rt.alloc(), &TYPED);
 }
 
 #[test]
-fn commands_options_and_values_are_those_of_the_table(rt: HostRuntime) -> Result<(), Fail> {
+fn commands_options_and_values_are_those_of_the_table(rt: HostRuntime) {
     const CASES: [(&str, &str); 15] = [
         ("sort", "unknown command sort"),
         ("synth --aux clean", "option --aux not used by synth"),
@@ -93,11 +89,11 @@ fn commands_options_and_values_are_those_of_the_table(rt: HostRuntime) -> Result
         ("cost --from perm", "bad value for --from"),
         ("demo --lines 0", "bad value for --lines"),
     ];
-    expect_not_taken(&rt, rt.alloc(), &CASES)
+    expect_not_taken(&rt, rt.alloc(), &CASES);
 }
 
 #[test]
-fn each_command_has_its_number_of_inputs(rt: HostRuntime) -> Result<(), Fail> {
+fn each_command_has_its_number_of_inputs(rt: HostRuntime) {
     const CASES: [(&str, &str); 14] = [
         ("demo f", "wrong number of inputs for demo"),
         ("flow f g", "wrong number of inputs for flow"),
@@ -120,5 +116,5 @@ fn each_command_has_its_number_of_inputs(rt: HostRuntime) -> Result<(), Fail> {
         ("simulate - -", "standard input named twice"),
         ("templates --library -", "standard input named twice"),
     ];
-    expect_not_taken(&rt, rt.alloc(), &CASES)
+    expect_not_taken(&rt, rt.alloc(), &CASES);
 }

@@ -2,7 +2,6 @@
 use super::*;
 use std::alloc::Global;
 use std::process::Abort;
-use std::test::Fail;
 
 const CHECK: &str = "check c.real n.qasm";
 
@@ -17,32 +16,21 @@ macro_rules! one_qubit {
     };
 }
 
-fn expect_check(
-    rt: &impl Abort,
-    alloc: Global,
-    circuit: &[u8],
-    network: &[u8],
-    want: Want,
-) -> Result<(), Fail> {
-    let mut files = files_of(alloc, ("c.real", circuit), ("n.qasm", network))?;
-    expect_by(rt, alloc, CHECK, &mut files, want)
+fn expect_check(rt: &impl Abort, alloc: Global, circuit: &[u8], network: &[u8], want: Want) {
+    let mut files = files_of(rt, alloc, ("c.real", circuit), ("n.qasm", network));
+    expect_by(rt, alloc, CHECK, &mut files, want);
 }
 
 // Checks each circuit and network: the status, and what is told.
-fn expect_checks(
-    rt: &impl Abort,
-    alloc: Global,
-    cases: &[(&str, &str, u8, &str)],
-) -> Result<(), Fail> {
+fn expect_checks(rt: &impl Abort, alloc: Global, cases: &[(&str, &str, u8, &str)]) {
     for (circuit, network, status, tells) in cases {
         let want = told(*status, tells);
-        expect_check(rt, alloc, circuit.as_bytes(), network.as_bytes(), want)?;
+        expect_check(rt, alloc, circuit.as_bytes(), network.as_bytes(), want);
     }
-    Ok(())
 }
 
 #[test]
-fn the_least_word_that_differs_is_told(rt: HostRuntime) -> Result<(), Fail> {
+fn the_least_word_that_differs_is_told(rt: HostRuntime) {
     const CASES: [(&str, &str, u8, &str); 6] = [
         (
             typed!(2, "a b", "t2 a b\n"),
@@ -67,7 +55,7 @@ fn the_least_word_that_differs_is_told(rt: HostRuntime) -> Result<(), Fail> {
         ),
         (NOTHING, one_qubit!("h q[0];"), 1, "differs at word 0\n"),
     ];
-    expect_checks(&rt, rt.alloc(), &CASES)
+    expect_checks(&rt, rt.alloc(), &CASES);
 }
 
 // Checks a circuit and a network of so many turns.
@@ -78,30 +66,31 @@ fn expect_turns(
     count: usize,
     status: u8,
     tells: &str,
-) -> Result<(), Fail> {
+) {
     let network = repeated(
+        rt,
         alloc,
         ONE_QUBIT.as_bytes(),
         b"h q[0]; t q[0];\n",
         count,
         b"",
-    )?;
-    expect_check(rt, alloc, circuit.as_bytes(), &network, told(status, tells))
+    );
+    expect_check(rt, alloc, circuit.as_bytes(), &network, told(status, tells));
 }
 
 #[test]
-fn a_coefficient_is_at_most_2_to_the_100(rt: HostRuntime) -> Result<(), Fail> {
+fn a_coefficient_is_at_most_2_to_the_100(rt: HostRuntime) {
     let alloc = rt.alloc();
     let line = "n.qasm: coefficient too large at operation 801 for word 0";
-    expect_turns(&rt, alloc, NOTHING, 1000, 5, line)?;
-    expect_turns(&rt, alloc, NOTHING, 400, 1, "differs at word 0\n")?;
+    expect_turns(&rt, alloc, NOTHING, 1000, 5, line);
+    expect_turns(&rt, alloc, NOTHING, 400, 1, "differs at word 0\n");
     // Of a circuit on other lines none is looked at.
     let lines = "differs in lines 2 and 1\n";
-    expect_turns(&rt, alloc, typed!(2, "a b", ""), 1000, 1, lines)
+    expect_turns(&rt, alloc, typed!(2, "a b", ""), 1000, 1, lines);
 }
 
 #[test]
-fn ten_lines_are_checked(rt: HostRuntime) -> Result<(), Fail> {
+fn ten_lines_are_checked(rt: HostRuntime) {
     const TEN: &str = typed!(10, "x0 x1 x2 x3 x4 x5 x6 x7 x8 x9", "t1 x0\n");
     const ELEVEN: &str = typed!(11, "x0 x1 x2 x3 x4 x5 x6 x7 x8 x9 x10", "t1 x0\n");
     const NETWORK: &str = "OPENQASM 2.0;\nqreg q[10];\nx q[0];\n";
@@ -112,11 +101,11 @@ fn ten_lines_are_checked(rt: HostRuntime) -> Result<(), Fail> {
         (ELEVEN, NETWORK, 5, "c.real: 11 lines are more than 10"),
         (ELEVEN, WIDE, 5, "c.real: 11 lines are more than 10"),
     ];
-    expect_checks(&rt, rt.alloc(), &CASES)
+    expect_checks(&rt, rt.alloc(), &CASES);
 }
 
 #[test]
-fn each_input_has_its_faults_in_their_order(rt: HostRuntime) -> Result<(), Fail> {
+fn each_input_has_its_faults_in_their_order(rt: HostRuntime) {
     const NO_END: &str = ".numvars 1\n.variables a\n.begin\n";
     const UNKNOWN: &str = one_qubit!("foo q[0];\n");
     const CASES: [(&str, &str, u8, &str); 3] = [
@@ -125,29 +114,23 @@ fn each_input_has_its_faults_in_their_order(rt: HostRuntime) -> Result<(), Fail>
         (NOTHING, UNKNOWN, 3, "n.qasm:3: unknown gate"),
     ];
     let alloc = rt.alloc();
-    expect_checks(&rt, alloc, &CASES)?;
+    expect_checks(&rt, alloc, &CASES);
     // The network is missing, and then the circuit.
     let missing = fails(4, "cannot read n.qasm");
-    expect(&rt, alloc, CHECK, ("c.real", NO_END.as_bytes()), missing)?;
+    expect(&rt, alloc, CHECK, ("c.real", NO_END.as_bytes()), missing);
     let missing = fails(4, "cannot read c.real");
-    expect(&rt, alloc, CHECK, ("n.qasm", ONE_QUBIT.as_bytes()), missing)
+    expect(&rt, alloc, CHECK, ("n.qasm", ONE_QUBIT.as_bytes()), missing);
 }
 
 // Checks a circuit and a network that are the same, by their names.
-fn expect_same_by_names(
-    rt: &impl Abort,
-    alloc: Global,
-    words: &str,
-    circuit: &str,
-    network: &str,
-) -> Result<(), Fail> {
+fn expect_same_by_names(rt: &impl Abort, alloc: Global, words: &str, circuit: &str, network: &str) {
     let circuit = (circuit, NOTHING.as_bytes());
     let network = (network, ONE_QUBIT.as_bytes());
-    expect_over_two(rt, alloc, words, circuit, network, writes(b"same\n"))
+    expect_over_two(rt, alloc, words, circuit, network, writes(b"same\n"));
 }
 
 #[test]
-fn an_input_that_is_not_named_is_standard_input(rt: HostRuntime) -> Result<(), Fail> {
+fn an_input_that_is_not_named_is_standard_input(rt: HostRuntime) {
     const CASES: [(&str, &str, u8, &str); 3] = [
         ("check", NOTHING, 2, "wrong number of inputs for check"),
         ("check -", NOTHING, 2, "standard input named twice"),
@@ -159,78 +142,62 @@ fn an_input_that_is_not_named_is_standard_input(rt: HostRuntime) -> Result<(), F
         ),
     ];
     let alloc = rt.alloc();
-    expect_same_by_names(&rt, alloc, "check c.real", "c.real", "-")?;
-    expect_same_by_names(&rt, alloc, "check c.real -", "c.real", "-")?;
-    expect_same_by_names(&rt, alloc, "check - n.qasm", "-", "n.qasm")?;
-    expect_each(&rt, alloc, &CASES)
+    expect_same_by_names(&rt, alloc, "check c.real", "c.real", "-");
+    expect_same_by_names(&rt, alloc, "check c.real -", "c.real", "-");
+    expect_same_by_names(&rt, alloc, "check - n.qasm", "-", "n.qasm");
+    expect_each(&rt, alloc, &CASES);
+}
+
+// A network of lines of at most 100 bytes without its last one.
+fn without_last(network: &[u8]) -> &[u8] {
+    let mut rest = network.strip_suffix(b"\n").unwrap_or(network);
+    for _ in 0..100 {
+        match rest.split_last() {
+            Some((last, before)) if *last != b'\n' => rest = before,
+            _ => break,
+        }
+    }
+    rest
 }
 
 // A network with `y q[0]` in the place of its last operation.
-fn exchanged(alloc: Global, network: &[u8]) -> Result<Vec<u8>, Fail> {
-    let mut exchanged = Vec::from_slice(alloc, network)?;
-    let _end = exchanged.pop();
-    for _ in 0..100 {
-        match exchanged.last() {
-            None | Some(b'\n') => break,
-            Some(_) => {
-                let _byte = exchanged.pop();
-            }
-        }
-    }
-    exchanged.extend_from_slice(b"y q[0];\n")?;
-    Ok(exchanged)
+fn exchanged(rt: &impl Abort, alloc: Global, network: &[u8]) -> Vec<u8> {
+    repeated(rt, alloc, without_last(network), b"y q[0];\n", 1, b"")
 }
 
-fn exchanged_files(alloc: Global, circuit: &[u8], network: &[u8]) -> Result<MemFiles, Fail> {
-    let network = exchanged(alloc, network)?;
-    files_of(alloc, ("c.real", circuit), ("n.qasm", &network))
+fn exchanged_files(rt: &impl Abort, alloc: Global, circuit: &[u8], network: &[u8]) -> MemFiles {
+    let network = exchanged(rt, alloc, network);
+    files_of(rt, alloc, ("c.real", circuit), ("n.qasm", &network))
 }
 
 // A circuit and a network differ at a word if `y q[0]` stands for the last operation of the network.
-fn expect_exchanged(
-    rt: &impl Abort,
-    alloc: Global,
-    circuit: &[u8],
-    network: &[u8],
-) -> Result<(), Fail> {
-    let mut files = exchanged_files(alloc, circuit, network)?;
-    let ended = end_of(alloc, CHECK, &mut files, MemSink::new(alloc, 100)?)?;
-    assert_eq!(rt; ended.status, 1);
+fn expect_exchanged(rt: &impl Abort, alloc: Global, circuit: &[u8], network: &[u8]) {
+    let mut files = exchanged_files(rt, alloc, circuit, network);
+    let ended = end_of(rt, alloc, CHECK, &mut files, sink_of(rt, alloc, 100));
+    expect_status(rt, CHECK, ended.status, 1);
     expect_line(rt, CHECK, ended.errs.bytes(), "");
     expect_begun(rt, CHECK, ended.out.bytes(), b"differs at word ", 1);
-    Ok(())
 }
 
 // A network is the same as a circuit, and isn't with another last operation. So is what `fold` makes of it.
-fn expect_same_also_folded(
-    rt: &impl Abort,
-    alloc: Global,
-    circuit: &[u8],
-    network: &[u8],
-) -> Result<(), Fail> {
+fn expect_same_also_folded(rt: &impl Abort, alloc: Global, circuit: &[u8], network: &[u8]) {
     let same = writes(b"same\n");
-    expect_check(rt, alloc, circuit, network, same)?;
-    expect_exchanged(rt, alloc, circuit, network)?;
-    let folded = output_of(rt, alloc, "fold", network)?;
-    expect_check(rt, alloc, circuit, folded.bytes(), same)?;
-    expect_exchanged(rt, alloc, circuit, folded.bytes())
+    expect_check(rt, alloc, circuit, network, same);
+    expect_exchanged(rt, alloc, circuit, network);
+    let folded = output_of(rt, alloc, "fold", network);
+    expect_check(rt, alloc, circuit, folded.bytes(), same);
+    expect_exchanged(rt, alloc, circuit, folded.bytes());
 }
 
 // The network that is mapped from a circuit is the same as the circuit that is decomposed from it.
-fn expect_mapped(
-    rt: &impl Abort,
-    alloc: Global,
-    decompose: &str,
-    map: &str,
-    circuit: &str,
-) -> Result<(), Fail> {
-    let decomposed = output_of(rt, alloc, decompose, circuit.as_bytes())?;
-    let network = output_of(rt, alloc, map, circuit.as_bytes())?;
-    expect_same_also_folded(rt, alloc, decomposed.bytes(), network.bytes())
+fn expect_mapped(rt: &impl Abort, alloc: Global, decompose: &str, map: &str, circuit: &str) {
+    let decomposed = output_of(rt, alloc, decompose, circuit.as_bytes());
+    let network = output_of(rt, alloc, map, circuit.as_bytes());
+    expect_same_also_folded(rt, alloc, decomposed.bytes(), network.bytes());
 }
 
 #[test]
-fn a_mapped_circuit_is_the_same_as_its_decomposition(rt: HostRuntime) -> Result<(), Fail> {
+fn a_mapped_circuit_is_the_same_as_its_decomposition(rt: HostRuntime) {
     const CIRCUITS: [&str; 12] = [
         typed!(1, "a", "t1 a\n"),
         typed!(2, "a b", "t2 a b\nf2 a b\n"),
@@ -248,31 +215,30 @@ fn a_mapped_circuit_is_the_same_as_its_decomposition(rt: HostRuntime) -> Result<
     let alloc = rt.alloc();
     for circuit in &CIRCUITS {
         let (decompose, map) = ("decompose --aux borrowed", "map --aux borrowed");
-        expect_mapped(&rt, alloc, decompose, map, circuit)?;
+        expect_mapped(&rt, alloc, decompose, map, circuit);
         let (decompose, map) = ("decompose --aux clean", "map --aux clean");
-        expect_mapped(&rt, alloc, decompose, map, circuit)?;
+        expect_mapped(&rt, alloc, decompose, map, circuit);
     }
-    let network = output_of(&rt, alloc, "map", FULL_ADDER.as_bytes())?;
-    expect_same_also_folded(&rt, alloc, FULL_ADDER.as_bytes(), network.bytes())
+    let network = output_of(&rt, alloc, "map", FULL_ADDER.as_bytes());
+    expect_same_also_folded(&rt, alloc, FULL_ADDER.as_bytes(), network.bytes());
 }
 
-fn expect_flow(rt: &impl Abort, alloc: Global, images: &[u8]) -> Result<(), Fail> {
-    let synthesised = output_of(rt, alloc, "synth", images)?;
-    let circuit = output_of(rt, alloc, "decompose", synthesised.bytes())?;
-    let network = output_of(rt, alloc, "flow --from perm", images)?;
-    expect_same_also_folded(rt, alloc, circuit.bytes(), network.bytes())
+fn expect_flow(rt: &impl Abort, alloc: Global, images: &[u8]) {
+    let synthesised = output_of(rt, alloc, "synth", images);
+    let circuit = output_of(rt, alloc, "decompose", synthesised.bytes());
+    let network = output_of(rt, alloc, "flow --from perm", images);
+    expect_same_also_folded(rt, alloc, circuit.bytes(), network.bytes());
 }
 
 // All 24 permutations of the words of two lines but the one that changes none.
 #[test]
-fn the_network_of_a_permutation_is_the_same_as_its_circuit(rt: HostRuntime) -> Result<(), Fail> {
+fn the_network_of_a_permutation_is_the_same_as_its_circuit(rt: HostRuntime) {
     const PERMUTATIONS: [&str; 23] = [
         "0 1 3 2", "0 2 1 3", "0 2 3 1", "0 3 1 2", "0 3 2 1", "1 0 2 3", "1 0 3 2", "1 2 0 3",
         "1 2 3 0", "1 3 0 2", "1 3 2 0", "2 0 1 3", "2 0 3 1", "2 1 0 3", "2 1 3 0", "2 3 0 1",
         "2 3 1 0", "3 0 1 2", "3 0 2 1", "3 1 0 2", "3 1 2 0", "3 2 0 1", "3 2 1 0",
     ];
     for images in &PERMUTATIONS {
-        expect_flow(&rt, rt.alloc(), images.as_bytes())?;
+        expect_flow(&rt, rt.alloc(), images.as_bytes());
     }
-    Ok(())
 }

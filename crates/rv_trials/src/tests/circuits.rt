@@ -2,12 +2,11 @@
 use super::*;
 use std::alloc::Global;
 use std::process::Abort;
-use std::test::Fail;
 
 const THREE_CONTROLS: &str = typed!(4, "a b c d", "t4 a b c d\n");
 
 #[test]
-fn helpers_are_borrowed_unless_clean_ones_are_asked_for(rt: HostRuntime) -> Result<(), Fail> {
+fn helpers_are_borrowed_unless_clean_ones_are_asked_for(rt: HostRuntime) {
     const BORROWED: &str = written!(
         5,
         "a b c d z0",
@@ -28,11 +27,11 @@ fn helpers_are_borrowed_unless_clean_ones_are_asked_for(rt: HostRuntime) -> Resu
         ("decompose --aux clean", THREE_CONTROLS, 0, CLEAN),
         ("--aux=clean decompose -", THREE_CONTROLS, 0, CLEAN),
     ];
-    expect_each(&rt, rt.alloc(), &CASES)
+    expect_each(&rt, rt.alloc(), &CASES);
 }
 
 #[test]
-fn a_helper_line_takes_a_name_that_is_free(rt: HostRuntime) -> Result<(), Fail> {
+fn a_helper_line_takes_a_name_that_is_free(rt: HostRuntime) {
     let circuit = typed!(4, "a b z0 c", "t4 a b z0 c\n").as_bytes();
     let want = written!(
         5,
@@ -42,7 +41,7 @@ fn a_helper_line_takes_a_name_that_is_free(rt: HostRuntime) -> Result<(), Fail> 
         "t3 a b z1\nt3 z0 z1 c\nt3 a b z1\n"
     );
     let want = writes(want.as_bytes());
-    expect_on(&rt, rt.alloc(), "decompose --aux clean", circuit, want)
+    expect_on(&rt, rt.alloc(), "decompose --aux clean", circuit, want);
 }
 
 // It has labels, a constant and garbage of its own, a control that wants 0, and a large swap.
@@ -56,13 +55,13 @@ const MARKED_OVER_A_CLEAN_LINE: &[u8] = b"\
     t3 -a b z0\nt2 d c\nt3 a b z0\nt3 c z0 d\nt3 a b z0\nt2 d c\n.end\n";
 
 #[test]
-fn labels_and_marks_are_kept_before_those_of_a_helper(rt: HostRuntime) -> Result<(), Fail> {
+fn labels_and_marks_are_kept_before_those_of_a_helper(rt: HostRuntime) {
     let want = writes(MARKED_OVER_A_CLEAN_LINE);
-    expect_on(&rt, rt.alloc(), "decompose --aux clean", MARKED, want)
+    expect_on(&rt, rt.alloc(), "decompose --aux clean", MARKED, want);
 }
 
 #[test]
-fn free_lines_of_the_circuit_are_borrowed(rt: HostRuntime) -> Result<(), Fail> {
+fn free_lines_of_the_circuit_are_borrowed(rt: HostRuntime) {
     const CASES: [(&str, &str); 2] = [
         (
             typed!(6, "a b c d e f", "t5 a b c d e\n"),
@@ -88,11 +87,11 @@ fn free_lines_of_the_circuit_are_borrowed(rt: HostRuntime) -> Result<(), Fail> {
         ),
     ];
     let words = "decompose --aux borrowed c.real";
-    expect_texts(&rt, rt.alloc(), words, "c.real", &CASES)
+    expect_texts(&rt, rt.alloc(), words, "c.real", &CASES);
 }
 
 #[test]
-fn swaps_and_peres_gates_become_flips(rt: HostRuntime) -> Result<(), Fail> {
+fn swaps_and_peres_gates_become_flips(rt: HostRuntime) {
     const CASES: [(&str, &str); 2] = [
         (
             typed!(3, "a b c", "f3 a b c\n"),
@@ -100,11 +99,11 @@ fn swaps_and_peres_gates_become_flips(rt: HostRuntime) -> Result<(), Fail> {
         ),
         (FULL_ADDER, adder!("t3 a b d\nt2 a b\nt3 b c d\nt2 b c\n")),
     ];
-    expect_texts(&rt, rt.alloc(), "decompose", "-", &CASES)
+    expect_texts(&rt, rt.alloc(), "decompose", "-", &CASES);
 }
 
 #[test]
-fn a_circuit_is_refused_by_its_fault(rt: HostRuntime) -> Result<(), Fail> {
+fn a_circuit_is_refused_by_its_fault(rt: HostRuntime) {
     const CASES: [(&[u8], &str); 2] = [
         (b"t2 a b", "4: no .end"),
         (b"t2 a -b\n.end\n", "4: sign on a target"),
@@ -112,7 +111,7 @@ fn a_circuit_is_refused_by_its_fault(rt: HostRuntime) -> Result<(), Fail> {
     let alloc = rt.alloc();
     let first = b".numvars 2\n.variables a b\n.begin\n";
     let words = "decompose --aux clean c.real";
-    expect_faults(&rt, alloc, words, "c.real", first, &CASES)?;
+    expect_faults(&rt, alloc, words, "c.real", first, &CASES);
     expect_faults(
         &rt,
         alloc,
@@ -120,47 +119,47 @@ fn a_circuit_is_refused_by_its_fault(rt: HostRuntime) -> Result<(), Fail> {
         "c.real",
         first,
         &CASES,
-    )
+    );
 }
 
 #[test]
-fn a_toffoli_gate_is_fifteen_operations(rt: HostRuntime) -> Result<(), Fail> {
+fn a_toffoli_gate_is_fifteen_operations(rt: HostRuntime) {
     const CASES: [(&str, &str, u8, &str); 3] = [
         ("map", TWO_CONTROLS, 0, FIFTEEN_OPERATIONS),
         ("map -", TWO_CONTROLS, 0, FIFTEEN_OPERATIONS),
         ("--aux=clean map", TWO_CONTROLS, 0, FIFTEEN_OPERATIONS),
     ];
-    expect_each(&rt, rt.alloc(), &CASES)
+    expect_each(&rt, rt.alloc(), &CASES);
 }
 
 #[test]
-fn a_full_adder_is_32_operations(rt: HostRuntime) -> Result<(), Fail> {
+fn a_full_adder_is_32_operations(rt: HostRuntime) {
     let circuit = ("-", FULL_ADDER.as_bytes());
     let header = network!(4, "h q[3];\n").as_bytes();
     let words = "map --aux borrowed";
-    expect_lines(&rt, rt.alloc(), words, circuit, header, 3 + 32)
+    expect_lines(&rt, rt.alloc(), words, circuit, header, 3 + 32);
 }
 
 // Four flips with two controls, the first of d under c and the helper; or three, the first of the helper under a and b.
 #[test]
-fn a_helper_line_is_a_qubit_after_the_others(rt: HostRuntime) -> Result<(), Fail> {
+fn a_helper_line_is_a_qubit_after_the_others(rt: HostRuntime) {
     let alloc = rt.alloc();
     let circuit = ("-", THREE_CONTROLS.as_bytes());
     let borrowed = network!(5, "h q[3];\ncx q[4],q[3];\n").as_bytes();
-    expect_lines(&rt, alloc, "map --aux borrowed", circuit, borrowed, 3 + 60)?;
+    expect_lines(&rt, alloc, "map --aux borrowed", circuit, borrowed, 3 + 60);
     let clean = network!(5, "h q[4];\ncx q[1],q[4];\n").as_bytes();
-    expect_lines(&rt, alloc, "map --aux clean", circuit, clean, 3 + 45)
+    expect_lines(&rt, alloc, "map --aux clean", circuit, clean, 3 + 45);
 }
 
 #[test]
-fn a_circuit_without_gates_is_a_register(rt: HostRuntime) -> Result<(), Fail> {
+fn a_circuit_without_gates_is_a_register(rt: HostRuntime) {
     let circuit = typed!(2, "a b", "").as_bytes();
     let want = writes(network!(2, "").as_bytes());
-    expect_on(&rt, rt.alloc(), "map --aux clean", circuit, want)
+    expect_on(&rt, rt.alloc(), "map --aux clean", circuit, want);
 }
 
 #[test]
-fn a_circuit_costs_its_gates_by_their_controls(rt: HostRuntime) -> Result<(), Fail> {
+fn a_circuit_costs_its_gates_by_their_controls(rt: HostRuntime) {
     const CASES: [(&str, &str); 4] = [
         (typed!(1, "a", ""), circuit_report!(1, 0, 0, 0, 0)),
         (
@@ -178,20 +177,20 @@ fn a_circuit_costs_its_gates_by_their_controls(rt: HostRuntime) -> Result<(), Fa
             circuit_report!(4, 7, 3, 39, 6),
         ),
     ];
-    expect_texts(&rt, rt.alloc(), "cost", "-", &CASES)?;
-    expect_texts(&rt, rt.alloc(), "cost --from real", "-", &CASES)
+    expect_texts(&rt, rt.alloc(), "cost", "-", &CASES);
+    expect_texts(&rt, rt.alloc(), "cost --from real", "-", &CASES);
 }
 
 #[test]
-fn a_mapped_circuit_costs_its_operations(rt: HostRuntime) -> Result<(), Fail> {
+fn a_mapped_circuit_costs_its_operations(rt: HostRuntime) {
     let alloc = rt.alloc();
-    let network = output_of(&rt, alloc, "map", FULL_ADDER.as_bytes())?;
+    let network = output_of(&rt, alloc, "map", FULL_ADDER.as_bytes());
     let want = writes(network_report!(4, 32, 14, 4, 14, 22, 8).as_bytes());
-    expect_on(&rt, alloc, "cost --from qasm", network.bytes(), want)
+    expect_on(&rt, alloc, "cost --from qasm", network.bytes(), want);
 }
 
 #[test]
-fn levels_are_counted_on_shared_lines(rt: HostRuntime) -> Result<(), Fail> {
+fn levels_are_counted_on_shared_lines(rt: HostRuntime) {
     // The levels of q[0] are 1, 2, 3, those of q[1] are 1 to 6, and those of q[2] are 1, 2, 4, 5.
     const ELEVEN_OPERATIONS: &str = "\
         OPENQASM 2.0;\nqreg q[3];\ncreg c[3];\nt q[0];\ntdg q[1];\ncx q[0],q[1];\nt q[1];\n\
@@ -206,11 +205,11 @@ fn levels_are_counted_on_shared_lines(rt: HostRuntime) -> Result<(), Fail> {
             network_report!(64, 0, 0, 0, 0, 0, 0),
         ),
     ];
-    expect_texts(&rt, rt.alloc(), "cost --from qasm", "-", &CASES)
+    expect_texts(&rt, rt.alloc(), "cost --from qasm", "-", &CASES);
 }
 
 #[test]
-fn an_input_is_read_in_the_form_that_is_named(rt: HostRuntime) -> Result<(), Fail> {
+fn an_input_is_read_in_the_form_that_is_named(rt: HostRuntime) {
     const CASES: [(&str, &str, u8, &str); 3] = [
         ("cost", FIFTEEN_OPERATIONS, 3, "-:1: missing directive"),
         (
@@ -226,36 +225,25 @@ fn an_input_is_read_in_the_form_that_is_named(rt: HostRuntime) -> Result<(), Fai
             "-:4: register sizes differ",
         ),
     ];
-    expect_each(&rt, rt.alloc(), &CASES)
+    expect_each(&rt, rt.alloc(), &CASES);
 }
 
 // Simulates words by a circuit, both by their names.
-fn expect_simulation(
-    rt: &impl Abort,
-    alloc: Global,
-    circuit: &[u8],
-    words: &[u8],
-    want: Want,
-) -> Result<(), Fail> {
-    let mut files = files_of(alloc, ("c.real", circuit), ("w.txt", words))?;
-    expect_by(rt, alloc, "simulate c.real w.txt", &mut files, want)
+fn expect_simulation(rt: &impl Abort, alloc: Global, circuit: &[u8], words: &[u8], want: Want) {
+    let mut files = files_of(rt, alloc, ("c.real", circuit), ("w.txt", words));
+    expect_by(rt, alloc, "simulate c.real w.txt", &mut files, want);
 }
 
 // Each circuit makes these words of those.
-fn expect_simulations(
-    rt: &impl Abort,
-    alloc: Global,
-    cases: &[(&str, &str, &str)],
-) -> Result<(), Fail> {
+fn expect_simulations(rt: &impl Abort, alloc: Global, cases: &[(&str, &str, &str)]) {
     for (circuit, words, out) in cases {
         let want = writes(out.as_bytes());
-        expect_simulation(rt, alloc, circuit.as_bytes(), words.as_bytes(), want)?;
+        expect_simulation(rt, alloc, circuit.as_bytes(), words.as_bytes(), want);
     }
-    Ok(())
 }
 
 #[test]
-fn words_are_simulated_by_a_circuit(rt: HostRuntime) -> Result<(), Fail> {
+fn words_are_simulated_by_a_circuit(rt: HostRuntime) {
     const CASES: [(&str, &str, &str); 3] = [
         (PERES_AND_FREDKIN, "100\n", "101\n"),
         (PERES_AND_FREDKIN, " 1 0 0 # c\n\n110", "101\n110\n"),
@@ -266,37 +254,35 @@ fn words_are_simulated_by_a_circuit(rt: HostRuntime) -> Result<(), Fail> {
             "\n",
         ),
     ];
-    expect_simulations(&rt, rt.alloc(), &CASES)
+    expect_simulations(&rt, rt.alloc(), &CASES);
 }
 
 // The circuit on 64 lines that flips the last by the first.
 #[test]
-fn words_of_64_bits_are_simulated(rt: HostRuntime) -> Result<(), Fail> {
+fn words_of_64_bits_are_simulated(rt: HostRuntime) {
     let alloc = rt.alloc();
-    let circuit = circuit_on(alloc, 64, "t2 x0 x63\n")?;
+    let circuit = circuit_on(&rt, alloc, 64, "t2 x0 x63\n");
     let word = b"1000000000000000000000000000000000000000000000000000000000000000\n";
     let out = b"1000000000000000000000000000000000000000000000000000000000000001\n";
-    expect_simulation(&rt, alloc, circuit.as_bytes(), word, writes(out))
+    expect_simulation(&rt, alloc, circuit.as_bytes(), word, writes(out));
 }
 
 #[test]
-fn a_wrong_word_or_circuit_is_named_by_its_line(rt: HostRuntime) -> Result<(), Fail> {
+fn a_wrong_word_or_circuit_is_named_by_its_line(rt: HostRuntime) {
     let wrong_word = Want {
         status: 3,
         out: b"101\n",
         line: "w.txt:2: wrong word",
     };
     let circuit = PERES_AND_FREDKIN.as_bytes();
-    expect_simulation(&rt, rt.alloc(), circuit, b"100\n11\n", wrong_word)?;
-    let Some(cut) = FULL_ADDER.strip_suffix(".end\n") else {
-        return Err("the text has its end".into());
-    };
+    expect_simulation(&rt, rt.alloc(), circuit, b"100\n11\n", wrong_word);
+    let cut = FULL_ADDER.strip_suffix(".end\n").expect(&rt, "its end");
     let no_end = fails(3, "c.real:12: no .end");
-    expect_simulation(&rt, rt.alloc(), cut.as_bytes(), b"111\n", no_end)
+    expect_simulation(&rt, rt.alloc(), cut.as_bytes(), b"111\n", no_end);
 }
 
 #[test]
-fn words_on_all_lines_come_from_standard_input(rt: HostRuntime) -> Result<(), Fail> {
+fn words_on_all_lines_come_from_standard_input(rt: HostRuntime) {
     let circuit: &[u8] =
         b".numvars 3\n.variables x0 x1 y0\n.constants --0\n.garbage 11-\n.begin\nt3 x0 x1 y0\n.end\n";
     let (circuit, words) = (("c.real", circuit), ("-", b"111\n".as_slice()));
@@ -308,5 +294,5 @@ fn words_on_all_lines_come_from_standard_input(rt: HostRuntime) -> Result<(), Fa
         circuit,
         words,
         want,
-    )
+    );
 }

@@ -2,7 +2,6 @@
 use super::*;
 use std::alloc::Global;
 use std::process::Abort;
-use std::test::Fail;
 
 const WITH_CIRCUIT: &str = "compare c.real other";
 
@@ -35,22 +34,16 @@ const FILLED: &str = written!(
 );
 
 // Compares each circuit and second input: the status, and what is told.
-fn expect_compares(
-    rt: &impl Abort,
-    alloc: Global,
-    words: &str,
-    cases: &[(&str, &str, u8, &str)],
-) -> Result<(), Fail> {
+fn expect_compares(rt: &impl Abort, alloc: Global, words: &str, cases: &[(&str, &str, u8, &str)]) {
     for (circuit, other, status, tells) in cases {
         let first = ("c.real", circuit.as_bytes());
-        let mut files = files_of(alloc, first, ("other", other.as_bytes()))?;
-        expect_by(rt, alloc, words, &mut files, told(*status, tells))?;
+        let mut files = files_of(rt, alloc, first, ("other", other.as_bytes()));
+        expect_by(rt, alloc, words, &mut files, told(*status, tells));
     }
-    Ok(())
 }
 
 #[test]
-fn circuits_are_compared_by_their_marks(rt: HostRuntime) -> Result<(), Fail> {
+fn circuits_are_compared_by_their_marks(rt: HostRuntime) {
     const NINE: &str = typed!(10, "a b c d e f g h i j", "t10 a b c d e f g h i j\n");
     const NONE: &str = typed!(10, "a b c d e f g h i j", "");
     const CASES: [(&str, &str, u8, &str); 13] = [
@@ -97,11 +90,11 @@ fn circuits_are_compared_by_their_marks(rt: HostRuntime) -> Result<(), Fail> {
         (WIRE, WIDE, 5, "other: 25 inputs are more than 24"),
         (WIDE, WIDE, 5, "c.real: 25 inputs are more than 24"),
     ];
-    expect_compares(&rt, rt.alloc(), WITH_CIRCUIT, &CASES)
+    expect_compares(&rt, rt.alloc(), WITH_CIRCUIT, &CASES);
 }
 
 #[test]
-fn a_permutation_is_compared_by_its_marks(rt: HostRuntime) -> Result<(), Fail> {
+fn a_permutation_is_compared_by_its_marks(rt: HostRuntime) {
     const CASES: [(&str, &str, u8, &str); 8] = [
         (EXCHANGE, "0 2 1 3\n", 0, "same\n"),
         (EXCHANGE, "0 2 3 1\n", 1, "differs at word 10\n"),
@@ -127,11 +120,11 @@ fn a_permutation_is_compared_by_its_marks(rt: HostRuntime) -> Result<(), Fail> {
             "differs at the empty word\n",
         ),
     ];
-    expect_compares(&rt, rt.alloc(), WITH_PERMUTATION, &CASES)
+    expect_compares(&rt, rt.alloc(), WITH_PERMUTATION, &CASES);
 }
 
 #[test]
-fn a_free_entry_allows_any_bit(rt: HostRuntime) -> Result<(), Fail> {
+fn a_free_entry_allows_any_bit(rt: HostRuntime) {
     const FLIP: &str = typed!(1, "a", "t1 a\n");
     const CASES: [(&str, &str, u8, &str); 7] = [
         (COPY, ".i 1\n.o 1\n1 1\n.e\n", 0, "same\n"),
@@ -152,11 +145,11 @@ fn a_free_entry_allows_any_bit(rt: HostRuntime) -> Result<(), Fail> {
             "differs in inputs 0 and 1\n",
         ),
     ];
-    expect_compares(&rt, rt.alloc(), WITH_TABLE, &CASES)
+    expect_compares(&rt, rt.alloc(), WITH_TABLE, &CASES);
 }
 
 #[test]
-fn all_lines_are_compared_without_marks(rt: HostRuntime) -> Result<(), Fail> {
+fn all_lines_are_compared_without_marks(rt: HostRuntime) {
     const COPIES: &str = typed!(2, "p q", "t2 p q\n");
     const CIRCUITS: [(&str, &str, u8, &str); 4] = [
         (COPY, COPIES, 0, "same\n"),
@@ -183,19 +176,19 @@ fn all_lines_are_compared_without_marks(rt: HostRuntime) -> Result<(), Fail> {
         ),
     ];
     let alloc = rt.alloc();
-    expect_compares(&rt, alloc, "compare --all c.real other", &CIRCUITS)?;
+    expect_compares(&rt, alloc, "compare --all c.real other", &CIRCUITS);
     expect_compares(
         &rt,
         alloc,
         "compare c.real other --all --from perm",
         &PERMUTATIONS,
-    )?;
-    expect_compares(&rt, alloc, "compare --from pla --all c.real other", &TABLES)
+    );
+    expect_compares(&rt, alloc, "compare --from pla --all c.real other", &TABLES);
 }
 
 // A full adder as a logic network, and as circuits.
 #[test]
-fn a_circuit_is_compared_with_a_logic_network(rt: HostRuntime) -> Result<(), Fail> {
+fn a_circuit_is_compared_with_a_logic_network(rt: HostRuntime) {
     const ADDER: &str = concat!(
         ".inputs a b c\n.outputs s m\n.names a b c s\n100 1\n010 1\n001 1\n111 1\n",
         ".names a b c m\n11- 1\n1-1 1\n-11 1\n.end\n"
@@ -240,5 +233,55 @@ fn a_circuit_is_compared_with_a_logic_network(rt: HostRuntime) -> Result<(), Fai
         ),
         (COPY, ".inputs a\n.outputs b\n", 3, "other:2: never driven"),
     ];
-    expect_compares(&rt, rt.alloc(), "compare --from blif c.real other", &CASES)
+    expect_compares(&rt, rt.alloc(), "compare --from blif c.real other", &CASES);
+}
+
+// Nodes that are written before their operands, rows that end with 0, constants, an input that is passed on, lines that
+// go on, returns, and what comes after the end.
+#[test]
+fn a_logic_network_gives_what_its_covers_say(rt: HostRuntime) {
+    const SUMS: &str = written!(
+        5,
+        "a b c s m",
+        "---00",
+        "111--",
+        "t3 a b m\nt2 a b\nt3 b c m\nt2 a b\nt2 a s\nt2 b s\nt2 c s\n"
+    );
+    const ADDER: &str = concat!(
+        "# adder\n.model add\n.inputs a b \\\nc\n.outputs s\n.outputs d\n.names p c s\n10 1\n01 1\n",
+        ".names a b p\n11 0\n00 0\n.names a b c d\n11- 1\n1-1 1\n-11 1\n.end\nrest\n"
+    );
+    // C17 of ISCAS, with two of its inputs at 0.
+    const C17: &str = concat!(
+        ".model c17\n.inputs 1 2 3\n.outputs 22 23\n.names 6\n.names 7\n.names 1 3 10\n11 0\n.names 3 6 11\n",
+        "11 0\n.names 2 11 16\n11 0\n.names 11 7 19\n11 0\n.names 10 16 22\n11 0\n.names 16 19 23\n11 0\n.end\n"
+    );
+    const CASES: [(&str, &str, u8, &str); 4] = [
+        (SUMS, ADDER, 0, "same\n"),
+        (
+            written!(6, "a b c o z d", "---000", "111---", "t1 o\nt2 a d\n"),
+            ".inputs a b c\n.outputs o z a\n.names o\n1\n.names z\n",
+            0,
+            "same\n",
+        ),
+        (
+            written!(4, "a b c y", "---0", "111-", "t2 -a y\n"),
+            ".inputs a b c\r\n.outputs \\\r\ny\r\n.names a y\r\n0 1\r\n",
+            0,
+            "same\n",
+        ),
+        (
+            written!(
+                5,
+                "a b c p q",
+                "---00",
+                "111--",
+                "t2 b p\nt4 a -b c p\nt2 b q\n"
+            ),
+            C17,
+            0,
+            "same\n",
+        ),
+    ];
+    expect_compares(&rt, rt.alloc(), "compare --from blif c.real other", &CASES);
 }

@@ -1,6 +1,5 @@
 // Circuits for logic networks: what a text denotes, what is written of it, and what is refused.
 use super::*;
-use std::test::Fail;
 
 // A network with these outputs and nodes over a, b and c.
 macro_rules! over {
@@ -28,7 +27,7 @@ macro_rules! summed {
 
 // Of each there is one circuit with the fewest gates, and with few controls.
 #[test]
-fn a_node_is_added_to_its_output(rt: HostRuntime) -> Result<(), Fail> {
+fn a_node_is_added_to_its_output(rt: HostRuntime) {
     const CASES: [(&str, &str, u8, &str); 10] = [
         (
             "compute",
@@ -95,29 +94,29 @@ fn a_node_is_added_to_its_output(rt: HostRuntime) -> Result<(), Fail> {
             summed!("t2 -x0 y0\n", "y0"),
         ),
     ];
-    expect_each(&rt, rt.alloc(), &CASES)
+    expect_each(&rt, rt.alloc(), &CASES);
 }
 
 // A node that two others need has seven operands.
 #[test]
-fn a_circuit_with_work_lines_gives_the_network(rt: HostRuntime) -> Result<(), Fail> {
+fn a_circuit_with_work_lines_gives_the_network(rt: HostRuntime) {
     const NETWORK: &str = concat!(
         ".inputs a b c d e f g\n.outputs s t\n",
         ".names a b c d e f g n\n1111111 1\n0000000 1\n.names a b m\n10 1\n01 1\n",
         ".names n m c s\n11- 1\n--1 1\n.names n m t\n1- 1\n-1 1\n.end\n"
     );
     let alloc = rt.alloc();
-    let circuit = output_of(&rt, alloc, "compute", NETWORK.as_bytes())?;
+    let circuit = output_of(&rt, alloc, "compute", NETWORK.as_bytes());
     let first = ("c.real", circuit.bytes());
     let second = ("n.blif", NETWORK.as_bytes());
     let words = "compare --from blif c.real n.blif";
-    expect_over_two(&rt, alloc, words, first, second, told(0, "same\n"))
+    expect_over_two(&rt, alloc, words, first, second, told(0, "same\n"));
 }
 
 // The line is that of the first fault.
 #[test]
-fn a_text_that_denotes_no_network_is_refused(rt: HostRuntime) -> Result<(), Fail> {
-    const CASES: [(&str, &str, u8, &str); 23] = [
+fn a_text_that_denotes_no_network_is_refused(rt: HostRuntime) {
+    const CASES: [(&str, &str, u8, &str); 31] = [
         ("compute", over!("s", ".latch a s\n"), 3, "-:4: latch"),
         ("compute", over!("s", ".mlatch a s\n"), 3, "-:4: latch"),
         (
@@ -216,13 +215,26 @@ fn a_text_that_denotes_no_network_is_refused(rt: HostRuntime) -> Result<(), Fail
             3,
             "-:4: cycle",
         ),
+        ("compute", ".names\n", 3, "-:1: missing name"),
+        ("compute", ".inputs a a\n", 3, "-:1: driven twice"),
+        ("compute", ".inputs a\n.names a a\n", 3, "-:2: driven twice"),
+        ("compute", "11 1\n", 3, "-:1: row out of place"),
+        ("compute", ".names a b c\n1 1\n", 3, "-:2: wrong row length"),
+        ("compute", ".inputs a\n", 3, "-:1: no outputs"),
+        ("compute", "\n.outputs y\n", 3, "-:2: never driven"),
+        (
+            "compute",
+            ".outputs y\n.names x y\n1 1\n.names y x\n1 1\n",
+            3,
+            "-:2: cycle",
+        ),
     ];
-    expect_each(&rt, rt.alloc(), &CASES)
+    expect_each(&rt, rt.alloc(), &CASES);
 }
 
 // Three inputs and two outputs take five lines, and each line in between one more.
 #[test]
-fn a_network_that_does_not_fit_is_refused(rt: HostRuntime) -> Result<(), Fail> {
+fn a_network_that_does_not_fit_is_refused(rt: HostRuntime) {
     const ADDER: &str = over!(
         "s m",
         ".names a b h\n10 1\n01 1\n.names h c s\n10 1\n01 1\n.names a b h c m\n11-- 1\n--11 1\n"
@@ -244,5 +256,5 @@ fn a_network_that_does_not_fit_is_refused(rt: HostRuntime) -> Result<(), Fail> {
             "option --seed not used by compute",
         ),
     ];
-    expect_each(&rt, rt.alloc(), &CASES)
+    expect_each(&rt, rt.alloc(), &CASES);
 }

@@ -2,7 +2,6 @@
 use super::*;
 use std::alloc::Global;
 use std::process::Abort;
-use std::test::Fail;
 
 const TOFFOLI: &str = typed!(3, "a b c", "t3 a b c\nt3 a c b\nt3 a b c\nt1 c\n");
 
@@ -21,16 +20,15 @@ const IN_TWO_BLOCKS: &str = "\
     c ──⊕── c\n";
 
 // Draws the circuit, by its name: the status, and what is told.
-fn expect_drawings(rt: &impl Abort, alloc: Global, cases: &[(&str, u8, &str)]) -> Result<(), Fail> {
+fn expect_drawings(rt: &impl Abort, alloc: Global, cases: &[(&str, u8, &str)]) {
     for (words, status, tells) in cases {
         let circuit = ("c.real", TOFFOLI.as_bytes());
-        expect(rt, alloc, words, circuit, told(*status, tells))?;
+        expect(rt, alloc, words, circuit, told(*status, tells));
     }
-    Ok(())
 }
 
 #[test]
-fn a_block_has_as_many_gates_as_asked_and_all_of_them_by_0(rt: HostRuntime) -> Result<(), Fail> {
+fn a_block_has_as_many_gates_as_asked_and_all_of_them_by_0(rt: HostRuntime) {
     const CASES: [(&str, u8, &str); 5] = [
         ("draw c.real", 0, IN_ONE_BLOCK),
         ("draw --wrap 3 c.real", 0, IN_TWO_BLOCKS),
@@ -38,31 +36,31 @@ fn a_block_has_as_many_gates_as_asked_and_all_of_them_by_0(rt: HostRuntime) -> R
         ("draw --wrap=65535 c.real", 0, IN_ONE_BLOCK),
         ("draw c.real --wrap 0", 0, IN_ONE_BLOCK),
     ];
-    expect_drawings(&rt, rt.alloc(), &CASES)
+    expect_drawings(&rt, rt.alloc(), &CASES);
 }
 
 // Draws a circuit on one line of so many flips.
-fn expect_flips(rt: &impl Abort, alloc: Global, count: usize, drawing: &[u8]) -> Result<(), Fail> {
+fn expect_flips(rt: &impl Abort, alloc: Global, count: usize, drawing: &[u8]) {
     let first = b".numvars 1\n.variables a\n.begin\n";
-    let circuit = repeated(alloc, first, b"t1 a\n", count, b".end\n")?;
+    let circuit = repeated(rt, alloc, first, b"t1 a\n", count, b".end\n");
     expect(
         rt,
         alloc,
         "draw c.real",
         ("c.real", &circuit),
         writes(drawing),
-    )
+    );
 }
 
 #[test]
-fn without_an_option_a_block_has_24_gates(rt: HostRuntime) -> Result<(), Fail> {
+fn without_an_option_a_block_has_24_gates(rt: HostRuntime) {
     let alloc = rt.alloc();
     let (first, part) = ("a ─".as_bytes(), "─⊕─".as_bytes());
-    let block = repeated(alloc, first, part, 24, "─ a\n".as_bytes())?;
-    expect_flips(&rt, alloc, 24, &block)?;
+    let block = repeated(&rt, alloc, first, part, 24, "─ a\n".as_bytes());
+    expect_flips(&rt, alloc, 24, &block);
     let last = "─ a\n\na ──⊕── a\n".as_bytes();
-    let rest = repeated(alloc, first, part, 24, last)?;
-    expect_flips(&rt, alloc, 25, &rest)
+    let rest = repeated(&rt, alloc, first, part, 24, last);
+    expect_flips(&rt, alloc, 25, &rest);
 }
 
 // Each kind of gate, a control that wants 0, constants, garbage, and labels of different widths.
@@ -77,20 +75,20 @@ const ALL_KINDS_DRAWN: &str = "\
     x3 1────⊕─────✕──●── x3\n";
 
 #[test]
-fn each_kind_of_gate_and_mark_is_drawn(rt: HostRuntime) -> Result<(), Fail> {
+fn each_kind_of_gate_and_mark_is_drawn(rt: HostRuntime) {
     let want = writes(ALL_KINDS_DRAWN.as_bytes());
-    expect_on(&rt, rt.alloc(), "draw", ALL_KINDS.as_bytes(), want)
+    expect_on(&rt, rt.alloc(), "draw", ALL_KINDS.as_bytes(), want);
 }
 
 #[test]
-fn a_circuit_without_gates_is_its_lines(rt: HostRuntime) -> Result<(), Fail> {
+fn a_circuit_without_gates_is_its_lines(rt: HostRuntime) {
     let circuit = typed!(2, "a b", "").as_bytes();
     let want = writes("a ── a\nb ── b\n".as_bytes());
-    expect_on(&rt, rt.alloc(), "draw", circuit, want)
+    expect_on(&rt, rt.alloc(), "draw", circuit, want);
 }
 
 #[test]
-fn what_is_no_circuit_is_not_drawn(rt: HostRuntime) -> Result<(), Fail> {
+fn what_is_no_circuit_is_not_drawn(rt: HostRuntime) {
     const FAULTS: [(&[u8], &str); 1] = [(b"t2 a -b\n.end\n", "4: sign on a target")];
     const CASES: [(&str, u8, &str); 4] = [
         ("draw missing", 4, "cannot read missing"),
@@ -103,8 +101,8 @@ fn what_is_no_circuit_is_not_drawn(rt: HostRuntime) -> Result<(), Fail> {
         ),
     ];
     let first = b".numvars 2\n.variables a b\n.begin\n";
-    expect_faults(&rt, rt.alloc(), "draw c.real", "c.real", first, &FAULTS)?;
-    expect_drawings(&rt, rt.alloc(), &CASES)
+    expect_faults(&rt, rt.alloc(), "draw c.real", "c.real", first, &FAULTS);
+    expect_drawings(&rt, rt.alloc(), &CASES);
 }
 
 // A control that wants 0, a constant, garbage, and a label that has to be escaped.
@@ -134,14 +132,14 @@ const AS_SVG: &str = "\
     </svg>\n";
 
 #[test]
-fn a_circuit_has_three_forms(rt: HostRuntime) -> Result<(), Fail> {
+fn a_circuit_has_three_forms(rt: HostRuntime) {
     let circuit = TO_BE_ESCAPED.as_bytes();
     let text = writes("a_<& ──○── a\nb 0────⊕─┤ b\n".as_bytes());
-    expect_on(&rt, rt.alloc(), "draw --as text", circuit, text)?;
+    expect_on(&rt, rt.alloc(), "draw --as text", circuit, text);
     let latex = writes(AS_LATEX.as_bytes());
-    expect_on(&rt, rt.alloc(), "draw --as latex", circuit, latex)?;
+    expect_on(&rt, rt.alloc(), "draw --as latex", circuit, latex);
     let svg = writes(AS_SVG.as_bytes());
-    expect_on(&rt, rt.alloc(), "draw --as svg", circuit, svg)
+    expect_on(&rt, rt.alloc(), "draw --as svg", circuit, svg);
 }
 
 const NETWORK: &[u8] = b"OPENQASM 2.0;\nqreg q[2];\nh q[0];\ntdg q[1];\ncz q[1],q[0];\n";
@@ -153,9 +151,9 @@ const NETWORK_AS_LATEX: &str = "\
     \\end{quantikz}\n";
 
 #[test]
-fn a_network_is_drawn_an_operation_a_column(rt: HostRuntime) -> Result<(), Fail> {
+fn a_network_is_drawn_an_operation_a_column(rt: HostRuntime) {
     let text = writes("q0 ──H─────●── q0\nq1 ─────t──●── q1\n".as_bytes());
-    expect_on(&rt, rt.alloc(), "draw --from qasm", NETWORK, text)?;
+    expect_on(&rt, rt.alloc(), "draw --from qasm", NETWORK, text);
     let latex = writes(NETWORK_AS_LATEX.as_bytes());
     expect_on(
         &rt,
@@ -163,5 +161,5 @@ fn a_network_is_drawn_an_operation_a_column(rt: HostRuntime) -> Result<(), Fail>
         "draw --from qasm --as latex",
         NETWORK,
         latex,
-    )
+    );
 }

@@ -2,7 +2,6 @@
 use super::*;
 use std::alloc::Global;
 use std::process::Abort;
-use std::test::Fail;
 
 // The first words write a text that begins so over their input, and the others the same over theirs.
 fn expect_same_output(
@@ -11,16 +10,16 @@ fn expect_same_output(
     first: (&str, &str),
     second: (&str, &str),
     header: &[u8],
-) -> Result<(), Fail> {
-    let out = output_of(rt, alloc, first.0, first.1.as_bytes())?;
-    assert!(rt; out.bytes().starts_with(header));
+) {
+    let out = output_of(rt, alloc, first.0, first.1.as_bytes());
+    expect_head(rt, first.0, out.bytes(), header);
     expect_on(
         rt,
         alloc,
         second.0,
         second.1.as_bytes(),
         writes(out.bytes()),
-    )
+    );
 }
 
 // The circuit that the outputs give for the embedding of the conjunction.
@@ -32,29 +31,29 @@ const CIRCUIT_OF_CONJUNCTION: &str = typed!(
 );
 
 #[test]
-fn a_truth_table_becomes_the_network_of_its_circuit(rt: HostRuntime) -> Result<(), Fail> {
+fn a_truth_table_becomes_the_network_of_its_circuit(rt: HostRuntime) {
     let alloc = rt.alloc();
-    let flow = output_of(&rt, alloc, "flow --method out", CONJUNCTION.as_bytes())?;
+    let flow = output_of(&rt, alloc, "flow --method out", CONJUNCTION.as_bytes());
     let same = writes(flow.bytes());
-    expect_on(&rt, alloc, "map", CIRCUIT_OF_CONJUNCTION.as_bytes(), same)?;
+    expect_on(&rt, alloc, "map", CIRCUIT_OF_CONJUNCTION.as_bytes(), same);
     let report = network_report!(3, 78, 35, 10, 33, 57, 20);
     let want = writes(report.as_bytes());
-    expect_on(&rt, alloc, "cost --from qasm", flow.bytes(), want)
+    expect_on(&rt, alloc, "cost --from qasm", flow.bytes(), want);
 }
 
 // The same in two steps.
 #[test]
-fn single_targets_take_the_place_of_transformations(rt: HostRuntime) -> Result<(), Fail> {
+fn single_targets_take_the_place_of_transformations(rt: HostRuntime) {
     const CYCLE: &[u8] = b"1 2 3 4 5 6 7 0";
     let alloc = rt.alloc();
-    let circuit = output_of(&rt, alloc, "single", CYCLE)?;
-    let network = output_of(&rt, alloc, "map", circuit.bytes())?;
+    let circuit = output_of(&rt, alloc, "single", CYCLE);
+    let network = output_of(&rt, alloc, "map", circuit.bytes());
     let same = writes(network.bytes());
-    expect_on(&rt, alloc, "flow --from perm --method single", CYCLE, same)
+    expect_on(&rt, alloc, "flow --from perm --method single", CYCLE, same);
 }
 
 #[test]
-fn a_permutation_becomes_a_network(rt: HostRuntime) -> Result<(), Fail> {
+fn a_permutation_becomes_a_network(rt: HostRuntime) {
     const NETWORK: &str = network!(1, "x q[0];\n");
     const CASES: [(&str, &str, u8, &str); 3] = [
         ("flow --from perm", "1 0\n", 0, NETWORK),
@@ -66,22 +65,22 @@ fn a_permutation_becomes_a_network(rt: HostRuntime) -> Result<(), Fail> {
             NETWORK,
         ),
     ];
-    expect_each(&rt, rt.alloc(), &CASES)
+    expect_each(&rt, rt.alloc(), &CASES);
 }
 
 // A flip under three controls, whose word 14 goes to 15: the helper line comes after the others.
 #[test]
-fn a_helper_line_is_a_qubit_after_the_others(rt: HostRuntime) -> Result<(), Fail> {
+fn a_helper_line_is_a_qubit_after_the_others(rt: HostRuntime) {
     let alloc = rt.alloc();
     let images = "0 1 2 3 4 5 6 7 8 9 10 11 12 13 15 14\n";
     let circuit = typed!(4, "x0 x1 x2 x3", "t4 x0 x1 x2 x3\n");
     let header = network!(5, "").as_bytes();
     let flow = ("flow --from perm --aux borrowed", images);
     let map = ("map --aux borrowed", circuit);
-    expect_same_output(&rt, alloc, flow, map, header)?;
+    expect_same_output(&rt, alloc, flow, map, header);
     let flow = ("flow --from perm --aux clean", images);
     let map = ("map --aux clean", circuit);
-    expect_same_output(&rt, alloc, flow, map, header)
+    expect_same_output(&rt, alloc, flow, map, header);
 }
 
 // What is typed writes what the steps write, each over what the one before it does: how long it is.
@@ -91,34 +90,34 @@ fn length_of_chain(
     words: &str,
     steps: &[&str],
     text: &[u8],
-) -> Result<usize, Fail> {
-    let mut network = Vec::from_slice(alloc, text)?;
+) -> usize {
+    let mut network = Vec::new(alloc);
+    append(rt, &mut network, text);
     for step in steps {
-        let out = output_of(rt, alloc, step, &network)?;
+        let out = output_of(rt, alloc, step, &network);
         network.clear();
-        network.extend_from_slice(out.bytes())?;
+        append(rt, &mut network, out.bytes());
     }
-    expect_on(rt, alloc, words, text, writes(&network))?;
-    Ok(network.len())
+    expect_on(rt, alloc, words, text, writes(&network));
+    network.len()
 }
 
 // The circuit has gates that the templates take away.
 #[test]
-fn a_flow_is_the_chain_of_its_steps(rt: HostRuntime) -> Result<(), Fail> {
+fn a_flow_is_the_chain_of_its_steps(rt: HostRuntime) {
     const STEPS: [&str; 2] = ["synth --method out", "map"];
     const MORE_STEPS: [&str; 3] = ["synth --method out", "templates", "map"];
     let alloc = rt.alloc();
     let images = b"1 0 6 5 7 3 4 2\n";
     let words = "flow --from perm --method out";
-    let plain = length_of_chain(&rt, alloc, words, &STEPS, images)?;
+    let plain = length_of_chain(&rt, alloc, words, &STEPS, images);
     let words = "flow --from perm --method out --simplify";
-    let simplified = length_of_chain(&rt, alloc, words, &MORE_STEPS, images)?;
-    assert!(rt; simplified < plain);
-    Ok(())
+    let simplified = length_of_chain(&rt, alloc, words, &MORE_STEPS, images);
+    expect_true(&rt, words, simplified < plain);
 }
 
 #[test]
-fn an_input_of_a_flow_is_refused_by_its_form(rt: HostRuntime) -> Result<(), Fail> {
+fn an_input_of_a_flow_is_refused_by_its_form(rt: HostRuntime) {
     const TABLES: [(&[u8], &str); 2] = [
         (b".i 2\n.o 1\n1 1\n.e\n", "3: wrong term length"),
         (
@@ -131,29 +130,29 @@ fn an_input_of_a_flow_is_refused_by_its_form(rt: HostRuntime) -> Result<(), Fail
         (b"0 1 2\n", " 3 numbers are no power of two from 2 to 65536"),
     ];
     let alloc = rt.alloc();
-    expect_faults(&rt, alloc, "flow", "-", b"", &TABLES)?;
-    expect_faults(&rt, alloc, "flow --from perm", "-", b"", &PERMUTATIONS)?;
+    expect_faults(&rt, alloc, "flow", "-", b"", &TABLES);
+    expect_faults(&rt, alloc, "flow --from perm", "-", b"", &PERMUTATIONS);
     let want = fails(5, "-: 17 lines are more than 16");
-    expect_on(&rt, alloc, "flow", b".i 16\n.o 1\n.e\n", want)
+    expect_on(&rt, alloc, "flow", b".i 16\n.o 1\n.e\n", want);
 }
 
 // Its permutation is 0 3 2 1.
 #[test]
-fn a_permutation_of_two_lines_takes_one_gate(rt: HostRuntime) -> Result<(), Fail> {
+fn a_permutation_of_two_lines_takes_one_gate(rt: HostRuntime) {
     let summary = b"lines 2\nseed 1\nsynthesised 1\nsimplified 1\ndecomposed 1\nadded 0\n\
         operations 1\nt 0\ndepth 1\n";
     let want = writes(summary);
-    expect_on(&rt, rt.alloc(), "demo --lines 2 --seed 1", b"", want)
+    expect_on(&rt, rt.alloc(), "demo --lines 2 --seed 1", b"", want);
 }
 
 #[test]
-fn a_seed_tells_the_same_twice(rt: HostRuntime) -> Result<(), Fail> {
+fn a_seed_tells_the_same_twice(rt: HostRuntime) {
     let typed = ("demo --lines 8 --seed 7", "");
-    expect_same_output(&rt, rt.alloc(), typed, typed, b"lines 8\nseed 7\n")
+    expect_same_output(&rt, rt.alloc(), typed, typed, b"lines 8\nseed 7\n");
 }
 
 #[test]
-fn no_seed_and_no_lines_are_seed_1_and_four_lines(rt: HostRuntime) -> Result<(), Fail> {
+fn no_seed_and_no_lines_are_seed_1_and_four_lines(rt: HostRuntime) {
     let whole = ("demo --lines=4 --seed=1", "");
-    expect_same_output(&rt, rt.alloc(), ("demo", ""), whole, b"lines 4\nseed 1\n")
+    expect_same_output(&rt, rt.alloc(), ("demo", ""), whole, b"lines 4\nseed 1\n");
 }

@@ -2,7 +2,6 @@
 use super::*;
 use std::alloc::Global;
 use std::process::Abort;
-use std::test::Fail;
 
 // Registers with a measurement, in which the last phase gate stands on the parity of the first.
 const MEASURED: &str = "OPENQASM 2.0;\nqreg a[1];\nqreg b[1];\ncreg c[1];\nt a[0];\nh b[0];\n\
@@ -19,7 +18,7 @@ const KEPT: &str = network!(
 const FIVE: &str = network!(2, "z q[0];\nt q[0];\nh q[1];\nh q[0];\nt q[0];\n");
 
 #[test]
-fn phases_of_one_parity_are_joined(rt: HostRuntime) -> Result<(), Fail> {
+fn phases_of_one_parity_are_joined(rt: HostRuntime) {
     const CASES: [(&str, &str); 5] = [
         // The middle t stands on the complement, and its phase is not joined to those of the other two.
         (
@@ -38,17 +37,12 @@ fn phases_of_one_parity_are_joined(rt: HostRuntime) -> Result<(), Fail> {
         ),
         ("OPENQASM 2.0;\nqreg q[3];", network!(3, "")),
     ];
-    expect_texts(&rt, rt.alloc(), "fold q.qasm", "q.qasm", &CASES)
+    expect_texts(&rt, rt.alloc(), "fold q.qasm", "q.qasm", &CASES);
 }
 
 // A network is folded to one with these counts, which is folded to itself.
-fn expect_folded(
-    rt: &impl Abort,
-    alloc: Global,
-    network: &[u8],
-    counts: &[u8],
-) -> Result<(), Fail> {
-    let fold = output_of(rt, alloc, "fold", network)?;
+fn expect_folded(rt: &impl Abort, alloc: Global, network: &[u8], counts: &[u8]) {
+    let fold = output_of(rt, alloc, "fold", network);
     expect_lines(
         rt,
         alloc,
@@ -56,16 +50,16 @@ fn expect_folded(
         ("-", fold.bytes()),
         counts,
         7,
-    )?;
-    expect_on(rt, alloc, "fold", fold.bytes(), writes(fold.bytes()))
+    );
+    expect_on(rt, alloc, "fold", fold.bytes(), writes(fold.bytes()));
 }
 
 // A Toffoli gate twice: of its 14 T the first and the last of each parity join.
 #[test]
-fn a_folded_network_has_fewer_t(rt: HostRuntime) -> Result<(), Fail> {
+fn a_folded_network_has_fewer_t(rt: HostRuntime) {
     let alloc = rt.alloc();
     let twice = typed!(3, "a b c", "t3 a b c\nt3 a b c\n");
-    let map = output_of(&rt, alloc, "map", twice.as_bytes())?;
+    let map = output_of(&rt, alloc, "map", twice.as_bytes());
     let counts = b"lines 3\noperations 30\nt 14\nh 4\ncnot 12\n";
     expect_lines(
         &rt,
@@ -74,13 +68,13 @@ fn a_folded_network_has_fewer_t(rt: HostRuntime) -> Result<(), Fail> {
         ("-", map.bytes()),
         counts,
         7,
-    )?;
+    );
     let counts = b"lines 3\noperations 27\nt 8\nh 4\ncnot 12\n";
-    expect_folded(&rt, alloc, map.bytes(), counts)
+    expect_folded(&rt, alloc, map.bytes(), counts);
 }
 
 #[test]
-fn a_folded_network_is_folded_to_itself(rt: HostRuntime) -> Result<(), Fail> {
+fn a_folded_network_is_folded_to_itself(rt: HostRuntime) {
     const CASES: [(&str, &str); 5] = [
         (JOINED, JOINED),
         (KEPT, KEPT),
@@ -88,16 +82,16 @@ fn a_folded_network_is_folded_to_itself(rt: HostRuntime) -> Result<(), Fail> {
         (network!(1, ""), network!(1, "")),
         (network!(3, ""), network!(3, "")),
     ];
-    expect_texts(&rt, rt.alloc(), "fold", "-", &CASES)
+    expect_texts(&rt, rt.alloc(), "fold", "-", &CASES);
 }
 
 #[test]
-fn a_network_is_refused_by_its_fault(rt: HostRuntime) -> Result<(), Fail> {
+fn a_network_is_refused_by_its_fault(rt: HostRuntime) {
     const CASES: [(&[u8], &str); 3] = [
         (b"qreg q[2];\nt r[0];\n", "3: unknown register"),
         (b"qreg q[2];\nrz(pi/4) q[0];\n", "3: not supported"),
         (b"creg c[1];", "2: no quantum register"),
     ];
     let version = b"OPENQASM 2.0;\n";
-    expect_faults(&rt, rt.alloc(), "fold q.qasm", "q.qasm", version, &CASES)
+    expect_faults(&rt, rt.alloc(), "fold q.qasm", "q.qasm", version, &CASES);
 }

@@ -6,7 +6,6 @@ use rv_io::{Files, Got, NullSink, Started};
 use std::alloc::Global;
 use std::marker::Model;
 use std::process::Abort;
-use std::test::Fail;
 
 // A text: a part that isn't empty, so many times over, and then the rest.
 #[derive(Clone, Copy)]
@@ -106,54 +105,49 @@ fn run_over_made(
     run(alloc, words, files, out, errs)
 }
 
-// How a run over such inputs ends, and what it reports.
-fn end_of_made(
+// The status of a run over such inputs, which reports to this error output.
+fn status_over_made(
+    rt: &impl Abort,
     alloc: Global,
     typed: &str,
-    input: Parts,
-    named: &[u8],
-) -> Result<(u8, MemSink), Fail> {
-    let words = words_of(alloc, typed)?;
-    let mut errs = MemSink::new(alloc, 100)?;
-    let mut files = Made::new(input, named);
-    let status = run_over_made(alloc, &words, &mut files, &mut NullSink::new(), &mut errs);
-    Ok((status, errs))
+    files: &mut Made,
+    errs: &mut MemSink,
+) -> u8 {
+    let words = words_of(rt, alloc, typed);
+    run_over_made(alloc, &words, files, &mut NullSink::new(), errs)
 }
 
 pub(super) fn status_of_made(
+    rt: &impl Abort,
     alloc: Global,
     typed: &str,
     input: Parts,
     named: &[u8],
-) -> Result<u8, Fail> {
-    let (status, _errs) = end_of_made(alloc, typed, input, named)?;
-    Ok(status)
+) -> u8 {
+    let mut files = Made::new(input, named);
+    let mut errs = sink_of(rt, alloc, 100);
+    status_over_made(rt, alloc, typed, &mut files, &mut errs)
 }
 
 // Reads a permutation text of 134217728 line feeds and then these bytes.
-fn expect_refused(
-    rt: &impl Abort,
-    alloc: Global,
-    rest: &[u8],
-    status: u8,
-    line: &str,
-) -> Result<(), Fail> {
+fn expect_refused(rt: &impl Abort, alloc: Global, rest: &[u8], status: u8, line: &str) {
     let line_feeds = Parts {
         part: &[b'\n'; 4096],
         times: 32768,
         rest,
     };
-    let (got, errs) = end_of_made(alloc, "synth", line_feeds, b"")?;
-    assert_eq!(rt; got, status);
+    let mut files = Made::new(line_feeds, b"");
+    let mut errs = sink_of(rt, alloc, 100);
+    let got = status_over_made(rt, alloc, "synth", &mut files, &mut errs);
+    expect_status(rt, "synth", got, status);
     expect_line(rt, "synth", errs.bytes(), line);
-    Ok(())
 }
 
 // Of the greatest length, and longer by one: permutation texts without numbers.
 #[test]
-fn a_text_has_as_many_as_134217728_bytes(rt: HostRuntime) -> Result<(), Fail> {
+fn a_text_has_as_many_as_134217728_bytes(rt: HostRuntime) {
     let line = "-: 0 numbers are no power of two from 2 to 65536";
-    expect_refused(&rt, rt.alloc(), b"", 3, line)?;
+    expect_refused(&rt, rt.alloc(), b"", 3, line);
     let line = "-: longer than 134217728 bytes";
-    expect_refused(&rt, rt.alloc(), b"\n", 5, line)
+    expect_refused(&rt, rt.alloc(), b"\n", 5, line);
 }

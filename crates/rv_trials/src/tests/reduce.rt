@@ -2,10 +2,9 @@
 use super::*;
 use std::alloc::Global;
 use std::process::Abort;
-use std::test::Fail;
 
 #[test]
-fn operations_that_undo_each_other_go(rt: HostRuntime) -> Result<(), Fail> {
+fn operations_that_undo_each_other_go(rt: HostRuntime) {
     const CASES: [(&str, &str); 4] = [
         (
             "OPENQASM 2.0;\nqreg q[1];\nh q; t q; h q; h q;",
@@ -23,23 +22,22 @@ fn operations_that_undo_each_other_go(rt: HostRuntime) -> Result<(), Fail> {
         ),
         ("OPENQASM 2.0;\nqreg q[3];", network!(3, "")),
     ];
-    expect_texts(&rt, rt.alloc(), "reduce q.qasm", "q.qasm", &CASES)
+    expect_texts(&rt, rt.alloc(), "reduce q.qasm", "q.qasm", &CASES);
 }
 
 // The network of each circuit is reduced to one with the first counts beside it.
-fn expect_reduced(rt: &impl Abort, alloc: Global, cases: &[(&str, &str)]) -> Result<(), Fail> {
+fn expect_reduced(rt: &impl Abort, alloc: Global, cases: &[(&str, &str)]) {
     for (circuit, counts) in cases {
-        let map = output_of(rt, alloc, "map", circuit.as_bytes())?;
-        let reduced = output_of(rt, alloc, "reduce", map.bytes())?;
+        let map = output_of(rt, alloc, "map", circuit.as_bytes());
+        let reduced = output_of(rt, alloc, "reduce", map.bytes());
         let input = ("-", reduced.bytes());
-        expect_lines(rt, alloc, "cost --from qasm", input, counts.as_bytes(), 7)?;
+        expect_lines(rt, alloc, "cost --from qasm", input, counts.as_bytes(), 7);
     }
-    Ok(())
 }
 
 // Circuits of the literature, with the T that are published for them.
 #[test]
-fn a_reduced_network_has_the_published_t(rt: HostRuntime) -> Result<(), Fail> {
+fn a_reduced_network_has_the_published_t(rt: HostRuntime) {
     const CASES: [(&str, &str); 6] = [
         // Three controls over a clean line.
         (
@@ -88,15 +86,15 @@ fn a_reduced_network_has_the_published_t(rt: HostRuntime) -> Result<(), Fail> {
             "lines 3\noperations 15\nt 0\n",
         ),
     ];
-    expect_reduced(&rt, rt.alloc(), &CASES)
+    expect_reduced(&rt, rt.alloc(), &CASES);
 }
 
 #[test]
-fn what_is_not_read_is_not_reduced(rt: HostRuntime) -> Result<(), Fail> {
+fn what_is_not_read_is_not_reduced(rt: HostRuntime) {
     const CASES: [(&[u8], &str); 2] = [
         (b"qreg q[2];\nt r[0];\n", "3: unknown register"),
         (b"creg c[1];", "2: no quantum register"),
     ];
     let version = b"OPENQASM 2.0;\n";
-    expect_faults(&rt, rt.alloc(), "reduce q.qasm", "q.qasm", version, &CASES)
+    expect_faults(&rt, rt.alloc(), "reduce q.qasm", "q.qasm", version, &CASES);
 }

@@ -1,9 +1,8 @@
 // Permutations and their circuits of single-target gates.
 use super::*;
-use std::test::Fail;
 
 #[test]
-fn a_permutation_becomes_single_target_gates(rt: HostRuntime) -> Result<(), Fail> {
+fn a_permutation_becomes_single_target_gates(rt: HostRuntime) {
     const CASES: [(&str, &str); 6] = [
         ("0 2 1 3", numbered!(2, "t2 x1 x0\nt2 x0 x1\nt2 x1 x0\n")),
         ("0 1 3 2", numbered!(2, "t2 x0 x1\n")),
@@ -16,11 +15,11 @@ fn a_permutation_becomes_single_target_gates(rt: HostRuntime) -> Result<(), Fail
             written!(2, "x0 x1", "-0", "1-", "t1 x1\nt1 x0\n"),
         ),
     ];
-    expect_texts(&rt, rt.alloc(), "single p.txt", "p.txt", &CASES)
+    expect_texts(&rt, rt.alloc(), "single p.txt", "p.txt", &CASES);
 }
 
 #[test]
-fn no_permutation_is_refused_as_by_synth(rt: HostRuntime) -> Result<(), Fail> {
+fn no_permutation_is_refused_as_by_synth(rt: HostRuntime) {
     const CASES: [(&[u8], &str); 5] = [
         (b"0 1 1 2", " image repeated at places 1 and 2"),
         (b"0 4 1 2", " image out of range at place 1"),
@@ -28,6 +27,6 @@ fn no_permutation_is_refused_as_by_synth(rt: HostRuntime) -> Result<(), Fail> {
         (b"0 x 1", "1: not a number"),
         (b"0\n-0 1", "2: not a number"),
     ];
-    expect_faults(&rt, rt.alloc(), "single p.txt", "p.txt", b"", &CASES)?;
-    expect_faults(&rt, rt.alloc(), "synth p.txt", "p.txt", b"", &CASES)
+    expect_faults(&rt, rt.alloc(), "single p.txt", "p.txt", b"", &CASES);
+    expect_faults(&rt, rt.alloc(), "synth p.txt", "p.txt", b"", &CASES);
 }

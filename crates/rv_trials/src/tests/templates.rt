@@ -2,7 +2,6 @@
 use super::*;
 use std::alloc::Global;
 use std::process::Abort;
-use std::test::Fail;
 
 const ONE_FLIP: &str = typed!(3, "a b c", "t1 c\n");
 
@@ -14,21 +13,15 @@ macro_rules! on_three_lines {
 }
 
 // Simplifies a circuit by the templates of a library, both by their names.
-fn expect_by_library(
-    rt: &impl Abort,
-    alloc: Global,
-    circuit: &str,
-    library: &[u8],
-    want: Want,
-) -> Result<(), Fail> {
+fn expect_by_library(rt: &impl Abort, alloc: Global, circuit: &str, library: &[u8], want: Want) {
     let words = "templates --library l.real c.real";
     let circuit = ("c.real", circuit.as_bytes());
-    let mut files = files_of(alloc, circuit, ("l.real", library))?;
-    expect_by(rt, alloc, words, &mut files, want)
+    let mut files = files_of(rt, alloc, circuit, ("l.real", library));
+    expect_by(rt, alloc, words, &mut files, want);
 }
 
 #[test]
-fn pairs_and_windows_are_replaced(rt: HostRuntime) -> Result<(), Fail> {
+fn pairs_and_windows_are_replaced(rt: HostRuntime) {
     const CASES: [(&str, &str); 4] = [
         (
             typed!(3, "a b c", "t2 a b\nt1 c\nt2 a b\n"),
@@ -47,78 +40,67 @@ fn pairs_and_windows_are_replaced(rt: HostRuntime) -> Result<(), Fail> {
             on_three_lines!("t2 a b\nt2 -b c\nt2 a b\nt2 -b c\n"),
         ),
     ];
-    expect_texts(&rt, rt.alloc(), "templates", "-", &CASES)
+    expect_texts(&rt, rt.alloc(), "templates", "-", &CASES);
 }
 
 #[test]
-fn a_full_adder_stays_as_it_is(rt: HostRuntime) -> Result<(), Fail> {
+fn a_full_adder_stays_as_it_is(rt: HostRuntime) {
     let want = writes(adder!("p3 a b d\np3 b c d\n").as_bytes());
-    expect_on(&rt, rt.alloc(), "templates -", FULL_ADDER.as_bytes(), want)
+    expect_on(&rt, rt.alloc(), "templates -", FULL_ADDER.as_bytes(), want);
 }
 
 #[test]
-fn a_given_template_is_used(rt: HostRuntime) -> Result<(), Fail> {
+fn a_given_template_is_used(rt: HostRuntime) {
     let circuit = typed!(3, "a b c", "t2 a b\nt2 -b c\nt2 a b\nt2 -b c\n");
     let library = typed!(3, "a b c", "t2 a b\nt2 -b c\nt2 a b\nt2 -b c\nt2 a c\n");
     let want = writes(on_three_lines!("t2 a c\n").as_bytes());
-    expect_by_library(&rt, rt.alloc(), circuit, library.as_bytes(), want)
+    expect_by_library(&rt, rt.alloc(), circuit, library.as_bytes(), want);
 }
 
 #[test]
-fn a_library_that_is_no_template_is_refused(rt: HostRuntime) -> Result<(), Fail> {
+fn a_library_that_is_no_template_is_refused(rt: HostRuntime) {
     let circuit = typed!(2, "a b", "t2 a b\n");
     let no_identity = fails(3, "l.real: no identity: word 10 gives 11");
-    expect_by_library(&rt, rt.alloc(), circuit, circuit.as_bytes(), no_identity)?;
+    expect_by_library(&rt, rt.alloc(), circuit, circuit.as_bytes(), no_identity);
     let peres = typed!(3, "a b c", "p3 a b c\n");
     let no_flips = fails(3, "l.real: gate 1 is no Toffoli gate");
-    expect_by_library(&rt, rt.alloc(), circuit, peres.as_bytes(), no_flips)
+    expect_by_library(&rt, rt.alloc(), circuit, peres.as_bytes(), no_flips);
 }
 
 // A library with one template of so many flips on six lines.
-fn expect_by_flips(
-    rt: &impl Abort,
-    alloc: Global,
-    count: usize,
-    status: u8,
-    tells: &str,
-) -> Result<(), Fail> {
+fn expect_by_flips(rt: &impl Abort, alloc: Global, count: usize, status: u8, tells: &str) {
     let flip = b"t6 x0 x1 x2 x3 x4 x5\n";
     let first = b".numvars 6\n.variables x0 x1 x2 x3 x4 x5\n.begin\n";
-    let library = repeated(alloc, first, flip, count, b".end\n")?;
-    expect_by_library(rt, alloc, ONE_FLIP, &library, told(status, tells))
+    let library = repeated(rt, alloc, first, flip, count, b".end\n");
+    expect_by_library(rt, alloc, ONE_FLIP, &library, told(status, tells));
 }
 
 #[test]
-fn a_template_has_as_many_as_6_lines_and_32_gates(rt: HostRuntime) -> Result<(), Fail> {
+fn a_template_has_as_many_as_6_lines_and_32_gates(rt: HostRuntime) {
     let alloc = rt.alloc();
     let same = on_three_lines!("t1 c\n");
     let long = "l.real: template of 33 gates is longer than 32";
-    expect_by_flips(&rt, alloc, 2, 0, same)?;
-    expect_by_flips(&rt, alloc, 32, 0, same)?;
-    expect_by_flips(&rt, alloc, 33, 5, long)?;
+    expect_by_flips(&rt, alloc, 2, 0, same);
+    expect_by_flips(&rt, alloc, 32, 0, same);
+    expect_by_flips(&rt, alloc, 33, 5, long);
     let wide = typed!(
         7,
         "x0 x1 x2 x3 x4 x5 x6",
         "t7 x0 x1 x2 x3 x4 x5 x6\nt7 x0 x1 x2 x3 x4 x5 x6\n"
     );
     let wider = fails(5, "l.real: template of 7 lines is wider than 6");
-    expect_by_library(&rt, alloc, ONE_FLIP, wide.as_bytes(), wider)
+    expect_by_library(&rt, alloc, ONE_FLIP, wide.as_bytes(), wider);
 }
 
 // Each circuit is refused, or its library.
-fn expect_refused(
-    rt: &impl Abort,
-    alloc: Global,
-    cases: &[(&str, &str, &str)],
-) -> Result<(), Fail> {
+fn expect_refused(rt: &impl Abort, alloc: Global, cases: &[(&str, &str, &str)]) {
     for (circuit, library, line) in cases {
-        expect_by_library(rt, alloc, circuit, library.as_bytes(), fails(3, line))?;
+        expect_by_library(rt, alloc, circuit, library.as_bytes(), fails(3, line));
     }
-    Ok(())
 }
 
 #[test]
-fn a_fault_of_the_circuit_comes_before_one_of_the_library(rt: HostRuntime) -> Result<(), Fail> {
+fn a_fault_of_the_circuit_comes_before_one_of_the_library(rt: HostRuntime) {
     const OTHER: &str = typed!(2, "a b", "t2 a -b\n");
     const NO_IDENTITY: &str = typed!(2, "a b", "t2 a b\n");
     const CASES: [(&str, &str, &str); 4] = [
@@ -127,24 +109,24 @@ fn a_fault_of_the_circuit_comes_before_one_of_the_library(rt: HostRuntime) -> Re
         (NO_IDENTITY, OTHER, "l.real:4: sign on a target"),
         (OTHER, UNENDED, "c.real:4: sign on a target"),
     ];
-    expect_refused(&rt, rt.alloc(), &CASES)
+    expect_refused(&rt, rt.alloc(), &CASES);
 }
 
 #[test]
-fn an_input_that_is_not_held_comes_before_any_fault(rt: HostRuntime) -> Result<(), Fail> {
+fn an_input_that_is_not_held_comes_before_any_fault(rt: HostRuntime) {
     let words = "templates c.real --library=l.real";
     let wrong = UNENDED.as_bytes();
     let library = fails(4, "cannot read l.real");
-    expect(&rt, rt.alloc(), words, ("c.real", wrong), library)?;
+    expect(&rt, rt.alloc(), words, ("c.real", wrong), library);
     let circuit = fails(4, "cannot read c.real");
-    expect(&rt, rt.alloc(), words, ("l.real", wrong), circuit)
+    expect(&rt, rt.alloc(), words, ("l.real", wrong), circuit);
 }
 
 #[test]
-fn the_library_may_be_standard_input(rt: HostRuntime) -> Result<(), Fail> {
+fn the_library_may_be_standard_input(rt: HostRuntime) {
     let template = typed!(2, "a b", "t2 a b\nt2 a b\n").as_bytes();
     let want = writes(on_three_lines!("t1 c\n").as_bytes());
     let words = "templates --library - c.real";
     let circuit = ("c.real", ONE_FLIP.as_bytes());
-    expect_over_two(&rt, rt.alloc(), words, ("-", template), circuit, want)
+    expect_over_two(&rt, rt.alloc(), words, ("-", template), circuit, want);
 }

@@ -1,6 +1,5 @@
 // OpenQASM texts and their circuits.
 use super::*;
-use std::test::Fail;
 
 const TOREAL: &str = "toreal q.qasm";
 
@@ -9,7 +8,7 @@ const SEVEN_OPERATIONS: &str = "\
     cswap q[2],q[0],q[1];\n";
 
 #[test]
-fn each_operation_becomes_a_gate(rt: HostRuntime) -> Result<(), Fail> {
+fn each_operation_becomes_a_gate(rt: HostRuntime) {
     const CASES: [(&str, &str); 3] = [
         (
             SEVEN_OPERATIONS,
@@ -25,7 +24,7 @@ fn each_operation_becomes_a_gate(rt: HostRuntime) -> Result<(), Fail> {
         ),
         ("OPENQASM 2.0;\nqreg q[2];\n", numbered!(2, "")),
     ];
-    expect_texts(&rt, rt.alloc(), TOREAL, "q.qasm", &CASES)
+    expect_texts(&rt, rt.alloc(), TOREAL, "q.qasm", &CASES);
 }
 
 const COMPILED: &str = "\
@@ -35,7 +34,7 @@ const COMPILED: &str = "\
     measure q -> c;\nmeasure ancilla[0] -> meas[0];\nbarrier q;\nid q;\n";
 
 #[test]
-fn texts_of_other_tools_are_read(rt: HostRuntime) -> Result<(), Fail> {
+fn texts_of_other_tools_are_read(rt: HostRuntime) {
     const WITHOUT_BLANKS: &str = "OPENQASM 2.0;include\"qelib1.inc\";qreg q[2];creg c[2];\
 x q[0];cx q[0],q[1];measure q[0]->c[0];";
     const MANY_BLANKS: &str = "OPENQASM 2.0;\r\n\r\nqreg a_0[1];\r\nqreg B[1];\r\n\r\n\
@@ -49,11 +48,11 @@ swap x[06],U;x x[00000000000];";
         (MANY_BLANKS, numbered!(2, "t2 x0 x1\n")),
         (ODD_NAMES, numbered!(8, "f2 x6 x7\nt1 x0\n")),
     ];
-    expect_texts(&rt, rt.alloc(), TOREAL, "q.qasm", &CASES)
+    expect_texts(&rt, rt.alloc(), TOREAL, "q.qasm", &CASES);
 }
 
 #[test]
-fn an_operation_that_is_not_classical_is_told_by_its_number(rt: HostRuntime) -> Result<(), Fail> {
+fn an_operation_that_is_not_classical_is_told_by_its_number(rt: HostRuntime) {
     const FIRST: &str = " operation 1 is not classical";
     const CASES: [(&[u8], &str); 8] = [
         (b"y q[0];\nx q;\nh q;\n", FIRST),
@@ -66,11 +65,11 @@ fn an_operation_that_is_not_classical_is_told_by_its_number(rt: HostRuntime) -> 
         (b"cz q[0],q[1];\nx q;\nh q;\n", FIRST),
     ];
     let register = b"OPENQASM 2.0;\nqreg q[2];\n";
-    expect_faults(&rt, rt.alloc(), TOREAL, "q.qasm", register, &CASES)
+    expect_faults(&rt, rt.alloc(), TOREAL, "q.qasm", register, &CASES);
 }
 
 #[test]
-fn each_cause_but_too_many_operations_has_its_text(rt: HostRuntime) -> Result<(), Fail> {
+fn each_cause_but_too_many_operations_has_its_text(rt: HostRuntime) {
     const CASES: [(&[u8], &str); 14] = [
         (b"qreg q[2.0];\n", "2: wrong syntax"),
         (b"qreg q[2];\nx r[0];\n", "3: unknown register"),
@@ -94,11 +93,11 @@ fn each_cause_but_too_many_operations_has_its_text(rt: HostRuntime) -> Result<()
         (b"qreg q[2];\nx\nq[0]\n", "3: unended statement"),
     ];
     let version = b"OPENQASM 2.0;\n";
-    expect_faults(&rt, rt.alloc(), TOREAL, "q.qasm", version, &CASES)
+    expect_faults(&rt, rt.alloc(), TOREAL, "q.qasm", version, &CASES);
 }
 
 #[test]
-fn the_first_statement_is_the_version(rt: HostRuntime) -> Result<(), Fail> {
+fn the_first_statement_is_the_version(rt: HostRuntime) {
     const CASES: [(&[u8], &str); 12] = [
         (b"", "0: no OPENQASM 2.0 header"),
         (b"\nx q[0];\n", "2: no OPENQASM 2.0 header"),
@@ -117,14 +116,14 @@ fn the_first_statement_is_the_version(rt: HostRuntime) -> Result<(), Fail> {
         (b"OPENQASM \"2.0;\n", "1: wrong syntax"),
         (b"\nOPENQASM\n2.0", "2: unended statement"),
     ];
-    expect_faults(&rt, rt.alloc(), TOREAL, "q.qasm", b"", &CASES)
+    expect_faults(&rt, rt.alloc(), TOREAL, "q.qasm", b"", &CASES);
 }
 
 // Two registers on lines 1 and 2, and statements from line 3 on.
 const REGISTERS: &[u8] = b"OPENQASM 2.0;\nqreg q[2];creg c[2];\n";
 
 #[test]
-fn the_first_rule_that_a_statement_breaks_is_told(rt: HostRuntime) -> Result<(), Fail> {
+fn the_first_rule_that_a_statement_breaks_is_told(rt: HostRuntime) {
     const CASES: [(&[u8], &str); 20] = [
         (b"\n ;", "4: wrong syntax"),
         (b"\ncx\nq[0],\nq[0];", "4: repeated operand"),
@@ -147,11 +146,11 @@ fn the_first_rule_that_a_statement_breaks_is_told(rt: HostRuntime) -> Result<(),
         (b"measure q -> c[0];", "3: register sizes differ"),
         (b"measure q->c;cx q,q;", "3: repeated operand"),
     ];
-    expect_faults(&rt, rt.alloc(), TOREAL, "q.qasm", REGISTERS, &CASES)
+    expect_faults(&rt, rt.alloc(), TOREAL, "q.qasm", REGISTERS, &CASES);
 }
 
 #[test]
-fn bytes_outside_the_language_stand_for_themselves(rt: HostRuntime) -> Result<(), Fail> {
+fn bytes_outside_the_language_stand_for_themselves(rt: HostRuntime) {
     const CASES: [(&[u8], &str); 10] = [
         (b"x q[0]\x00;", "3: wrong syntax"),
         (b"\x00;", "3: unknown gate"),
@@ -165,18 +164,16 @@ fn bytes_outside_the_language_stand_for_themselves(rt: HostRuntime) -> Result<()
         (b"\"\xff\n;", "3: wrong syntax"),
         (b"include \"\xff\";", "3: not supported"),
     ];
-    expect_faults(&rt, rt.alloc(), TOREAL, "q.qasm", REGISTERS, &CASES)?;
+    expect_faults(&rt, rt.alloc(), TOREAL, "q.qasm", REGISTERS, &CASES);
     // In a comment any byte may stand.
     let comment = b"//\x00\x0b\xff;\xef\xbb\xbf\nx q[0];";
-    let commented = repeated(rt.alloc(), REGISTERS, comment, 1, b"")?;
+    let commented = repeated(&rt, rt.alloc(), REGISTERS, comment, 1, b"");
     let circuit = writes(numbered!(2, "t1 x0\n").as_bytes());
-    expect_on(&rt, rt.alloc(), "toreal", &commented, circuit)
+    expect_on(&rt, rt.alloc(), "toreal", &commented, circuit);
 }
 
 #[test]
-fn an_unended_statement_has_the_rules_of_quotes_and_names_alone(
-    rt: HostRuntime,
-) -> Result<(), Fail> {
+fn an_unended_statement_has_the_rules_of_quotes_and_names_alone(rt: HostRuntime) {
     const CASES: [(&[u8], &str); 5] = [
         (b"foo", "3: unended statement"),
         (b"include \"a.inc\"", "3: unended statement"),
@@ -184,5 +181,5 @@ fn an_unended_statement_has_the_rules_of_quotes_and_names_alone(
         (b"x q[0];x \"q;\n", "3: wrong syntax"),
         (b"x r;U", "3: unknown register"),
     ];
-    expect_faults(&rt, rt.alloc(), TOREAL, "q.qasm", REGISTERS, &CASES)
+    expect_faults(&rt, rt.alloc(), TOREAL, "q.qasm", REGISTERS, &CASES);
 }
