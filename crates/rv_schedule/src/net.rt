@@ -18,8 +18,8 @@ const NO_USER: usize = usize::MAX;
 const MOST_IN_CHAIN: usize = 64;
 
 /// What is known of a signal: the signal that it passes on, or itself; what its node costs; the operand on whose line
-/// that can be made, and the input on whose line its chain begins; how often it is needed, by which node last, for which
-/// outputs, and how many lines it takes about.
+/// that can be made, and the input on whose line its chain begins; how often it is needed, by which node last, for
+/// which outputs, and how many lines it takes about.
 #[derive(Clone, Copy)]
 struct Facts {
     root: u32,

@@ -5,8 +5,8 @@ ghost use Rattle.std.specs.Str.{bytes_eq};
 ghost use Rattle.rv_words.specs.Table.{command_of, is_used, needs_goal, usage_of};
 
 use crate::options::{
-    ALL, AS, AUX, BLOCKS, EFFORT, FROM, GATES, GOAL, LIBRARY, LINES, MARKS, METHOD, SEED, SIMPLIFY, TO,
-    WRAP,
+    ALL, AS, AUX, BLOCKS, EFFORT, FROM, GATES, GOAL, LIBRARY, LINES, MARKS, METHOD, SEED, SIMPLIFY,
+    TO, WRAP,
 };
 use rv_tbs::Method;
 

@@ -42,9 +42,11 @@ pub optimal-refuses : (library : Library) (spec : Marked) (why : OptimalFault) (
     → Makes (optimal_row library) (name ∷ []) old new (Err it)
 optimal-refuses library spec (fault.TooManyLines lines) name old new it wide gates is keeps has =
     let many = wide lines refl in
-    finds-refused permutation optimal_limits (EndsInVain library) (IsOptimalSynthesis library) name old new spec (in_vain (fault.TooManyLines lines)) it is keeps has
-    (omega arith, refused-first 0 spec.table.lines MOST_OPTIMAL_LINES (TooManyLines spec.table.lines MOST_OPTIMAL_LINES) (TooManyLines lines MOST_OPTIMAL_LINES) []
-    (ap (λ n. TooManyLines n MOST_OPTIMAL_LINES) many.0) (subst (λ n. MOST_OPTIMAL_LINES < n) (sym many.0) many.1))
+    finds-refused permutation optimal_limits (EndsInVain library) (IsOptimalSynthesis library) name old new spec (in_vain (fault.TooManyLines lines)) it is keeps has (
+      omega arith,
+      refused-first 0 spec.table.lines MOST_OPTIMAL_LINES (TooManyLines spec.table.lines MOST_OPTIMAL_LINES) (TooManyLines lines MOST_OPTIMAL_LINES) []
+          (ap (λ n. TooManyLines n MOST_OPTIMAL_LINES) many.0) (subst (λ n. MOST_OPTIMAL_LINES < n) (sym many.0) many.1),
+    )
 optimal-refuses library spec (fault.MoreGates most) name old new it wide gates is keeps has =
     let more = gates most refl in
     finds-none permutation optimal_limits (EndsInVain library) (IsOptimalSynthesis library) name old new spec (MoreGates most) it is keeps has (more.1, tt)

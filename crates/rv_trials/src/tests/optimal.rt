@@ -1,13 +1,12 @@
 // Permutations and circuits than which none has fewer gates.
 use super::*;
-use std::test::Fail;
 
 // The one of RevLib's that is named 4_49.
 const LONG: &str = "15 1 12 3 5 6 8 7 0 10 13 9 2 4 14 11";
 
 // 6 and 4 gates are the least for 3_17, as is published.
 #[test]
-fn a_permutation_of_few_lines_has_a_shortest_circuit(rt: HostRuntime) -> Result<(), Fail> {
+fn a_permutation_of_few_lines_has_a_shortest_circuit(rt: HostRuntime) {
     const CASES: [(&str, &str); 7] = [
         (
             "7 1 4 3 0 2 6 5",
@@ -36,12 +35,18 @@ fn a_permutation_of_few_lines_has_a_shortest_circuit(rt: HostRuntime) -> Result<
             written!(2, "x0 x1", "-0", "1-", "t1 x0\nt1 x1\n"),
         ),
     ];
-    expect_texts(&rt, rt.alloc(), "optimal p.txt", "p.txt", &CASES)?;
-    expect_texts(&rt, rt.alloc(), "optimal --gates mct p.txt", "p.txt", &CASES)
+    expect_texts(&rt, rt.alloc(), "optimal p.txt", "p.txt", &CASES);
+    expect_texts(
+        &rt,
+        rt.alloc(),
+        "optimal --gates mct p.txt",
+        "p.txt",
+        &CASES,
+    );
 }
 
 #[test]
-fn controls_of_both_kinds_take_fewer_gates(rt: HostRuntime) -> Result<(), Fail> {
+fn controls_of_both_kinds_take_fewer_gates(rt: HostRuntime) {
     const CASES: [(&str, &str); 2] = [
         (
             "7 1 4 3 0 2 6 5",
@@ -49,11 +54,17 @@ fn controls_of_both_kinds_take_fewer_gates(rt: HostRuntime) -> Result<(), Fail> 
         ),
         ("0 2 1 3", numbered!(2, "t2 x1 x0\nt2 x0 x1\nt2 x1 x0\n")),
     ];
-    expect_texts(&rt, rt.alloc(), "optimal --gates mpmct p.txt", "p.txt", &CASES)
+    expect_texts(
+        &rt,
+        rt.alloc(),
+        "optimal --gates mpmct p.txt",
+        "p.txt",
+        &CASES,
+    );
 }
 
 #[test]
-fn more_gates_than_are_looked_for_are_told(rt: HostRuntime) -> Result<(), Fail> {
+fn more_gates_than_are_looked_for_are_told(rt: HostRuntime) {
     const CASES: [(&str, &str, u8, &str); 2] = [
         ("optimal", LONG, 5, "-: more than 10 gates"),
         (
@@ -63,16 +74,16 @@ fn more_gates_than_are_looked_for_are_told(rt: HostRuntime) -> Result<(), Fail> 
             "-: 5 lines are more than 4",
         ),
     ];
-    expect_each(&rt, rt.alloc(), &CASES)
+    expect_each(&rt, rt.alloc(), &CASES);
 }
 
 #[test]
-fn no_permutation_is_refused_as_by_synth(rt: HostRuntime) -> Result<(), Fail> {
+fn no_permutation_is_refused_as_by_synth(rt: HostRuntime) {
     const CASES: [(&[u8], &str); 4] = [
         (b"0 1 1 2", " image repeated at places 1 and 2"),
         (b"0 4 1 2", " image out of range at place 1"),
         (b"0 1 2", " 3 numbers are no power of two from 2 to 65536"),
         (b"0 x 1", "1: not a number"),
     ];
-    expect_faults(&rt, rt.alloc(), "optimal p.txt", "p.txt", b"", &CASES)
+    expect_faults(&rt, rt.alloc(), "optimal p.txt", "p.txt", b"", &CASES);
 }
