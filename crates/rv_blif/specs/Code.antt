@@ -19,4 +19,5 @@ text_of_code c =
     else (if c == code.MIXED_ROWS then codes "mixed rows"
     else (if c == code.NO_OUTPUTS then codes "no outputs"
     else (if c == code.NEVER_DRIVEN then codes "never driven"
-    else codes "cycle"))))))))))))))
+    else (if c == code.CYCLE then codes "cycle"
+    else codes "misplaced backslash")))))))))))))))

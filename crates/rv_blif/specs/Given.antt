@@ -13,7 +13,7 @@ use Rattle.rv_blif.specs.declared.product.TheConstants.{MOST_OPERANDS}
 use Rattle.rv_blif.specs.declared.port.Port.{Port}
 use Rattle.rv_blif.specs.Netlist.{Netlist, Cover}
 use Rattle.rv_blif.specs.Row.{are_literals, input_part, product_of}
-use Rattle.rv_blif.specs.Line.{words_of, goes_on, before_next, is_dropped, is_latch, is_unsupported}
+use Rattle.rv_blif.specs.Line.{words_of, goes_on, before_next, is_any_cut, is_dropped, is_latch, is_unsupported}
 
 pub record Given : Type 0 where
   pub names : List (List ℕ)
@@ -187,12 +187,13 @@ directive_of line given name words =
     else (if is_unsupported name then Err code.NOT_SUPPORTED
     else Err code.UNKNOWN_DIRECTIVE)))))))
 
--- a line without words is skipped
+-- a line without words is skipped; outside of remarks a word that ends with `\` is refused
 abbrev pub line_by : Given → ℕ → List Lexeme → Result Given ℕ
 line_by given line [] = Ok given
 line_by given line (word ∷ words) =
-    if begins_with_dot word.bytes then directive_of line (closed given) word.bytes words
-    else row_of given given.last (joined (word ∷ words))
+    broken (not (is_dropped word.bytes) && is_any_cut (word ∷ words)) code.MISPLACED_BACKSLASH
+    (if begins_with_dot word.bytes then directive_of line (closed given) word.bytes words
+    else row_of given given.last (joined (word ∷ words)))
 
 -- a line after what was begun
 abbrev pub whole_line : Given → ℕ → List ℕ → Result Given ℕ

@@ -1,5 +1,5 @@
 -- The lines of a BLIF text, and their words.
-use Rattle.std.specs.Prelude.{ℕ, ◌-◌, Bool, not, false, List, [], ◌∷◌, ◌++◌, length, take, ◌==◌, ◌||◌, ◌&&◌, if◌then◌else◌, slice_index, codes}
+use Rattle.std.specs.Prelude.{ℕ, ◌-◌, Bool, not, false, List, [], ◌∷◌, ◌++◌, length, take, ◌==◌, ◌||◌, ◌&&◌, if◌then◌else◌, nat_lt, slice_index, codes}
 use Rattle.std.specs.List.{list_any}
 use Rattle.std.specs.Str.{bytes_eq}
 use Rattle.rv_text.specs.Bytes.{carriage_return, hash, space}
@@ -21,9 +21,18 @@ goes_on line = slice_index line (body_len line - 1) == 92 && not (list_any (λ b
 abbrev pub before_next : List ℕ → List ℕ
 before_next line = take (body_len line - 1) line ++ space ∷ []
 
+-- a word that ends with `\`, behind which the line does not go on
+abbrev pub is_cut : List ℕ → Bool
+is_cut word = nat_lt 0 (length word) && slice_index word (length word - 1) == 92
+
+abbrev pub is_any_cut : List Lexeme → Bool
+is_any_cut words = list_any (λ word. is_cut word.bytes) words
+
 -- remarks of Yosys, which say nothing of the function
 unfoldable pub is_dropped : List ℕ → Bool
-is_dropped name = bytes_eq name (codes ".attrib") || bytes_eq name (codes ".param") || bytes_eq name (codes ".cname")
+is_dropped name =
+    bytes_eq name (codes ".attr") || bytes_eq name (codes ".attrib") || bytes_eq name (codes ".param")
+    || bytes_eq name (codes ".cname")
 
 unfoldable pub is_latch : List ℕ → Bool
 is_latch name = bytes_eq name (codes ".latch") || bytes_eq name (codes ".mlatch")

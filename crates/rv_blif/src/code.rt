@@ -50,6 +50,9 @@ pub const NEVER_DRIVEN: u8 = 15;
 /// `cycle`
 pub const CYCLE: u8 = 16;
 
+/// `misplaced backslash`
+pub const MISPLACED_BACKSLASH: u8 = 17;
+
 /// What a code says.
 pub fn text_of_code(code: u8) -> &'static str
     ensures { result.now ≡ text_of_code code }
@@ -70,6 +73,7 @@ pub fn text_of_code(code: u8) -> &'static str
         MIXED_ROWS => "mixed rows",
         NO_OUTPUTS => "no outputs",
         NEVER_DRIVEN => "never driven",
-        _ => "cycle",
+        CYCLE => "cycle",
+        _ => "misplaced backslash",
     }
 }

@@ -5,7 +5,7 @@ ghost use Rattle.rv_text.specs.Bytes.{hash};
 ghost use Rattle.rv_text.specs.Tokens.{joined, tokens_of};
 ghost use Rattle.rv_reader.specs.Gives.{StepGives};
 ghost use Rattle.rv_blif.specs.inside.laws.Denotes.{denotes, finds};
-ghost use Rattle.rv_blif.specs.Line.{body_len, goes_on, is_dropped, is_latch, is_unsupported};
+ghost use Rattle.rv_blif.specs.Line.{body_len, goes_on, is_any_cut, is_cut, is_dropped, is_latch, is_unsupported};
 ghost use Rattle.rv_blif.specs.Given.{closed, cover_given, cover_numbered, directive_of, input_given, inputs_given};
 ghost use Rattle.rv_blif.specs.Given.{line_by, line_rules, names_given, number_of, numbered, output_given};
 ghost use Rattle.rv_blif.specs.Given.{outputs_given, row_added, row_of, signals_given, whole_line, with_name, Numbered};
@@ -13,9 +13,9 @@ ghost use Rattle.rv_blif.specs.Reading.{as_fault, end_of, fault_in, logic_of};
 ghost use Rattle.rv_blif.specs.declared.product.TheConstants.{MOST_OPERANDS};
 
 use crate::code::{
-    DRIVEN_TWICE, LATCH, MISSING_NAME, MIXED_ROWS, NOT_SUPPORTED, REPEATED_OUTPUT,
-    ROW_OUT_OF_PLACE, SECOND_MODEL, TOO_MANY_OPERANDS, TOO_MANY_SIGNALS, UNKNOWN_DIRECTIVE,
-    WRONG_CHARACTER, WRONG_ROW_LENGTH,
+    DRIVEN_TWICE, LATCH, MISPLACED_BACKSLASH, MISSING_NAME, MIXED_ROWS, NOT_SUPPORTED,
+    REPEATED_OUTPUT, ROW_OUT_OF_PLACE, SECOND_MODEL, TOO_MANY_OPERANDS, TOO_MANY_SIGNALS,
+    UNKNOWN_DIRECTIVE, WRONG_CHARACTER, WRONG_ROW_LENGTH,
 };
 use crate::cover::Cover;
 use crate::end::end_of;
@@ -295,6 +295,9 @@ impl State {
             return Ok(());
         };
         let name = &line[first.start..first.end];
+        if !is_dropped(name) && is_any_cut(line) {
+            return Err(Stop::Fault(MISPLACED_BACKSLASH));
+        }
         if begins_with_dot(name) {
             self.close()?;
             self.read_directive(number, name, line, first.end)
@@ -423,11 +426,34 @@ fn goes_on(line: &[u8]) -> bool
     len > 0 && line[len - 1] == b'\\' && !has_comment(line)
 }
 
+fn is_cut(word: &[u8]) -> bool
+    ensures { result ≡ is_cut word.now }
+{
+    !word.is_empty() && word[word.len() - 1] == b'\\'
+}
+
+// Whether a word of a line ends with `\`, behind which the line does not go on.
+fn is_any_cut(line: &[u8]) -> bool
+    ensures { result ≡ is_any_cut (tokens_of false [] line.now) }
+{
+    let mut at = 0;
+    while let Some(word) = token(line, at, false, &[]) {
+        if is_cut(&line[word.start..word.end]) {
+            return true;
+        }
+        at = word.end;
+    }
+    false
+}
+
 #[tactic(auto, unfolding(crate::specs::Line::is_dropped))]
 fn is_dropped(name: &[u8]) -> bool
     ensures { result ≡ is_dropped name.now }
 {
-    name == b".attrib".as_slice() || name == b".param".as_slice() || name == b".cname".as_slice()
+    name == b".attr".as_slice()
+        || name == b".attrib".as_slice()
+        || name == b".param".as_slice()
+        || name == b".cname".as_slice()
 }
 
 #[tactic(auto, unfolding(crate::specs::Line::is_latch))]

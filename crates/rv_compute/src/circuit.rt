@@ -7,12 +7,11 @@ ghost use Rattle.rv_compute.specs.Computed.{IsComputed, IsComputedWithin, Gives}
 ghost use Rattle.rv_compute.specs.inside.Held.{line_count};
 ghost use Rattle.rv_compute.specs.declared.circuit.ComputeFault.TheVariants.{Mem};
 
-use crate::net::net_of;
 use crate::own::on_own_lines;
 use crate::run::certified;
-use crate::search::best_plan;
 use rv_blif::{Logic, Node};
 use rv_gate::{Circuit, MOST_GATES, MOST_LINES};
+use rv_schedule::{best_plan, net_of};
 use std::alloc::{AllocError, Global};
 use thiserror::Error;
 

@@ -9,17 +9,11 @@ use crate::place::Place;
 use crate::sum::is_sum;
 use rv_blif::{Logic, MOST_OPERANDS, Node, Product};
 use rv_gate::{MOST_LINES, has};
+use rv_schedule::Pass;
 use std::alloc::{AllocError, Global};
 
 // So many nodes in turn that only pass on an operand are seen through.
 const MOST_PASSING: usize = 64;
-
-/// A node that passes on an operand, or nothing, changed or not.
-#[derive(Clone, Copy, Debug, PartialEq, Eq)]
-pub(crate) struct Pass {
-    pub(crate) operand: Option<u8>,
-    pub(crate) changed: bool,
-}
 
 // A line that isn't an output's and on which the signal stands.
 fn find_line(logic: &Logic, held: &[Option<u32>], signal: u32) -> Option<u8>

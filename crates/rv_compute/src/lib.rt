@@ -8,16 +8,11 @@
 mod block;
 mod circuit;
 mod controls;
-mod engine;
-mod esop;
 mod held;
 mod lines;
-mod net;
 mod own;
 mod place;
-mod plan;
 mod run;
-mod search;
 mod start;
 mod step;
 mod sum;

@@ -8,12 +8,11 @@ ghost use Rattle.rv_compute.specs.inside.Blocks.{AreGates};
 ghost use Rattle.rv_compute.specs.inside.Own.{Ended};
 
 use crate::lines::logic_lines;
-use crate::net::Net;
-use crate::plan::{Plan, Step};
 use crate::start::{first_held, is_done};
 use crate::step::{Work, add, copy};
 use rv_blif::Logic;
 use rv_gate::{Circuit, Gate, MOST_GATES, MOST_LINES};
+use rv_schedule::{Net, Plan, Step};
 use std::alloc::{AllocError, Global};
 
 // Whether each gate fits so many lines.
@@ -47,7 +46,7 @@ fn run_step(
             alloc,
             logic,
             extra,
-            &net.passes,
+            net.passes(),
             work,
             step.signal,
             step.line,
@@ -58,7 +57,7 @@ fn run_step(
         alloc,
         logic,
         extra,
-        &net.passes,
+        net.passes(),
         work,
         step.signal,
         step.start,

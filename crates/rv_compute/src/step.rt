@@ -6,11 +6,12 @@ ghost use Rattle.rv_compute.specs.inside.Held.{Stands, IsExchanged, IsPut, IsPut
 ghost use Rattle.rv_compute.specs.inside.Places.{AreBeside};
 
 use crate::block::block_of;
-use crate::held::{Pass, places_of, start_of};
+use crate::held::{places_of, start_of};
 use crate::place::Place;
 use crate::sum::is_sum;
 use rv_blif::{Logic, MOST_OPERANDS, Product};
 use rv_gate::{Gate, MOST_LINES};
+use rv_schedule::Pass;
 use std::alloc::{AllocError, Global};
 
 /// What stands on the lines, and the gates that put it there.

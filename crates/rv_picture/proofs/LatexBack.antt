@@ -26,9 +26,9 @@ use Rattle.rv_draw.proofs.inside.SheetBack.{by_place, columns_of, label_is}
 use Rattle.rv_picture.specs.Cut.{after, cut, lines_in, text_of_lines, value_with}
 use Rattle.rv_picture.specs.Labels.{is_special, shown_label}
 use Rattle.rv_picture.specs.Markup.{latex_escapes}
-use Rattle.rv_picture.specs.Latex.{Cell, Line, all_joined, are_joined, begin_line, block_lines, cell_on, cell_text}
+use Rattle.rv_picture.specs.Latex.{Cell, Line, all_joined, are_joined, begin_line, block_lines, cell_look, cell_on, cell_text}
 use Rattle.rv_picture.specs.Latex.{cells, cells_and_end, cells_text, column_count, empty_line, end_line}
-use Rattle.rv_picture.specs.Latex.{ended, environments, input_end, input_of, input_read, input_text, is_joined_on}
+use Rattle.rv_picture.specs.Latex.{constant_look, ended, environments, input_end, input_of, input_read, input_text, is_joined_on}
 use Rattle.rv_picture.specs.Latex.{is_on, latex_label, latex_shown_by, latex_with, line_of, line_of_cells, output_read}
 use Rattle.rv_picture.specs.Latex.{output_text, picture_of_lines, picture_with, pictures_of, row_text, with_cell}
 use Rattle.rv_picture.specs.Latex.{with_input, with_line}
@@ -38,7 +38,7 @@ use Rattle.rv_gate.proofs.Bits.{same_self}
 
 -- ---- cells
 
-cell_back : (s : Symbol) (joined : Bool) → value_with cell_text cells (cell_text (record { symbol = s; is_joined = joined })) ≡ Some (record { symbol = s; is_joined = joined })
+cell_back : (s : Symbol) (joined : Bool) → value_with cell_look cells (cell_text (record { symbol = s; is_joined = joined })) ≡ Some (record { symbol = s; is_joined = joined })
 cell_back Wire false = refl
 cell_back Crossing false = refl
 cell_back Positive false = refl
@@ -116,14 +116,14 @@ cell_bytes Y true = refl
 escapes_back : AreBack latex_escapes 92 latex_escapes
 escapes_back = (
   λ rest. refl,
-  (λ rest. refl, (λ rest. refl, (λ rest. refl, (λ rest. refl, (λ rest. refl, (λ rest. refl, (λ rest. refl, (λ rest. refl, (λ rest. refl, (λ rest. refl, (λ rest. refl, (λ rest. refl, (λ rest. refl, (λ rest. refl, tt)))))))))))))),
+  (λ rest. refl, (λ rest. refl, (λ rest. refl, (λ rest. refl, (λ rest. refl, (λ rest. refl, (λ rest. refl, (λ rest. refl, (λ rest. refl, (λ rest. refl, (λ rest. refl, (λ rest. refl, (λ rest. refl, (λ rest. refl, (λ rest. refl, (λ rest. refl, (λ rest. refl, tt))))))))))))))))),
 )
 
 escapes_lack : (at : ℕ) → (at ≡ 38) → AllText (λ byte. not (nat_eq byte 38)) latex_escapes
-escapes_lack at is = (refl, (refl, (refl, (refl, (refl, (refl, (refl, (refl, (refl, (refl, (refl, (refl, (refl, (refl, (refl, tt)))))))))))))))
+escapes_lack at is = (refl, (refl, (refl, (refl, (refl, (refl, (refl, (refl, (refl, (refl, (refl, (refl, (refl, (refl, (refl, (refl, (refl, (refl, tt))))))))))))))))))
 
 escapes_one_line : AllText (λ byte. not (nat_eq byte 10)) latex_escapes
-escapes_one_line = (refl, (refl, (refl, (refl, (refl, (refl, (refl, (refl, (refl, (refl, (refl, (refl, (refl, (refl, (refl, tt)))))))))))))))
+escapes_one_line = (refl, (refl, (refl, (refl, (refl, (refl, (refl, (refl, (refl, (refl, (refl, (refl, (refl, (refl, (refl, (refl, (refl, (refl, tt))))))))))))))))))
 
 label_lacks : (label : List ℕ) → lacks 38 (latex_label label) ≡ true
 label_lacks label =
@@ -203,7 +203,7 @@ cells_back draws lines line (gate ∷ gates) label g is =
     ∙ ap (λ (c : Option Cell). with_cell c (cells_and_end (map cell_text (row_cells draws lines gates line) ++ output_text label g ∷ []))) (cell_back cell.symbol cell.is_joined)
     ∙ ap (with_cell (Some cell)) (cells_back draws lines line gates label g is)
   where
-    more : (first : List ℕ) (rest : List (List ℕ)) (last : List ℕ) → cells_and_end (first ∷ (rest ++ last ∷ [])) ≡ with_cell (value_with cell_text cells first) (cells_and_end (rest ++ last ∷ []))
+    more : (first : List ℕ) (rest : List (List ℕ)) (last : List ℕ) → cells_and_end (first ∷ (rest ++ last ∷ [])) ≡ with_cell (value_with cell_look cells first) (cells_and_end (rest ++ last ∷ []))
     more first [] last = refl
     more first (next ∷ rest) last = refl
 

@@ -145,13 +145,47 @@ pub record Line : Type 0 where
   pub output_label : List ℕ
   pub is_garbage : Bool
 
+-- how a symbol looks, spelled apart from the words of the writer
+abbrev pub look : Symbol → List ℕ
+look Wire = codes "qw"
+look Crossing = codes "qw{}"
+look Positive = codes "control{}"
+look Negative = codes "ocontrol{}"
+look Target = codes "targ{}"
+look Exchanged = codes "targX[outer sep=-.5em]{}"
+look Middle = codes "gate[style={circle,inner sep=-2pt}]{\\bullet}"
+look Zero = codes "push{0}"
+look One = codes "push{1}"
+look Wall = codes "trash{}"
+look H = codes "gate{H}"
+look T = codes "gate{T}"
+look Tdg = codes "gate{T^\\dagger}"
+look S = codes "gate{S}"
+look Sdg = codes "gate{S^\\dagger}"
+look Z = codes "gate{Z}"
+look Y = codes "gate{Y}"
+
+-- one from which a vertical leads to the next line
+abbrev pub joined_look : Symbol → List ℕ
+joined_look Positive = codes "ctrl{1}"
+joined_look Negative = codes "octrl{1}"
+joined_look symbol = look symbol ++ codes "\\vqw{1}"
+
+abbrev pub cell_look : Cell → List ℕ
+cell_look cell = 32 ∷ 92 ∷ ((if cell.is_joined then joined_look cell.symbol else look cell.symbol) ++ 32 ∷ [])
+
+abbrev pub constant_look : Mark → List ℕ
+constant_look marks.Zero = codes " $\\ket{0}$} "
+constant_look marks.One = codes " $\\ket{1}$} "
+constant_look marks.Input = codes "} "
+
 abbrev pub constants : List Mark
 constants = marks.Input ∷ marks.Zero ∷ marks.One ∷ []
 
 -- the constant at the end of an input's label
 abbrev pub input_of : Option Begun → Option (List ℕ × Mark)
 input_of None = None
-input_of (Some begun) = option_map (λ mark. (label_of begun.label, mark)) (value_with input_end constants begun.rest)
+input_of (Some begun) = option_map (λ mark. (label_of begun.label, mark)) (value_with constant_look constants begun.rest)
 
 abbrev pub input_read : Option (List ℕ) → Option (List ℕ × Mark)
 input_read None = None
@@ -171,7 +205,8 @@ output_after is_garbage (Some text) other = ended is_garbage (begun_by latex_esc
 
 abbrev pub output_read : List ℕ → Option Line
 output_read text =
-    output_after false (after (wire_end false) text) (output_after true (after (wire_end true) text) None)
+    output_after false (after (codes " \\qw \\rstick{") text)
+    (output_after true (after (codes " \\trash{} \\rstick{") text) None)
 
 abbrev pub with_cell : Option Cell → Option Line → Option Line
 with_cell None line = None
@@ -182,7 +217,7 @@ with_cell (Some cell) (Some line) = Some (record line { cells = cell ∷ line.ce
 abbrev pub cells_and_end : List (List ℕ) → Option Line
 cells_and_end [] = None
 cells_and_end (last ∷ []) = output_read last
-cells_and_end (text ∷ next ∷ rest) = with_cell (value_with cell_text cells text) (cells_and_end (next ∷ rest))
+cells_and_end (text ∷ next ∷ rest) = with_cell (value_with cell_look cells text) (cells_and_end (next ∷ rest))
 
 abbrev pub with_input : Option (List ℕ × Mark) → Option Line → Option Line
 with_input None line = None

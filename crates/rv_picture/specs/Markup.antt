@@ -1,4 +1,5 @@
--- The bytes with another meaning in each language of pictures.
+-- The bytes with another meaning in each language of pictures. In LaTeX `--`, two quotes and the like are drawn as one
+-- character, so the bytes of these are written by their number.
 use Rattle.std.specs.Prelude.{ℕ, List, [], ◌∷◌, codes}
 use Rattle.rv_picture.specs.Labels.{Escape}
 use Rattle.rv_picture.specs.declared.label.Markup.{Markup}
@@ -11,8 +12,10 @@ abbrev pub latex_escapes : List Escape
 latex_escapes =
     escape 32 (codes "\\ ") ∷ escape 34 (codes "\\symbol{34}") ∷ escape 35 (codes "\\#") ∷ escape 36 (codes "\\$")
     ∷ escape 37 (codes "\\%")
-    ∷ escape 38 (codes "\\symbol{38}") ∷ escape 60 (codes "\\textless{}") ∷ escape 62 (codes "\\textgreater{}")
+    ∷ escape 38 (codes "\\symbol{38}") ∷ escape 39 (codes "\\symbol{39}") ∷ escape 45 (codes "\\symbol{45}")
+    ∷ escape 60 (codes "\\textless{}") ∷ escape 62 (codes "\\textgreater{}")
     ∷ escape 92 (codes "\\textbackslash{}") ∷ escape 94 (codes "\\textasciicircum{}") ∷ escape 95 (codes "\\_")
+    ∷ escape 96 (codes "\\symbol{96}")
     ∷ escape 123 (codes "\\{") ∷ escape 124 (codes "\\textbar{}") ∷ escape 125 (codes "\\}")
     ∷ escape 126 (codes "\\textasciitilde{}") ∷ []
 

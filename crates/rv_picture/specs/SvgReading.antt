@@ -1,5 +1,5 @@
 -- What an SVG denotes: its symbols and labels, read by their places.
-use Rattle.std.specs.Prelude.{ℕ, zero, suc, ◌+◌, ◌*◌, ◌==◌, ◌&&◌, ◌||◌, Bool, true, false, not, List, [], ◌∷◌}
+use Rattle.std.specs.Prelude.{ℕ, zero, suc, ◌+◌, ◌*◌, ◌==◌, ◌&&◌, ◌||◌, Bool, true, false, not, List, [], ◌∷◌, ◌++◌}
 use Rattle.std.specs.Prelude.{codes, length, map, Option, Some, None, is_some, if◌then◌else◌}
 use Rattle.std.specs.Char.{digit_value, is_ascii_digit}
 use Rattle.std.specs.List.{flat_map}
@@ -7,14 +7,16 @@ use Rattle.std.specs.Option.{option_map}
 use Rattle.std.specs.Str.{bytes_eq}
 use Rattle.rv_gate.specs.Gate.{same}
 use Rattle.rv_gate.specs.declared.circuit.Mark.{Mark}
+use Rattle.rv_gate.specs.declared.circuit.Mark.TheVariants as marks
 use Rattle.rv_draw.specs.declared.symbol.Symbol.{Symbol}
-use Rattle.rv_draw.specs.declared.symbol.Symbol.TheVariants.{Wire}
+use Rattle.rv_draw.specs.declared.symbol.Symbol.TheVariants.{Wire, Crossing, Positive, Negative, Target, Exchanged}
+use Rattle.rv_draw.specs.declared.symbol.Symbol.TheVariants.{Middle, Zero, One, Wall, H, T, Tdg, S, Sdg, Z, Y}
 use Rattle.rv_draw.specs.Reading.{Picture, before, each_of, joined_if}
 use Rattle.rv_picture.specs.Cut.{after, lines_in, value_with}
 use Rattle.rv_picture.specs.Labels.{Begun, begun_by, label_of}
 use Rattle.rv_picture.specs.Latex.{constants, is_on, symbols}
 use Rattle.rv_picture.specs.Markup.{svg_escapes}
-use Rattle.rv_picture.specs.Svg.{Stroke, body, close, input_end, middle_of, output_end, stroke}
+use Rattle.rv_picture.specs.Svg.{Stroke, close, middle_of, stroke}
 
 -- ---- numbers and places
 
@@ -78,15 +80,72 @@ abbrev pub strokes : List Stroke
 strokes =
     flat_map (λ s. stroke s false false ∷ stroke s true false ∷ stroke s false true ∷ stroke s true true ∷ []) symbols
 
+-- how a symbol looks, spelled apart from the shapes of the writer
+abbrev pub boxed : List ℕ → List ℕ
+boxed letters =
+    codes "<rect x=\"-11\" y=\"-11\" width=\"22\" height=\"22\"/>"
+    ++ (codes "<text y=\"5\" text-anchor=\"middle\" fill=\"currentColor\" stroke=\"none\">" ++ (letters ++ codes "</text>"))
+
+abbrev pub look : Symbol → List ℕ
+look Wire = []
+look Crossing = codes "<line/>"
+look Wall = codes "<line y1=\"-6\" y2=\"6\"/>"
+look Positive = codes "<circle r=\"4\" fill=\"currentColor\"/>"
+look Negative = codes "<circle r=\"5\"/>"
+look Target = codes "<circle r=\"10\"/><line y1=\"-10\" y2=\"10\"/>"
+look Exchanged = codes "<path d=\"M-6-6L6 6M-6 6L6-6\"/>"
+look Middle = codes "<circle r=\"8\"/><circle r=\"4\" fill=\"currentColor\"/>"
+look Zero = boxed (48 ∷ [])
+look One = boxed (49 ∷ [])
+look H = boxed (72 ∷ [])
+look S = boxed (83 ∷ [])
+look Sdg = boxed (83 ∷ 226 ∷ 128 ∷ 160 ∷ [])
+look T = boxed (84 ∷ [])
+look Tdg = boxed (84 ∷ 226 ∷ 128 ∷ 160 ∷ [])
+look Y = boxed (89 ∷ [])
+look Z = boxed (90 ∷ [])
+
+-- the lines to it from above and from it down, which end outside of what is not filled
+abbrev pub lines_look : List ℕ → List ℕ → Bool → Bool → List ℕ
+lines_look top bottom from_above is_joined =
+    (if from_above then codes "<line y1=\"-15\" y2=\"" ++ (top ++ codes "\"/>") else [])
+    ++ (if is_joined then codes "<line y1=\"" ++ (bottom ++ codes "\" y2=\"15\"/>") else [])
+
+abbrev pub lines_to : Symbol → Bool → Bool → List ℕ
+lines_to Wire = lines_look (codes "0") (codes "0")
+lines_to Crossing = lines_look (codes "0") (codes "0")
+lines_to Wall = lines_look (codes "0") (codes "0")
+lines_to Positive = lines_look (codes "0") (codes "0")
+lines_to Target = lines_look (codes "0") (codes "0")
+lines_to Exchanged = lines_look (codes "0") (codes "0")
+lines_to Zero = lines_look (codes "0") (codes "0")
+lines_to One = lines_look (codes "0") (codes "0")
+lines_to Negative = lines_look (codes "-5") (codes "5")
+lines_to Middle = lines_look (codes "-8") (codes "8")
+lines_to letter = lines_look (codes "-11") (codes "11")
+
+abbrev pub stroke_look : Stroke → List ℕ
+stroke_look mark = lines_to mark.symbol mark.from_above mark.is_joined ++ (look mark.symbol ++ close)
+
+-- what stands after a label with its constant, and after one with its garbage
+abbrev pub constant_look : Mark → List ℕ
+constant_look marks.Zero = codes "<tspan> |0" ++ (226 ∷ 159 ∷ 169 ∷ codes "</tspan></text></g>")
+constant_look marks.One = codes "<tspan> |1" ++ (226 ∷ 159 ∷ 169 ∷ codes "</tspan></text></g>")
+constant_look marks.Input = codes "</text></g>"
+
+abbrev pub garbage_look : Bool → List ℕ
+garbage_look false = codes "</text></g>"
+garbage_look true = codes "</text><line y1=\"-6\" y2=\"6\"/></g>"
+
 -- a label with its constant, and one with its garbage
 abbrev pub input_of : Option Begun → Option (List ℕ × Mark)
 input_of None = None
-input_of (Some begun) = option_map (λ mark. (label_of begun.label, mark)) (value_with input_end constants begun.rest)
+input_of (Some begun) = option_map (λ mark. (label_of begun.label, mark)) (value_with constant_look constants begun.rest)
 
 abbrev pub output_of : Option Begun → Option (List ℕ × Bool)
 output_of None = None
 output_of (Some begun) =
-    option_map (λ g. (label_of begun.label, g)) (value_with output_end (true ∷ false ∷ []) begun.rest)
+    option_map (λ g. (label_of begun.label, g)) (value_with garbage_look (true ∷ false ∷ []) begun.rest)
 
 abbrev pub title_start : List ℕ
 title_start = codes "<title>"
@@ -122,7 +181,7 @@ abbrev pub with_block : ℕ → ℕ → Sheet → Sheet
 with_block x y sheet = record { strokes = sheet.strokes; block = no_block; blocks = at x y sheet.block ∷ sheet.blocks }
 
 abbrev pub output_or_stroke : ℕ → ℕ → List ℕ → Option (List ℕ) → Sheet → Option Sheet
-output_or_stroke x y text None sheet = with_stroke x y (value_with body strokes text) sheet
+output_or_stroke x y text None sheet = with_stroke x y (value_with stroke_look strokes text) sheet
 output_or_stroke x y text (Some label) sheet = with_output x y (output_of (begun_by svg_escapes 38 [] label)) sheet
 
 abbrev pub input_or_else : ℕ → ℕ → List ℕ → Option (List ℕ) → Sheet → Option Sheet

@@ -34,6 +34,10 @@ fn latex_escape(byte: u8) -> Option<&'static [u8]>
         Some(b"\\%")
     } else if byte == b'&' {
         Some(b"\\symbol{38}")
+    } else if byte == b'\'' {
+        Some(b"\\symbol{39}")
+    } else if byte == b'-' {
+        Some(b"\\symbol{45}")
     } else if byte == b'<' {
         Some(b"\\textless{}")
     } else if byte == b'>' {
@@ -44,6 +48,8 @@ fn latex_escape(byte: u8) -> Option<&'static [u8]>
         Some(b"\\textasciicircum{}")
     } else if byte == b'_' {
         Some(b"\\_")
+    } else if byte == b'`' {
+        Some(b"\\symbol{96}")
     } else if byte == b'{' {
         Some(b"\\{")
     } else if byte == b'|' {
