@@ -5,7 +5,7 @@ use Rattle.std.proofs.lemmas.Bool.{cases_eq}
 use Rattle.std.proofs.lemmas.List.Sums.{sum_by-cons}
 use Rattle.rv_net.specs.declared.op.Op.{Op}
 use Rattle.rv_net.specs.Amplitude.{count_h}
-use Rattle.rv_net.specs.Op.{is_t}
+use Rattle.rv_net.specs.Op.{has_three_lines, is_t}
 use Rattle.rv_fold.specs.Parities.{Parities, alone, parities_after}
 use Rattle.rv_fold.specs.Folded.{phase_gate, phase_ops, exponent_of, PhaseGate}
 use Rattle.rv_fold.proofs.Turning.{BelowEight, below_eight}
@@ -101,31 +101,47 @@ ops_spared o p e q s = elim (cases_eq (s % 8) 0) [
 pub walked-length : (n : ℕ) (ops : List Op) → length (walked n none alone ops) ≤ length ops
 walked-length n ops = let a = length-cost (walked n none alone ops) in let b = length-cost ops in let c = walked-cheaper one ops_spared n ops in omega arith
 
--- ---- T and its inverse
+-- ---- operations of a kind
 
-abbrev pub t_count : List Op → ℕ
-t_count ops = count_by is_t ops
+abbrev weight : (Op → Bool) → Op → ℕ
+weight is o = cond (is o) 1 0
 
-abbrev t_weight : Op → ℕ
-t_weight o = cond (is_t o) 1 0
+count_cost : (is : Op → Bool) (ops : List Op) → count_by is ops ≡ cost (weight is) ops
+unfolding cost
+count_cost is [] = refl
+count_cost is (o ∷ ops) = sum_by-cons (weight is) o ops ∙ ap (λ m. weight is o + m) (count_cost is ops)
 
-t_ops : (q m : ℕ) → BelowEight m → cost t_weight (phase_ops q m) ≡ m % 2
+walked-count : (is : Op → Bool) → IsSpared (weight is) → (n : ℕ) (ops : List Op) → count_by is (walked n none alone ops) ≤ count_by is ops
+walked-count is spared n ops =
+    let a = count_cost is (walked n none alone ops) in
+    let b = count_cost is ops in
+    let c = walked-cheaper (weight is) spared n ops in
+    omega arith
+
+-- T and its inverse
+t_ops : (q m : ℕ) → BelowEight m → cost (weight is_t) (phase_ops q m) ≡ m % 2
 unfolding cost
 t_ops q m h = grind arith
 
-odd_t : (o : Op) (p : PhaseGate) → phase_gate o ≡ Some p → p.exponent % 2 ≡ t_weight o
-odd_t = each_gate (λ a g. g.exponent % 2 ≡ t_weight a) (λ q. refl) (λ q. refl) (λ q. refl) (λ q. refl) (λ q. refl)
+odd_t : (o : Op) (p : PhaseGate) → phase_gate o ≡ Some p → p.exponent % 2 ≡ weight is_t o
+odd_t = each_gate (λ a g. g.exponent % 2 ≡ weight is_t a) (λ q. refl) (λ q. refl) (λ q. refl) (λ q. refl) (λ q. refl)
 
-t_spared : IsSpared t_weight
+t_spared : IsSpared (weight is_t)
 t_spared o p e q s = grind (arith, t_ops, below_eight, odd_t)
 
-t_cost : (ops : List Op) → t_count ops ≡ cost t_weight ops
-unfolding cost
-t_cost [] = refl
-t_cost (o ∷ ops) = sum_by-cons (λ x. cond (is_t x) 1 0) o ops ∙ ap (λ m. cond (is_t o) 1 0 + m) (t_cost ops)
+pub walked-t : (n : ℕ) (ops : List Op) → count_by is_t (walked n none alone ops) ≤ count_by is_t ops
+walked-t = walked-count is_t t_spared
 
-pub walked-t : (n : ℕ) (ops : List Op) → t_count (walked n none alone ops) ≤ t_count ops
-walked-t n ops = let a = t_cost (walked n none alone ops) in let b = t_cost ops in let c = walked-cheaper t_weight t_spared n ops in omega arith
+-- Toffoli and Fredkin gates
+three_ops : (q m : ℕ) → BelowEight m → cost (weight has_three_lines) (phase_ops q m) ≡ 0
+unfolding cost
+three_ops q m h = grind arith
+
+three_spared : IsSpared (weight has_three_lines)
+three_spared o p e q s = let a = three_ops q ((p.exponent + s) % 8) (below_eight _ (omega arith)) in omega arith
+
+pub walked-three : (n : ℕ) (ops : List Op) → count_by has_three_lines (walked n none alone ops) ≤ count_by has_three_lines ops
+walked-three = walked-count has_three_lines three_spared
 
 -- ---- H
 

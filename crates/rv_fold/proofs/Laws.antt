@@ -1,14 +1,14 @@
 -- What folding keeps.
 use Rattle.std.proofs.Common.{◌≡◌, ℕ, ◌+◌, ◌%◌, ◌<◌, ◌≤◌, Bool, List, [], ◌∷◌, ◌++◌, length, refl, sym, ap, ◌∙◌, arith, subst}
-use Rattle.std.specs.Prelude.{All, slice_get}
+use Rattle.std.specs.Prelude.{All, count_by, slice_get}
 use Rattle.std.proofs.lemmas.List.Elements.{All-head, All-tail, All-nil, All-cons}
 use Rattle.rv_net.specs.declared.op.Op.{Op}
-use Rattle.rv_net.specs.Op.{IsNetwork, Network, OpFitsIn}
+use Rattle.rv_net.specs.Op.{IsNetwork, Network, OpFitsIn, has_three_lines, is_t}
 use Rattle.rv_net.specs.Amplitude.{amplitude, count_h}
 use Rattle.rv_fold.specs.Parities.{Parities, IsLeastClosed, alone, direct}
 use Rattle.rv_fold.specs.Folded.{parities_at, folded, folded_network, phase_ops, IsFoldingOf, RestartsLeast}
 use Rattle.rv_fold.proofs.Amplitudes.{AllFit, walked-amplitude}
-use Rattle.rv_fold.proofs.Counts.{t_count, walked-length, walked-t, walked-h}
+use Rattle.rv_fold.proofs.Counts.{walked-length, walked-t, walked-three, walked-h}
 use Rattle.rv_fold.proofs.Settled.{walked-settled}
 use Rattle.rv_fold.proofs.Turning.{BelowEight, below_eight}
 use Rattle.rv_fold.proofs.Walking.{Seen, each_walk, none, total, walked, phase_fits}
@@ -29,8 +29,12 @@ folded-h n ops = ap count_h (folded_walked n ops) ∙ walked-h n none alone ops
 pub folded-length : (n : ℕ) (ops : List Op) → length (folded n ops) ≤ length ops
 folded-length n ops = let e = ap length (folded_walked n ops) in let a = walked-length n ops in omega arith
 
-pub folded-t : (n : ℕ) (ops : List Op) → t_count (folded n ops) ≤ t_count ops
-folded-t n ops = subst (λ l. t_count l ≤ t_count ops) (sym (folded_walked n ops)) (walked-t n ops)
+pub folded-t : (n : ℕ) (ops : List Op) → count_by is_t (folded n ops) ≤ count_by is_t ops
+folded-t n ops = subst (λ l. count_by is_t l ≤ count_by is_t ops) (sym (folded_walked n ops)) (walked-t n ops)
+
+pub folded-three : (n : ℕ) (ops : List Op) → count_by has_three_lines (folded n ops) ≤ count_by has_three_lines ops
+folded-three n ops =
+    subst (λ l. count_by has_three_lines l ≤ count_by has_three_lines ops) (sym (folded_walked n ops)) (walked-three n ops)
 
 pub folded-settled : (n : ℕ) (ops : List Op) → folded n (folded n ops) ≡ folded n ops
 folded-settled n ops =
@@ -80,6 +84,7 @@ folding_of net valid = record {
   hadamards = folded-h net.lines net.ops;
   operations = folded-length net.lines net.ops;
   t_gates = folded-t net.lines net.ops;
+  three_lines = folded-three net.lines net.ops;
   joined = λ i j lt on. neighbours net.lines (folded net.lines net.ops) (folded net.lines net.ops) 0 (λ k. ap (slice_get (folded net.lines net.ops)) (let e : k ≡ k + 0 = omega arith in e)) (folded-tidy net.lines net.ops) i j (omega arith) lt (joined_at net.lines (folded net.lines net.ops) i j on);
   settled = λ i. record { lines = net.lines; ops = folded-settled net.lines net.ops i };
 }

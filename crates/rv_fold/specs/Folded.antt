@@ -4,7 +4,7 @@ use Rattle.std.specs.Prelude.{◌≡◌, ◌⊎◌, ℕ, zero, suc, ◌+◌, ◌
 use Rattle.std.specs.Option.{option_map, option_and_then}
 use Rattle.rv_gate.specs.Gate.{all_below}
 use Rattle.rv_net.specs.Amplitude.{amplitude, count_h}
-use Rattle.rv_net.specs.Op.{IsNetwork, Network, is_t}
+use Rattle.rv_net.specs.Op.{IsNetwork, Network, has_three_lines, is_t}
 use Rattle.rv_net.specs.declared.op.Op.{Op}
 use Rattle.rv_net.specs.declared.op.Op.TheVariants.{X, Y, Z, H, S, Sdg, T, Tdg, Cx, Cz, Ccx, Swap, Cswap}
 use Rattle.rv_fold.specs.Parities.{Parity, Parities, IsLeastClosed, alone, parities_after, are_apart, direct, restart_set, same_parity}
@@ -139,7 +139,8 @@ pub record WritesClass (ops : List Op) (i j : ℕ) : Type 0 where
 abbrev pub IsJoined : Network → Type 0
 IsJoined net = (i j : ℕ) → i < j → IsTrue (joinable net.lines net.ops i j) → WritesClass net.ops i j
 
--- What folding keeps: all amplitudes and the number of H. It adds no operation and no T, joins all, and is done once.
+-- What folding keeps: all amplitudes and the number of H. It adds no operation, no T, and no
+-- Toffoli or Fredkin gate, joins all, and is done once.
 pub record IsFoldingOf (net result : Network) : Type 0 where
   pub is : result ≡ folded_network net
   pub valid : IsNetwork result
@@ -147,5 +148,6 @@ pub record IsFoldingOf (net result : Network) : Type 0 where
   pub hadamards : count_h result.ops ≡ count_h net.ops
   pub operations : length result.ops ≤ length net.ops
   pub t_gates : count_by is_t result.ops ≤ count_by is_t net.ops
+  pub three_lines : count_by has_three_lines result.ops ≤ count_by has_three_lines net.ops
   pub joined : IsJoined result
   pub settled : folded_network result ≡ result

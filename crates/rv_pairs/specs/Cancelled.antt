@@ -3,7 +3,7 @@ use Rattle.std.specs.Prelude.{◌≡◌, ◌⊎◌, ℕ, ◌+◌, ◌*◌, ◌�
 use Rattle.std.specs.Prelude.{List, [], ◌∷◌, ◌++◌, All, length, count_by}
 use Rattle.rv_net.specs.Amplitude.{amplitude, count_h}
 use Rattle.rv_net.specs.Cyclotomic.{doubled}
-use Rattle.rv_net.specs.Op.{IsNetwork, Network, OpFitsIn, is_t}
+use Rattle.rv_net.specs.Op.{IsNetwork, Network, OpFitsIn, has_three_lines, is_t}
 use Rattle.rv_net.specs.declared.op.Op.{Op}
 use Rattle.rv_net.specs.declared.op.Op.TheVariants.{X, Y, Z, H, S, Sdg, T, Tdg, Cx, Cz, Ccx, Swap, Cswap}
 use Rattle.rv_pairs.specs.Commuting.{commute}
@@ -62,7 +62,8 @@ pub record IsTable (n : ℕ) : Type 0 where
       → length x ≡ n → amplitude (p ∷ o ∷ rest) x y ≡ doubled (count_h (o ∷ [])) (amplitude rest x y)
 
 -- What a network keeps that has so many pairs of H less, and other pairs less: since the root of two is not divided out
--- of an H, each pair of these brings a factor of 2, and nothing else changes an amplitude.
+-- of an H, each pair of these brings a factor of 2, and nothing else changes an amplitude. There are no more operations,
+-- no more T, and no more Toffoli and Fredkin gates, which stand for several T.
 pub record Keeps (net result : Network) : Type 0 where
   pub pairs : ℕ
   pub lines : result.lines ≡ net.lines
@@ -72,6 +73,7 @@ pub record Keeps (net result : Network) : Type 0 where
   pub hadamards : count_h net.ops ≡ count_h result.ops + 2 * pairs
   pub operations : length result.ops ≤ length net.ops
   pub t_gates : count_by is_t result.ops ≤ count_by is_t net.ops
+  pub three_lines : count_by has_three_lines result.ops ≤ count_by has_three_lines net.ops
 
 -- all of this, and no pair is left
 pub record IsCancellingOf (net result : Network) : Type 0 where

@@ -19,6 +19,7 @@ keeps-keeps net mid result first second = record {
   hadamards = omega (arith, first.hadamards, second.hadamards);
   operations = omega (arith, first.operations, second.operations);
   t_gates = omega (arith, first.t_gates, second.t_gates);
+  three_lines = omega (arith, first.three_lines, second.three_lines);
 }
 
 folding-keeps : (net result : Network) → result.lines ≡ net.lines → IsFoldingOf net result → Keeps net result
@@ -30,6 +31,7 @@ folding-keeps net result same f = record {
   hadamards = omega (arith, f.hadamards);
   operations = f.operations;
   t_gates = f.t_gates;
+  three_lines = f.three_lines;
 }
 
 joining-keeps : (net result : Network) → IsJoiningOf net result → Keeps net result
@@ -41,6 +43,7 @@ joining-keeps net result j = record {
   hadamards = omega (arith, j.hadamards);
   operations = j.operations;
   t_gates = j.t_gates;
+  three_lines = j.three_lines;
 }
 
 reduction : (net result : Network) → Keeps net result → ¬ IsPair result.ops → IsReductionOf net result

@@ -5,8 +5,8 @@ use Rattle.rv_net.specs.Denotes.{Carries, Denotes}
 use Rattle.rv_net.specs.Op.{Network}
 use Rattle.rv_pairs.specs.Cancelled.{IsPair, Keeps}
 
--- The same lines; every amplitude is 2^k times that of the result, which has k pairs of H less; no more operations and
--- no more T. No operation is left that a later one undoes, with all between them commuting with the later one. What map
+-- The same lines; every amplitude is 2^k times that of the result, which has k pairs of H less; no more operations, no
+-- more T, and no more Toffoli and Fredkin gates. No operation is left that a later one undoes, with all between them commuting with the later one. What map
 -- of words the network denotes or carries, the result does.
 pub record IsReductionOf (net result : Network) : Type 0 where
   pub keeps : Keeps net result

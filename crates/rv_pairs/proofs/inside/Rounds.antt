@@ -1,9 +1,10 @@
 -- The walk, operation by operation: what is kept of a network whose pairs go.
 use Rattle.std.proofs.lemmas.Grind.{common_steps}
-use Rattle.std.proofs.Common.{◌≡◌, ◌≢◌, ℕ, zero, suc, ◌+◌, ◌-◌, ◌*◌, ◌<◌, ◌≤◌, true, Some, None, Option, List, [], ◌∷◌, ◌++◌, length, take, drop, set, get_or, append-nil, refl, sym, ap, ap₂, ◌∙◌, arith, inl, inr, subst, length-append, length-set}
+use Rattle.std.proofs.Common.{◌≡◌, ◌≢◌, ℕ, zero, suc, ◌+◌, ◌-◌, ◌*◌, ◌<◌, ◌≤◌, true, Some, None, Option, List, [], ◌∷◌, ◌++◌, cond, length, take, drop, set, get_or, append-nil, refl, sym, ap, ap₂, ◌∙◌, arith, inl, inr, subst, length-append, length-set}
 use Rattle.std.specs.Prelude.{All, bit_or, count_by, slice_get, ◌^◌, IsTrue}
 use Rattle.std.proofs.lemmas.Bool.{cases_eq, cases_order}
 use Rattle.std.proofs.lemmas.List.{length_push, set_split, take-append-drop, take_more}
+use Rattle.std.proofs.lemmas.List.Sums.{sum_by-append}
 use Rattle.std.proofs.lemmas.List.Elements.{All-cons, All-head, All-nil, All-tail}
 use Rattle.std.proofs.lemmas.Nat.{or_comm}
 use Rattle.std.proofs.lemmas.Option.{none-some, same_Some, slice_get_within}
@@ -12,7 +13,7 @@ use Rattle.rv_net.specs.declared.op.Op.{Op}
 use Rattle.rv_net.specs.declared.op.Op.TheVariants.{X, Y, Z, H, S, Sdg, T, Tdg, Cx, Cz, Ccx, Swap, Cswap}
 use Rattle.rv_net.specs.Amplitude.{amplitude, count_h}
 use Rattle.rv_net.specs.Cyclotomic.{Cyclotomic, plus, doubled}
-use Rattle.rv_net.specs.Op.{IsNetwork, Network, OpFitsIn, is_t}
+use Rattle.rv_net.specs.Op.{IsNetwork, Network, OpFitsIn, has_three_lines, is_t}
 use Rattle.rv_net.proofs.Frame.{step-local, through, through-append, through-local, through-one}
 use Rattle.rv_net.proofs.Matrix.{step-sum}
 use Rattle.rv_net.proofs.inside.Network.{amp-through, count_h-append}
@@ -256,12 +257,16 @@ no_pair_less cells o place settled is i j p later order at there undoes between 
 
 -- ---- the operations so far, and what is made of them
 
+count_three-append : (a b : List Op) → count_by has_three_lines (a ++ b) ≡ count_by has_three_lines a + count_by has_three_lines b
+count_three-append a b = sum_by-append (λ o. cond (has_three_lines o) 1 0) a b
+
 pub record Goes (n : ℕ) (ops : List Op) (cells : Cells) : Type 0 where
   pub pairs : ℕ
   pub same : (k : Word → Cyclotomic) (x : Word) → length x ≡ n → through ops k x ≡ doubled pairs (through (present cells) k x)
   pub hadamards : count_h ops ≡ count_h (present cells) + 2 * pairs
   pub operations : length (present cells) ≤ length ops
   pub t_gates : count_by is_t (present cells) ≤ count_by is_t ops
+  pub three_lines : count_by has_three_lines (present cells) ≤ count_by has_three_lines ops
   pub settled : NoPair cells
 
 pub goes_start : (n : ℕ) → Goes n [] []
@@ -272,6 +277,7 @@ goes_start n = record {
   hadamards = omega (arith, count_none);
   operations = omega arith;
   t_gates = omega arith;
+  three_lines = omega arith;
   settled = λ i j p o order at there undoes between. none-some _ at;
 }
 
@@ -293,6 +299,8 @@ goes_on n ops cells o goes none =
       hadamards = omega (arith, count_h-append ops (o ∷ []), count_h-append made (o ∷ []), ap count_h now);
       operations = omega (arith, length-append ops (o ∷ []), length-append made (o ∷ []), ap length now);
       t_gates = omega (arith, count_t-append ops (o ∷ []), count_t-append made (o ∷ []), ap (count_by is_t) now);
+      three_lines =
+          omega (arith, count_three-append ops (o ∷ []), count_three-append made (o ∷ []), ap (count_by has_three_lines) now, goes.three_lines);
       settled = no_pair_more cells o goes.settled none;
     }
 
@@ -348,6 +356,17 @@ goes_off n ops cells o place goes fitting fit is =
             count_t-append before between,
             count_t-append (p ∷ []) between,
             ap (count_by is_t) now,
+          );
+      three_lines =
+          omega (
+            arith,
+            goes.three_lines,
+            count_three-append ops (o ∷ []),
+            ap (count_by has_three_lines) split,
+            count_three-append before (p ∷ between),
+            count_three-append before between,
+            count_three-append (p ∷ []) between,
+            ap (count_by has_three_lines) now,
           );
       settled = no_pair_less cells o place goes.settled is;
     }
@@ -439,6 +458,7 @@ cancelling_of net result cells valid lines ops goes fitting = record {
     hadamards = omega (arith, goes.hadamards, ap count_h ops);
     operations = omega (arith, goes.operations, ap length ops);
     t_gates = omega (arith, goes.t_gates, ap (count_by is_t) ops);
+    three_lines = omega (arith, goes.three_lines, ap (count_by has_three_lines) ops);
   };
   settled = λ pair. no_pair cells goes.settled (subst IsPair ops pair);
 }

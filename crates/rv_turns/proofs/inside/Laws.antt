@@ -31,4 +31,5 @@ joining_of net j valid s = record {
   hadamards = s.hadamards;
   operations = omega (arith, kept-length j.made.items, s.count);
   t_gates = s.t_gates;
+  three_lines = s.three_lines;
 }

@@ -1,13 +1,14 @@
 -- What holds before each operation of a network, and that a step keeps it.
-use Rattle.std.proofs.Common.{◌≡◌, ℕ, suc, ◌+◌, ◌-◌, ◌<◌, ◌≤◌, Bool, true, false, Option, None, Some, List, [], ◌∷◌, ◌++◌, length, get_or, set, take, drop, replicate, refl, sym, ap, ap₂, ◌∙◌, arith, subst, inl, inr, length-set, length-append, get_or-set_same, get_or-set_other}
+use Rattle.std.proofs.Common.{◌≡◌, ℕ, suc, ◌+◌, ◌-◌, ◌<◌, ◌≤◌, Bool, true, false, Option, None, Some, List, [], ◌∷◌, ◌++◌, cond, length, get_or, set, take, drop, replicate, refl, sym, ap, ap₂, ◌∙◌, arith, subst, inl, inr, length-set, length-append, get_or-set_same, get_or-set_other}
 use Rattle.std.specs.Prelude.{◌⊎◌, All, count_by, slice_index}
 use Rattle.std.proofs.lemmas.Bool.{cases_order}
 use Rattle.std.proofs.lemmas.List.{append_assoc, append-nil, drop-append-le, drop-drop, drop-set-lt, drop-set-add, drop_all, get_or_append_left, get_or-drop, get_or_at, get_or_push, length-replicate, length-take-le, take_more}
+use Rattle.std.proofs.lemmas.List.Sums.{sum_by-append}
 use Rattle.std.proofs.lemmas.List.Elements.{All-nil, All-cons, All-get_or, All-head, All-tail, All-push, All-set}
 use Rattle.rv_gate.specs.Word.{has}
 use Rattle.rv_net.specs.declared.op.Op.{Op}
 use Rattle.rv_net.specs.declared.op.Op.TheVariants.{X, Y, Z, H, S, Sdg, T, Tdg, Cx, Cz, Ccx, Swap, Cswap}
-use Rattle.rv_net.specs.Op.{OpFitsIn, is_t}
+use Rattle.rv_net.specs.Op.{OpFitsIn, has_three_lines, is_t}
 use Rattle.rv_net.specs.Amplitude.{count_h}
 use Rattle.rv_net.proofs.inside.Network.{count_h-append}
 use Rattle.rv_turns.specs.declared.joining.Joining.{Joining}
@@ -163,6 +164,9 @@ h_summed b c q = grind arith
 t_summed : (b c : Bool) (q : ℕ) → count_by is_t (kept (summed b c q ∷ [])) ≡ 0
 t_summed b c q = grind arith
 
+three_summed : (b c : Bool) (q : ℕ) → count_by has_three_lines (kept (summed b c q ∷ [])) ≡ 0
+three_summed b c q = grind arith
+
 h_hole : (l : List (Option Op)) (i : ℕ) (b : Bool) (q : ℕ) → get_or l i None ≡ Some (turn b q) → count_h (kept (set l i None)) ≡ count_h (kept l)
 h_hole l i b q e =
     ap count_h (kept-hole l i)
@@ -176,6 +180,17 @@ t_hole l i b q e =
     let a = ap (count_by is_t) (kept-hole l i) ∙ count_t-append (kept (take i l)) (kept (drop (suc i) l)) in
     let d = ap (count_by is_t) (kept-at l i (turn b q) e) ∙ count_t-append (kept (take i l)) (turn b q ∷ kept (drop (suc i) l)) in
     let f = count_t-append (turn b q ∷ []) (kept (drop (suc i) l)) in
+    omega (arith, a, d, f)
+
+count_three-append : (a b : List Op) → count_by has_three_lines (a ++ b) ≡ count_by has_three_lines a + count_by has_three_lines b
+count_three-append a b = sum_by-append (λ o. cond (has_three_lines o) 1 0) a b
+
+three_hole : (l : List (Option Op)) (i : ℕ) (b : Bool) (q : ℕ) → get_or l i None ≡ Some (turn b q)
+    → count_by has_three_lines (kept (set l i None)) ≤ count_by has_three_lines (kept l)
+three_hole l i b q e =
+    let a = ap (count_by has_three_lines) (kept-hole l i) ∙ count_three-append (kept (take i l)) (kept (drop (suc i) l)) in
+    let d = ap (count_by has_three_lines) (kept-at l i (turn b q) e) ∙ count_three-append (kept (take i l)) (turn b q ∷ kept (drop (suc i) l)) in
+    let f = count_three-append (turn b q ∷ []) (kept (drop (suc i) l)) in
     omega (arith, a, d, f)
 
 pub kept-length : (l : List (Option Op)) → length (kept l) ≤ length l
@@ -224,6 +239,7 @@ pub record Stands (n : ℕ) (done : List Op) (j : Joining) : Type 0 where
   pub same : Same n done (kept j.made.items)
   pub fits : All (Fits n) j.made.items
   pub t_gates : count_by is_t (kept j.made.items) ≤ count_by is_t done
+  pub three_lines : count_by has_three_lines (kept j.made.items) ≤ count_by has_three_lines done
   pub hadamards : count_h (kept j.made.items) ≡ count_h done
   pub slots : (i : ℕ) → has j.waiting.live i ≡ true → Waits n j.made.items (slice_index j.waiting.places.items i) (pauli_at (slots_of j.waiting) i)
 
@@ -234,6 +250,7 @@ begins n j b = record {
   same = same_lists n [] (kept j.made.items) (ap kept (sym b.made));
   fits = subst (λ l. All (Fits n) l) (sym b.made) (All-nil (Fits n));
   t_gates = subst (λ l. count_by is_t (kept l) ≤ 0) (sym b.made) (omega arith);
+  three_lines = subst (λ l. count_by has_three_lines (kept l) ≤ 0) (sym b.made) (omega arith);
   hadamards = ap (λ l. count_h (kept l)) b.made;
   slots = λ i h. absurd (apart (has j.waiting.live i) (b.live i) h);
 }
@@ -253,6 +270,14 @@ module _ (n : ℕ) (done : List Op) (op : Op) (old new : Joining) (stands : Stan
     same = same_then n _ _ _ (same_after n done (kept old.made.items) (op ∷ []) stands.same) (same_lists n _ _ (sym all));
     fits = subst (λ l. All (Fits n) l) (sym k.made) (All-push (Fits n) old.made.items (Some op) stands.fits op_fits);
     t_gates = omega (arith, ap (count_by is_t) all, count_t-append (kept old.made.items) (op ∷ []), count_t-append done (op ∷ []), stands.t_gates);
+    three_lines =
+        omega (
+          arith,
+          ap (count_by has_three_lines) all,
+          count_three-append (kept old.made.items) (op ∷ []),
+          count_three-append done (op ∷ []),
+          stands.three_lines,
+        );
     hadamards = ap count_h all ∙ count_h-append (kept old.made.items) (op ∷ []) ∙ ap (λ m. m + count_h (op ∷ [])) stands.hadamards ∙ sym (count_h-append done (op ∷ []));
     slots = λ i h. subst (λ l. Waits n l (slice_index new.waiting.places.items i) (pauli_at (slots_of new.waiting) i)) (sym k.made) (each i (k.slots i h));
   }
@@ -293,6 +318,17 @@ module _ (n : ℕ) (done : List Op) (op : Op) (old new : Joining) (stands : Stan
             (same_then n _ _ _ (joined_same n made place j.partner.back j.back j.joins.was_on j.line j.joins.at over j.joins.early lt) (same_lists n _ _ (sym all))));
         fits = subst (λ l. All (Fits n) l) (sym j.made) (All-push (Fits n) (set made place None) (summed j.partner.back j.back j.line) (All-set (Fits n) made place None tt stands.fits) (fits_summed n j.partner.back j.back j.line lt));
         t_gates = omega (arith, ap (count_by is_t) all, ap (count_by is_t) parts, count_t-append (kept (set made place None)) (kept (summed j.partner.back j.back j.line ∷ [])), t_summed j.partner.back j.back j.line, t_hole made place j.partner.back j.joins.was_on j.joins.at, count_t-append done (op ∷ []), stands.t_gates);
+        three_lines =
+            omega (
+              arith,
+              ap (count_by has_three_lines) all,
+              ap (count_by has_three_lines) parts,
+              count_three-append (kept (set made place None)) (kept (summed j.partner.back j.back j.line ∷ [])),
+              three_summed j.partner.back j.back j.line,
+              three_hole made place j.partner.back j.joins.was_on j.joins.at,
+              count_three-append done (op ∷ []),
+              stands.three_lines,
+            );
         hadamards =
             ap count_h (all ∙ parts)
             ∙ count_h-append (kept (set made place None)) (kept (summed j.partner.back j.back j.line ∷ []))

@@ -1,4 +1,4 @@
-use Rattle.std.proofs.Common.{◌≡◌, ◌∙◌, ◌++◌, ◌<◌, ℕ, List, arith, sym, ap, ap₂, subst, length, get_or}
+use Rattle.std.proofs.Common.{◌≡◌, ◌∙◌, ◌++◌, ◌<◌, List, arith, sym, ap, ap₂, subst, length, get_or}
 use Rattle.std.proofs.lemmas.Grind.{get_or_default_zero}
 use Rattle.rv_net.specs.Op.{Network}
 use Rattle.rv_net.specs.declared.op.Op.{Op}
