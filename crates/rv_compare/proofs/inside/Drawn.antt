@@ -1,5 +1,8 @@
 -- Functions of circuits and networks on a diagram, and the first word at which two of them differ.
 use Rattle.std.proofs.Common.{◌≡◌, ℕ, ◌+◌, ◌^◌, ◌<◌, ◌≤◌, Bool, true, false, not, ◌&&◌, List, [], ◌∷◌, ◌++◌, length, get_or, map, take, All, Option, None, Some, refl, sym, ap, ◌∙◌, subst, arith, length-append}
+use Rattle.std.specs.Prelude.{Result, Ok, Err, IfOk}
+use Rattle.std.specs.Result.{is_err, is_ok}
+use Rattle.std.proofs.lemmas.Bool.{true≢false}
 use Rattle.std.proofs.lemmas.List.{ext_get_or, get_or-map, get_or_default, length-map, map-append, take_more}
 use Rattle.std.proofs.lemmas.List.Elements.{All-push}
 use Rattle.rv_gate.specs.Gate.{holds, same, xor}
@@ -16,6 +19,16 @@ use Rattle.rv_diagram.proofs.Lines.{edges_on, word_on}
 use Rattle.rv_compare.specs.Compare.{IsAnswer, Size, of_failing}
 use Rattle.rv_compare.specs.inside.Least.{IsFirstFailing}
 use Rattle.rv_compare.proofs.inside.Least.{at_each_word}
+
+-- ---- results
+
+pub went_well : {A E : Type 0} (r : Result A E) → is_err r ≡ false → is_ok r ≡ true
+went_well (Ok x) is = refl
+went_well (Err e) is = absurd (true≢false is)
+
+pub if_ok_as : {A E : Type 0} (r : Result A E) (P Q : A → Type 0) → ((x : A) → P x → Q x) → IfOk r P → IfOk r Q
+if_ok_as (Ok x) P Q each h = each x h
+if_ok_as (Err e) P Q each h = tt
 
 abbrev pub blank : Edge
 blank = record { node = 0; turned = false }
