@@ -44,7 +44,7 @@ report-exact : (row : ReadsFirst) (texts : List (List ℕ)) → IsOk (report_by 
 report-exact (none text Means) texts = (λ ok. tt, λ u. refl)
 report-exact (one form report Means) texts =
     denotes-exact form 0 (text_at texts 0) (λ x. within (report x) false) (λ x. AreKept (report x).limits) (λ x. within-exact (report x) false)
-report-exact (two first second report differs Means) texts =
+report-exact (two first second report differs Lacks Means) texts =
     denotes-exact first 0 (text_at texts 0) (λ x. at_input 1 (second (text_at texts 1)) >>= λ y. within (report x y) (differs x y))
     (λ x. DenotesWith second (text_at texts 1) (λ y. AreKept (report x y).limits))
     (λ x. denotes-exact second 1 (text_at texts 1) (λ y. within (report x y) (differs x y)) (λ y. AreKept (report x y).limits) (λ y. within-exact (report x y) (differs x y)))

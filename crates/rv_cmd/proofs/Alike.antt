@@ -41,7 +41,7 @@ abbrev NeverDiffers : ReadsFirst → Type 0
 NeverDiffers (none text Means) = Unit {0}
 NeverDiffers (one format report Means) = Unit {0}
 NeverDiffers (finds format limits Lacks Means) = Unit {0}
-NeverDiffers (two {X = X} {Y = Y} first second report differs Means) = (x : X) (y : Y) → differs x y ≡ false
+NeverDiffers (two {X = X} {Y = Y} first second report differs Lacks Means) = (x : X) (y : Y) → differs x y ≡ false
 
 abbrev made_end : Result Report Refusal → End
 made_end made = (ended (as_report (as_unmade made))).end
@@ -61,7 +61,7 @@ read-alike (Err refused) next each = tt
 made-alike : (row : ReadsFirst) → NeverDiffers row → (found : List ℕ) (texts : List (List ℕ)) → IsAlike (made_end (report_by row found texts))
 made-alike (none text Means) never found texts = refl
 made-alike (one format report Means) never found texts = read-alike (at_input 0 (format (text_at texts 0))) _ (λ x. within-alike (report x) false refl)
-made-alike (two first second report differs Means) never found texts =
+made-alike (two first second report differs Lacks Means) never found texts =
     read-alike (at_input 0 (first (text_at texts 0))) _ (λ x.
     read-alike (at_input 1 (second (text_at texts 1))) _ (λ y. within-alike (report x y) (differs x y) (never x y)))
 made-alike (finds format limits Lacks Means) never found texts =

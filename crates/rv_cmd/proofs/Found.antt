@@ -21,7 +21,7 @@ within-found limits found = by (first_refused limits)
 report-found : (row : ReadsFirst) (found : List ℕ) (texts : List (List ℕ)) → made_end (report_by row found texts) ≡ made_end (report_by row [] texts)
 report-found (none text Means) found texts = refl
 report-found (one format report Means) found texts = refl
-report-found (two first second report differs Means) found texts = refl
+report-found (two first second report differs Lacks Means) found texts = refl
 report-found (finds {X = X} format limits Lacks Means) found texts = by (at_input 0 (format (text_at texts 0)))
   where
     by : (read : Result X Refusal) → made_end (read >>= λ x. within (found_within (limits x) found) false) ≡ made_end (read >>= λ x. within (found_within (limits x) []) false)

@@ -24,7 +24,6 @@ use Rattle.rv_cmd.specs.declared.run_end.RunEnd.{RunEnd}
 use Rattle.rv_cmd.specs.declared.run_end.RunEnd.TheVariants.{Understood, ArgumentsRefused}
 use Rattle.rv_cmd.specs.Commands.{row_of}
 use Rattle.rv_cmd.specs.Commands.Check.{CanBeChecked, check_limits}
-use Rattle.rv_cmd.specs.Commands.Compare.{CanBeCompared, compare_limits}
 use Rattle.rv_cmd.specs.Commands.Templates.{CanBeTemplate, template_limits}
 use Rattle.rv_cmd.specs.Commands.ToReal.{toreal_limits}
 use Rattle.rv_cmd.specs.Names.{names_read}
@@ -305,13 +304,12 @@ pub record IsExact (settings : Settings) (contents : Contents) (old new : Scene)
   pub demo : settings.command ≡ Demo → IsAccepted (row_of settings) contents
 
 -- Acceptance in the subject's terms, where a limit is no count: a given template is a few flips on a few lines that
--- change no word; the operations of `toreal` are classical and few enough; by `check` the lines are few and no
--- coefficient is beyond its limit; and two circuits that are compared have few inputs.
+-- change no word; the operations of `toreal` are classical and few enough; and by `check` the lines are few and no
+-- coefficient is beyond its limit.
 pub record LimitsInTerms : Type 0 where
   pub template : (given : Cascade) → AreKept (template_limits given) ↔ CanBeTemplate given
   pub operations : (ops : List Op) → AreKept (toreal_limits ops) ↔ AreClassical ops
   pub check : (c : Cascade) (net : Network) → AreKept (check_limits c net) ↔ CanBeChecked c net
-  pub compare : (a b : Cascade) → AreKept (compare_limits a b) ↔ CanBeCompared a b
 
 abbrev pub IsExactBy : Result Settings ArgumentFault → Scene → Scene → ℕ → Type 0
 IsExactBy (Err fault) old new status = Unit {0}

@@ -34,19 +34,23 @@ ended (Err fault) = record { text = []; end = Err fault }
 
 -- A command that reads all its inputs before it writes; it has none, one or two. Its row has the format of each, the
 -- text with its limits that it makes of what they denote, and what that text means. Where there are two inputs the row
--- also has whether the text says that they differ, so that only these rows can end with status 1. A command that
--- searches has limits, the reasons for which its search may end without a text where they are kept, and the meaning:
--- any text with it may be found.
+-- also has whether the text says that they differ, so that only these rows can end with status 1, and the reasons for
+-- which it may end without a text where the limits are kept. A command that searches has limits, the reasons for which
+-- its search may end without a text where they are kept, and the meaning: any text with it may be found.
 pub data ReadsFirst : Type 1 where
   none : List ℕ → (List ℕ → Type 0) → ReadsFirst
   one : {X : Type 0} → Format X → (X → LimitedText) → (X → List ℕ → Type 0) → ReadsFirst
-  two : {X Y : Type 0} → Format X → Format Y → (X → Y → LimitedText) → (X → Y → Bool) → (X → Y → List ℕ → Type 0)
-      → ReadsFirst
+  two : {X Y : Type 0} → Format X → Format Y → (X → Y → LimitedText) → (X → Y → Bool) → (X → Y → Refusal → Type 0)
+      → (X → Y → List ℕ → Type 0) → ReadsFirst
   finds : {X : Type 0} → Format X → (X → List Limit) → (X → Refusal → Type 0) → (X → List ℕ → Type 0) → ReadsFirst
 
 -- a search that always ends with a text
 abbrev pub always : {X : Type 0} → X → Refusal → Type 0
 always x refused = ⊥
+
+-- two inputs of which there always is a report
+abbrev pub always_told : {X Y : Type 0} → X → Y → Refusal → Type 0
+always_told x y refused = ⊥
 
 -- A command that answers as it reads its last input.
 pub record AnswersAsItReads : Type 1 where
@@ -77,7 +81,7 @@ IsReadsFirst (answers_as_it_reads row) = ⊥
 abbrev pub report_by : ReadsFirst → List ℕ → List (List ℕ) → Result Report Refusal
 report_by (none text Means) found texts = Ok (done text)
 report_by (one format report Means) found texts = at_input 0 (format (text_at texts 0)) >>= λ x. within (report x) false
-report_by (two first second report differs Means) found texts =
+report_by (two first second report differs Lacks Means) found texts =
     at_input 0 (first (text_at texts 0)) >>= λ x.
     (at_input 1 (second (text_at texts 1)) >>= λ y. within (report x y) (differs x y))
 report_by (finds format limits Lacks Means) found texts =
@@ -108,7 +112,7 @@ end_of row contents = (outcome row [] contents).end
 abbrev pub MeansBy : ReadsFirst → List (List ℕ) → List ℕ → Type 0
 MeansBy (none made Means) texts text = Means text
 MeansBy (one format report Means) texts text = DenotesWith format (text_at texts 0) (λ x. Means x text)
-MeansBy (two first second report differs Means) texts text =
+MeansBy (two first second report differs Lacks Means) texts text =
     DenotesWith first (text_at texts 0) (λ x. DenotesWith second (text_at texts 1) (λ y. Means x y text))
 MeansBy (finds format limits Lacks Means) texts text = DenotesWith format (text_at texts 0) (λ x. Means x text)
 
@@ -120,7 +124,7 @@ Means (answers_as_it_reads row) texts text = row.Means texts text
 abbrev pub AcceptsBy : ReadsFirst → List (List ℕ) → Type 0
 AcceptsBy (none made Means) texts = Unit {0}
 AcceptsBy (one format report Means) texts = DenotesWith format (text_at texts 0) (λ x. AreKept (report x).limits)
-AcceptsBy (two first second report differs Means) texts =
+AcceptsBy (two first second report differs Lacks Means) texts =
     DenotesWith first (text_at texts 0) (λ x. DenotesWith second (text_at texts 1) (λ y. AreKept (report x y).limits))
 AcceptsBy (finds format limits Lacks Means) texts = DenotesWith format (text_at texts 0) (λ x. AreKept (limits x))
 
@@ -134,13 +138,15 @@ pub record IsAccepted (row : Row) (contents : Contents) : Type 0 where
   pub are : AreTexts contents texts
   pub accepted : Accepts row texts
 
--- ---- a search that ends without a text
+-- ---- a command that ends without a text
 
 -- where the inputs have these texts, within the limits, for this reason
 abbrev pub LacksBy : ReadsFirst → List (List ℕ) → Refusal → Type 0
 LacksBy (none made Means) texts refused = ⊥
 LacksBy (one format report Means) texts refused = ⊥
-LacksBy (two first second report differs Means) texts refused = ⊥
+LacksBy (two first second report differs Lacks Means) texts refused =
+    DenotesWith first (text_at texts 0) (λ x.
+    DenotesWith second (text_at texts 1) (λ y. AreKept (report x y).limits × Lacks x y refused))
 LacksBy (finds format limits Lacks Means) texts refused =
     DenotesWith format (text_at texts 0) (λ x. AreKept (limits x) × Lacks x refused)
 

@@ -5,7 +5,8 @@ ghost use Rattle.rv_cmd.specs.Limits.{Limit, LimitedText, found_within};
 ghost use Rattle.rv_cmd.specs.Names.{names_read};
 ghost use Rattle.rv_cmd.specs.Row.{always, finds, one, two};
 ghost use Rattle.rv_cmd.specs.inside.Making.{Makes};
-ghost use Rattle.rv_cmd.specs.inside.Products.{IsProductOf, IsRefusalOf, product_text};
+ghost use Rattle.rv_cmd.specs.inside.Products.{IsProductOf, IsRefusalOf, IsUntoldOf, product_text};
+ghost use Rattle.rv_faults.specs.declared.fault.Refusal.{Refusal as AnyRefusal};
 
 use crate::names::name_of;
 use crate::product::{Made, Product};
@@ -74,6 +75,9 @@ pub(crate) trait TwoInputs {
     /// Whether that says that the inputs differ.
     ghost differs: { Self → Self.First.Object → Self.Second.Object → Bool };
 
+    /// Why there may be no report where the limits are kept.
+    ghost Lacks: { Self → Self.First.Object → Self.Second.Object → AnyRefusal → Type 0 };
+
     /// What the text of that means.
     ghost Means: { Self → Self.First.Object → Self.Second.Object → List ℕ → Type 0 };
 
@@ -88,7 +92,8 @@ pub(crate) trait TwoInputs {
             (λ made. IsProductOf (report self.now first.now second.now)
             (Means self.now first.now second.now) made.product) }
         ensures differs { IfOk result (λ made. made.differs ≡ differs self.now first.now second.now) }
-        ensures unmade { IfErr result (IsRefusalOf 2 (report self.now first.now second.now).limits) };
+        ensures unmade { IfErr result (IsUntoldOf 2 (report self.now first.now second.now).limits
+            (Lacks self.now first.now second.now)) };
 }
 
 // Reads the input of this name, and makes what the command makes of it.
@@ -120,7 +125,7 @@ fn made_of_two<F: Files, C: TwoInputs>(
 ) -> Result<Made, Unmade>
     ensures { Makes
         (two (format C.First.denoted C.First.why) (format C.Second.denoted C.Second.why) (C.report command.now)
-        (C.differs command.now) (C.Means command.now))
+        (C.differs command.now) (C.Lacks command.now) (C.Means command.now))
         (first.now ∷ second.now ∷ []) (F.view files.old) (F.view files.new) result }
 {
     match read_two::<F, C::First, C::Second>(alloc, first, second, files) {
@@ -189,7 +194,7 @@ pub(crate) fn of_two<F: Files, C: TwoInputs>(
     requires { length (names_read settings.now) ≡ 2 }
     ensures { Makes
         (two (format C.First.denoted C.First.why) (format C.Second.denoted C.Second.why) (C.report command.now)
-        (C.differs command.now) (C.Means command.now))
+        (C.differs command.now) (C.Lacks command.now) (C.Means command.now))
         (names_read settings.now) (F.view files.old) (F.view files.new) result }
 {
     made_of_two(

@@ -1,13 +1,9 @@
 // What is refused of the first input by a limit that is passed, after limits that are kept.
 ghost use Rattle.std.specs.Prelude.{◌≡◌, ◌<◌, ◌∷◌, ◌++◌, ℕ, List};
 ghost use Rattle.rv_faults.specs.declared.fault.InputFault.{InputFault};
-ghost use Rattle.rv_cmd.specs.Commands.Compare.{of_inputs};
 ghost use Rattle.rv_cmd.specs.Limits.{AreKept, Limit, at_most, of_gates, of_lines, of_ops};
-ghost use Rattle.rv_gate.specs.Circuit.{Cascade};
-ghost use Rattle.rv_compare.specs.Compare.{HasManyInputs};
 ghost use Rattle.rv_cmd.specs.inside.Products.{IsRefusalOf};
 
-use rv_compare::MOST_INPUTS;
 use rv_faults::{InputFault, Refusal};
 use rv_gate::MOST_GATES;
 use rv_net::MOST_OPS;
@@ -29,17 +25,6 @@ pub(crate) fn too_many_lines(count: u8, most: u8) -> Refusal
     passed(InputFault::TooManyLines {
         count: u32::from(count),
         most,
-    })
-}
-
-/// So many inputs are more than a circuit may have that is compared.
-pub(crate) fn too_many_inputs(count: u8) -> Refusal
-    ensures { (c : Cascade) (first rest : List Limit) → AreKept first → HasManyInputs c count
-        → IsRefusalOf 1 (first ++ of_inputs 0 c ∷ rest) result }
-{
-    passed(InputFault::TooManyInputs {
-        count: u32::from(count),
-        most: MOST_INPUTS,
     })
 }
 

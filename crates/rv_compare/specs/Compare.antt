@@ -14,9 +14,7 @@ use Rattle.rv_pla.specs.Pla.{TwoLevel, entry}
 use Rattle.rv_compare.specs.declared.comparison.TheConstants.{MOST_INPUTS}
 use Rattle.rv_blif.specs.Logic.{Logic, outputs_of}
 use Rattle.rv_compare.specs.declared.comparison.CompareFault.{CompareFault}
-use Rattle.rv_compare.specs.declared.comparison.CompareFault.TheVariants.{FirstInputs, SecondInputs}
-use Rattle.rv_compare.specs.declared.comparison.LogicFault.{LogicFault}
-use Rattle.rv_compare.specs.declared.comparison.LogicFault.TheVariants.{CircuitInputs, LogicInputs, Mem}
+use Rattle.rv_compare.specs.declared.comparison.CompareFault.TheVariants.{Mem, Undecided}
 use Rattle.rv_compare.specs.declared.comparison.Comparison.{Comparison}
 use Rattle.rv_compare.specs.declared.comparison.Comparison.TheVariants.{Same, Inputs, Outputs, Differs}
 
@@ -94,18 +92,14 @@ CircuitsAnswer a b = IsAnswer (size_of a) (size_of b) (AreSame a b)
 abbrev pub circuits_answer : Cascade → Cascade → Comparison
 circuits_answer a b = answer_by (size_of a) (size_of b) (λ x. same_word (function_of a x) (function_of b x))
 
--- a circuit has few enough inputs
-abbrev pub HasFewInputs : Cascade → Type 0
-HasFewInputs c = input_count c.constants ≤ MOST_INPUTS
+-- a circuit has too many inputs to be compared on all words, one after another
+abbrev pub HasManyInputs : Cascade → Type 0
+HasManyInputs c = MOST_INPUTS < input_count c.constants
 
--- a circuit has so many inputs, and these are too many
-abbrev pub HasManyInputs : Cascade → ℕ → Type 0
-HasManyInputs c n = (input_count c.constants ≡ n) × (MOST_INPUTS < n)
-
--- the inputs of the first circuit are too many, or else those of the second
-abbrev pub AreTooMany : Cascade → Cascade → CompareFault → Type 0
-AreTooMany a b (FirstInputs n) = HasManyInputs a n
-AreTooMany a b (SecondInputs n) = HasFewInputs a × HasManyInputs b n
+-- why there may be no answer
+abbrev pub EndsFor : Cascade → CompareFault → Type 0
+EndsFor c Undecided = HasManyInputs c
+EndsFor c Mem = Unit {0}
 
 -- ---- a circuit and a permutation
 
@@ -168,13 +162,3 @@ LogicAnswer c logic = IsAnswer (size_of c) (size_in logic) (GivesOutputs c logic
 
 abbrev pub logic_answer : Cascade → Logic → Comparison
 logic_answer c logic = answer_by (size_of c) (size_in logic) (λ x. same_word (function_of c x) (outputs_of logic x))
-
--- both have few enough inputs
-abbrev pub HaveFewInputs : Cascade → Logic → Type 0
-HaveFewInputs c logic = HasFewInputs c × (length logic.inputs ≤ MOST_INPUTS)
-
--- the inputs of the circuit are too many, or else those of the network; or memory was wanting
-abbrev pub AreTooManyFor : Cascade → Logic → LogicFault → Type 0
-AreTooManyFor c logic (CircuitInputs n) = HasManyInputs c n
-AreTooManyFor c logic (LogicInputs n) = HasFewInputs c × (length logic.inputs ≡ n) × (MOST_INPUTS < n)
-AreTooManyFor c logic Mem = Unit {0}

@@ -1,6 +1,8 @@
 ghost use Rattle.std.specs.Prelude.{◌≡◌};
-ghost use Rattle.rv_compare.specs.declared.comparison.LogicFault.TheVariants.{Mem};
+ghost use Rattle.rv_compare.specs.Compare.{of_failing};
+ghost use Rattle.rv_compare.specs.declared.comparison.CompareFault.TheVariants.{Mem};
 
+use rv_diagram::{DiagramFault, MOST_NODES};
 use std::alloc::AllocError;
 use thiserror::Error;
 
@@ -17,37 +19,41 @@ pub enum Comparison {
     /// They have these numbers of outputs, which differ.
     Outputs(u32, u32),
     /// The input word with this number is the least one at which they don't agree.
-    Differs(u32),
+    Differs(u64),
 }
 
-/// Why a circuit isn't compared with a logic network.
+/// What the first word at which both fail to agree tells.
+pub(crate) fn answer_of(found: Option<u64>) -> Comparison
+    ensures { result ≡ of_failing found }
+{
+    match found {
+        None => Comparison::Same,
+        Some(word) => Comparison::Differs(word),
+    }
+}
+
+/// Why there is no answer.
 #[derive(Clone, Copy, Debug, PartialEq, Eq, Error)]
-pub enum LogicFault {
-    /// The circuit has so many inputs, more than [`MOST_INPUTS`].
-    #[error("{0} inputs of the circuit are too many")]
-    CircuitInputs(u8),
-    /// The network has so many inputs, more than [`MOST_INPUTS`].
-    #[error("{0} inputs of the network are too many")]
-    LogicInputs(u32),
+pub enum CompareFault {
+    /// There are more than [`MOST_INPUTS`] inputs, and no diagram of at most [`MOST_NODES`] nodes tells.
+    #[error("undecided with {MOST_NODES} nodes")]
+    Undecided,
     #[error("out of memory")]
     Mem,
 }
 
-impl From<AllocError> for LogicFault {
+impl From<AllocError> for CompareFault {
     ghost from_gives = { λ _ fault. fault ≡ Mem };
 
     fn from(_: AllocError) -> Self {
-        LogicFault::Mem
+        CompareFault::Mem
     }
 }
 
-/// Why circuits aren't compared.
-#[derive(Clone, Copy, Debug, PartialEq, Eq, Error)]
-pub enum CompareFault {
-    /// The first circuit has so many inputs, more than [`MOST_INPUTS`].
-    #[error("{0} inputs of the first circuit are too many")]
-    FirstInputs(u8),
-    /// The second circuit has so many inputs, more than [`MOST_INPUTS`].
-    #[error("{0} inputs of the second circuit are too many")]
-    SecondInputs(u8),
+/// Why no diagram tells.
+pub(crate) fn undecided(fault: DiagramFault) -> CompareFault {
+    match fault {
+        DiagramFault::TooLarge => CompareFault::Undecided,
+        DiagramFault::Mem => CompareFault::Mem,
+    }
 }

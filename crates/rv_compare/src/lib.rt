@@ -4,20 +4,22 @@
 //! the gates or the permutation act, and the garbage lines are left out. Two such functions are compared by
 //! [`compare_circuits`] and [`compare_perm`], one with what a table allows by [`compare_table`], and one with what a
 //! logic network computes by [`compare_logic`]; with `all`, on all lines, and no mark is looked at. Each answer is
-//! exact. Words run side by side, 256 at once, and only [`compare_logic`] takes memory.
+//! exact. Words run side by side, 256 at once; circuits and networks of many inputs are drawn as decision diagrams.
 #![tactic(auto)]
 
 mod block;
 mod circuits;
 mod comparison;
+mod drawn;
 mod logic;
 mod marks;
 mod perm;
 mod sides;
 mod table;
+mod ways;
 
 pub use circuits::compare_circuits;
-pub use comparison::{CompareFault, Comparison, LogicFault, MOST_INPUTS};
+pub use comparison::{CompareFault, Comparison, MOST_INPUTS};
 pub use logic::compare_logic;
 pub use marks::input_count;
 pub use perm::compare_perm;

@@ -1,21 +1,25 @@
-ghost use Rattle.std.specs.Prelude.{ℕ, ◌≡◌, ◌+◌, ◌*◌, ◌<◌, ◌≤◌, ◌↔◌, All, length, map, IfOk, IfErr};
+ghost use Rattle.std.specs.Prelude.{ℕ, ◌≡◌, ◌+◌, ◌*◌, ◌<◌, ◌≤◌, ◌^◌, ◌↔◌, All, length, map, IfOk, IfErr};
 ghost use Rattle.std.specs.Bool.{Decides};
 ghost use Rattle.rv_gate.specs.Word.{bit_of, word_of};
 ghost use Rattle.rv_gate.specs.declared.word.TheConstants.{MOST_LINES};
 ghost use Rattle.rv_many.specs.Column.{column, row_bit};
 ghost use Rattle.rv_many.specs.declared.words.TheConstants.{MOST_WORDS};
 ghost use Rattle.rv_blif.specs.Logic.{signal_count, values};
-ghost use Rattle.rv_compare.specs.Compare.{AreTooManyFor, GivesOutputs, HaveFewInputs, LogicAnswer, asked};
-ghost use Rattle.rv_compare.specs.Compare.{logic_answer};
-ghost use Rattle.rv_compare.specs.Compare.{size_in};
+ghost use Rattle.rv_compare.specs.Compare.{EndsFor, GivesOutputs, LogicAnswer, asked};
+ghost use Rattle.rv_compare.specs.Compare.{logic_answer, size_in, size_of};
+ghost use Rattle.rv_compare.specs.declared.comparison.CompareFault.TheVariants.{Mem};
 ghost use Rattle.rv_compare.specs.declared.comparison.Comparison.{Comparison as AnyComparison};
 ghost use Rattle.rv_compare.specs.declared.comparison.TheConstants.{MOST_INPUTS};
+ghost use Rattle.rv_compare.specs.inside.Least.{IsFirstFailing};
 
 use crate::block::{agreement, first_zero, give_outputs, put_in};
-use crate::comparison::{Comparison, LogicFault, MOST_INPUTS};
+use crate::comparison::{CompareFault, Comparison, MOST_INPUTS, answer_of, undecided};
+use crate::drawn::{circuit_edges, logic_edges};
 use crate::marks::{input_count, inputs_of};
-use crate::sides::{Other, compare};
+use crate::sides::{Other, compare_words, sizes_apart};
+use crate::ways::{LEAST_DRAWN, diagram_for, way_count, way_of};
 use rv_blif::{Logic, Output};
+use rv_diagram::{Diagram, DiagramFault};
 use rv_gate::{Circuit, MOST_LINES};
 use rv_many::Row;
 use std::alloc::Global;
@@ -80,30 +84,103 @@ impl Other for Logic {
     }
 }
 
+// The first word at which a circuit and a network differ, on a diagram.
+fn apart_in(
+    alloc: Global,
+    diagram: &mut Diagram,
+    circuit: &Circuit,
+    logic: &Logic,
+    all: bool,
+    inputs: u8,
+) -> Result<Option<u64>, DiagramFault>
+    requires few { inputs ≤ MOST_LINES }
+    requires inputs { inputs ≡ length logic.now.inputs }
+    requires outputs { (size_of (asked all circuit.now)).outputs ≡ length logic.now.outputs }
+    ensures { IfOk result (IsFirstFailing (2 ^ inputs)
+        (λ k. GivesOutputs (asked all circuit.now) logic.now (word_of inputs k))) }
+{
+    let mine = circuit_edges(alloc, diagram, circuit, all)?;
+    let others = logic_edges(alloc, diagram, logic, inputs)?;
+    let found = diagram.first_apart(&mine, &others, inputs)?;
+    Ok(found)
+}
+
+// The first word at which they differ, by diagrams.
+fn first_apart_drawn(
+    alloc: Global,
+    circuit: &Circuit,
+    logic: &Logic,
+    all: bool,
+    inputs: u8,
+) -> Result<Option<u64>, DiagramFault>
+    requires few { inputs ≤ MOST_LINES }
+    requires inputs { inputs ≡ length logic.now.inputs }
+    requires outputs { (size_of (asked all circuit.now)).outputs ≡ length logic.now.outputs }
+    ensures { IfOk result (IsFirstFailing (2 ^ inputs)
+        (λ k. GivesOutputs (asked all circuit.now) logic.now (word_of inputs k))) }
+{
+    for number in 0..way_count(inputs) {
+        let way = way_of(inputs, number);
+        if !way.by_second {
+            let mut diagram = diagram_for(alloc, way, circuit, all)?;
+            match apart_in(alloc, &mut diagram, circuit, logic, all, inputs) {
+                Ok(found) => return Ok(found),
+                Err(DiagramFault::Mem) => return Err(DiagramFault::Mem),
+                Err(DiagramFault::TooLarge) => {}
+            }
+        }
+    }
+    Err(DiagramFault::TooLarge)
+}
+
+// Compares them on all words.
+fn compare_rows(
+    alloc: Global,
+    circuit: &Circuit,
+    logic: &Logic,
+    all: bool,
+    inputs: u8,
+) -> Result<Comparison, CompareFault>
+    requires inputs { inputs ≡ (size_of (asked all circuit.now)).inputs }
+    requires same_inputs { inputs ≡ length logic.now.inputs }
+    requires outputs { (size_of (asked all circuit.now)).outputs ≡ length logic.now.outputs }
+    requires few { inputs ≤ MOST_INPUTS }
+    ensures answer { IfOk result (LogicAnswer (asked all circuit.now) logic.now) }
+    ensures ends { IfErr result (λ fault. fault ≡ Mem) }
+{
+    let signals = usize::from(inputs) + logic.nodes().len();
+    let mut rows = vec![in alloc; Row::ones(); signals]?;
+    Ok(compare_words(circuit, logic, all, inputs, &mut rows))
+}
+
 /// Compares the function of a circuit with that of a logic network on all input words. With `all`, the inputs and
 /// outputs of the circuit are all its lines.
 ///
-/// Refused are more inputs than [`MOST_INPUTS`], those of the circuit first. It takes 32 bytes for each signal.
+/// Where there are more than [`MOST_INPUTS`] inputs it may end without an answer. It takes 32 bytes for each signal.
 pub fn compare_logic(
     alloc: Global,
     circuit: &Circuit,
     logic: &Logic,
     all: bool,
-) -> Result<Comparison, LogicFault>
-    ensures exact { IfOk result (λ given. HaveFewInputs (asked all circuit.now) logic.now
-        × ((answer : AnyComparison) → (given ≡ answer) ↔ LogicAnswer (asked all circuit.now) logic.now answer)) }
-    ensures refused { IfErr result (AreTooManyFor (asked all circuit.now) logic.now) }
+) -> Result<Comparison, CompareFault>
+    ensures exact { IfOk result (λ given. (answer : AnyComparison) → (given ≡ answer)
+        ↔ LogicAnswer (asked all circuit.now) logic.now answer) }
+    ensures ends { IfErr result (EndsFor (asked all circuit.now)) }
     ensures value { IfOk result (λ answer. answer ≡ logic_answer (asked all circuit.now) logic.now) }
 {
+    if let Some(apart) = sizes_apart(circuit, logic, all) {
+        return Ok(apart);
+    }
     let inputs = input_count(circuit, all);
-    if inputs > MOST_INPUTS {
-        return Err(LogicFault::CircuitInputs(inputs));
+    if inputs >= LEAST_DRAWN {
+        match first_apart_drawn(alloc, circuit, logic, all, inputs) {
+            Ok(found) => return Ok(answer_of(found)),
+            Err(fault) => {
+                if inputs > MOST_INPUTS {
+                    return Err(undecided(fault));
+                }
+            }
+        }
     }
-    let network_inputs = logic.input_count();
-    if network_inputs > u32::from(MOST_INPUTS) {
-        return Err(LogicFault::LogicInputs(network_inputs));
-    }
-    let signals = network_inputs as usize + logic.nodes().len();
-    let mut rows = vec![in alloc; Row::ones(); signals]?;
-    Ok(compare(circuit, logic, all, &mut rows))
+    compare_rows(alloc, circuit, logic, all, inputs)
 }

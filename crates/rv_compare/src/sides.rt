@@ -1,5 +1,5 @@
 // A circuit compared with any other side.
-ghost use Rattle.std.specs.Prelude.{ℕ, ◌≡◌, ◌+◌, ◌*◌, ◌^◌, ◌≤◌, Bool, List, length};
+ghost use Rattle.std.specs.Prelude.{ℕ, ◌≡◌, ◌+◌, ◌*◌, ◌^◌, ◌≤◌, Bool, List, None, length, IfSome};
 ghost use Rattle.rv_gate.specs.Circuit.{Cascade};
 ghost use Rattle.rv_gate.specs.Word.{word_of};
 ghost use Rattle.rv_many.specs.declared.words.TheConstants.{MOST_WORDS};
@@ -51,8 +51,8 @@ pub(crate) trait Other {
             (word_of (size_of (asked all circuit.now)).inputs (MOST_WORDS * block + j))) result };
 }
 
-// Compares sides of one size on all words.
-fn compare_words<T: Other>(
+/// Compares sides of one size on all words.
+pub(crate) fn compare_words<T: Other>(
     circuit: &Circuit,
     other: &T,
     all: bool,
@@ -72,10 +72,30 @@ fn compare_words<T: Other>(
         let first = block * BLOCK;
         let count = BLOCK.min(words - first);
         if let Some(place) = other.first_apart(circuit, all, block, count, rows) {
-            return Comparison::Differs(first + place);
+            return Comparison::Differs(u64::from(first + place));
         }
     }
     Comparison::Same
+}
+
+/// The numbers of inputs or of outputs, if they differ.
+pub(crate) fn sizes_apart<T: Other>(circuit: &Circuit, other: &T, all: bool) -> Option<Comparison>
+    ensures apart { IfSome result
+        (IsAnswer (size_of (asked all circuit.now)) (T.size all other.now) (T.Agrees all other.now circuit.now)) }
+    ensures inputs { result ≡ None → (size_of (asked all circuit.now)).inputs ≡ (T.size all other.now).inputs }
+    ensures outputs { result ≡ None → (size_of (asked all circuit.now)).outputs ≡ (T.size all other.now).outputs }
+{
+    let inputs = u32::from(input_count(circuit, all));
+    let other_inputs = other.inputs(all);
+    if inputs != other_inputs {
+        return Some(Comparison::Inputs(inputs, other_inputs));
+    }
+    let outputs = u32::from(output_count(circuit, all));
+    let other_outputs = other.outputs(all);
+    if outputs != other_outputs {
+        return Some(Comparison::Outputs(outputs, other_outputs));
+    }
+    None
 }
 
 /// Compares a circuit with another side, by their marks or on all lines.
@@ -90,15 +110,8 @@ pub(crate) fn compare<T: Other>(
     ensures { IsAnswer (size_of (asked all circuit.now)) (T.size all other.now)
         (T.Agrees all other.now circuit.now) result }
 {
-    let inputs = input_count(circuit, all);
-    let other_inputs = other.inputs(all);
-    if u32::from(inputs) != other_inputs {
-        return Comparison::Inputs(u32::from(inputs), other_inputs);
+    if let Some(apart) = sizes_apart(circuit, other, all) {
+        return apart;
     }
-    let outputs = u32::from(output_count(circuit, all));
-    let other_outputs = other.outputs(all);
-    if outputs != other_outputs {
-        return Comparison::Outputs(outputs, other_outputs);
-    }
-    compare_words(circuit, other, all, inputs, rows)
+    compare_words(circuit, other, all, input_count(circuit, all), rows)
 }

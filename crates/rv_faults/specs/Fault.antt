@@ -9,7 +9,7 @@ use Rattle.rv_faults.specs.declared.fault.Unmade.TheVariants as unmade
 use Rattle.rv_faults.specs.declared.fault.TextFormat.{TextFormat}
 use Rattle.rv_faults.specs.declared.fault.TextFormat.TheVariants.{Real, Permutation, Pla, Qasm, Blif, Words}
 use Rattle.rv_faults.specs.declared.fault.InputFault.{InputFault}
-use Rattle.rv_faults.specs.declared.fault.InputFault.TheVariants.{Text, WrongLength, OutOfRange, Repeated, Conflict, NotToffoli, NotIdentity, NotClassical, WideTemplate, LongTemplate, TooManyLines, TooManyInputs, TooManyGates, MoreGates, TooManyOps, LargeCoefficient}
+use Rattle.rv_faults.specs.declared.fault.InputFault.TheVariants.{Text, WrongLength, OutOfRange, Repeated, Conflict, NotToffoli, NotIdentity, NotClassical, WideTemplate, LongTemplate, TooManyLines, TooManyGates, MoreGates, TooManyOps, LargeCoefficient, Undecided}
 use Rattle.rv_text.specs.declared.lines.TheConstants.{MOST_BYTES}
 use Rattle.rv_perm.specs.declared.perm.TheConstants.{MOST_PERM_LINES}
 use Rattle.rv_real.specs.Code as real
@@ -46,11 +46,11 @@ status_of_input (NotClassical place) = 3
 status_of_input (WideTemplate lines most) = 5
 status_of_input (LongTemplate gates most) = 5
 status_of_input (TooManyLines count most) = 5
-status_of_input (TooManyInputs count most) = 5
 status_of_input (TooManyGates count most) = 5
 status_of_input (MoreGates most) = 5
 status_of_input (TooManyOps count most) = 5
 status_of_input (LargeCoefficient lines word place) = 5
+status_of_input (Undecided nodes) = 5
 
 abbrev pub status_of : Fault → ℕ
 status_of (CannotRead input) = 4
@@ -110,12 +110,12 @@ said_of (NotClassical place) = codes ": operation " ++ (decimal place ++ codes "
 said_of (WideTemplate lines most) = template_of lines (codes " lines is wider than ") most
 said_of (LongTemplate gates most) = template_of gates (codes " gates is longer than ") most
 said_of (TooManyLines count most) = counted_to count (codes " lines are more than ") most
-said_of (TooManyInputs count most) = counted_to count (codes " inputs are more than ") most
 said_of (TooManyGates count most) = counted_to count (codes " gates are more than ") most
 said_of (MoreGates most) = codes ": more than " ++ (decimal most ++ codes " gates")
 said_of (TooManyOps count most) = counted_to count (codes " operations are more than ") most
 said_of (LargeCoefficient lines word place) =
     codes ": coefficient too large at operation " ++ (decimal place ++ (codes " for word " ++ bits_of lines word))
+said_of (Undecided nodes) = codes ": undecided with " ++ (decimal nodes ++ codes " nodes")
 
 -- the input that a fault is of, if it is of one
 abbrev pub input_of : Fault → ℕ

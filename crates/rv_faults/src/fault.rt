@@ -140,11 +140,6 @@ pub enum InputFault {
         count: u32,
         most: u8,
     },
-    /// A circuit or a logic network has so many inputs, more than it may have.
-    TooManyInputs {
-        count: u32,
-        most: u8,
-    },
     /// So many gates are needed, more than a circuit has.
     TooManyGates {
         count: u32,
@@ -165,6 +160,10 @@ pub enum InputFault {
         lines: u8,
         word: u16,
         place: u32,
+    },
+    /// Whether a circuit has the function of another side isn't told by decision diagrams of at most so many nodes.
+    Undecided {
+        nodes: u32,
     },
 }
 
@@ -199,11 +198,11 @@ impl InputFault {
             InputFault::WideTemplate { .. }
             | InputFault::LongTemplate { .. }
             | InputFault::TooManyLines { .. }
-            | InputFault::TooManyInputs { .. }
             | InputFault::TooManyGates { .. }
             | InputFault::MoreGates { .. }
             | InputFault::TooManyOps { .. }
-            | InputFault::LargeCoefficient { .. } => 5,
+            | InputFault::LargeCoefficient { .. }
+            | InputFault::Undecided { .. } => 5,
         }
     }
 }

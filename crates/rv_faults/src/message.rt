@@ -103,15 +103,6 @@ fn put_refusal<E: Sink>(writer: &mut Writer, errs: &mut E, why: InputFault)
                 u32::from(most),
             );
         }
-        InputFault::TooManyInputs { count, most } => {
-            put_counted(
-                writer,
-                errs,
-                count,
-                b" inputs are more than ",
-                u32::from(most),
-            );
-        }
         InputFault::TooManyGates { count, most } => {
             put_counted(writer, errs, count, b" gates are more than ", most);
         }
@@ -122,6 +113,7 @@ fn put_refusal<E: Sink>(writer: &mut Writer, errs: &mut E, why: InputFault)
         InputFault::LargeCoefficient { lines, word, place } => {
             put_large_coefficient(writer, errs, lines, word, place);
         }
+        InputFault::Undecided { nodes } => put_undecided(writer, errs, nodes),
     }
 }
 
@@ -159,7 +151,7 @@ fn put_conflict<E: Sink>(
     writer.put(errs, b" and ");
     writer.put_number(errs, u128::from(off));
     writer.put(errs, b" conflict at word ");
-    put_bits(writer, errs, inputs, word);
+    put_bits(writer, errs, inputs, u64::from(word));
 }
 
 fn put_no_flip<E: Sink>(writer: &mut Writer, errs: &mut E, place: u32)
@@ -192,7 +184,7 @@ fn put_large_coefficient<E: Sink>(
     writer.put(errs, b": coefficient too large at operation ");
     writer.put_number(errs, u128::from(place));
     writer.put(errs, b" for word ");
-    put_bits(writer, errs, lines, u32::from(word));
+    put_bits(writer, errs, lines, u64::from(word));
 }
 
 // A word that a template changes, and what it makes of it.
@@ -201,9 +193,9 @@ fn put_no_identity<E: Sink>(writer: &mut Writer, errs: &mut E, lines: u8, word: 
         (E.view errs.new) }
 {
     writer.put(errs, b": no identity: word ");
-    put_bits(writer, errs, lines, u32::from(word));
+    put_bits(writer, errs, lines, u64::from(word));
     writer.put(errs, b" gives ");
-    put_bits(writer, errs, lines, u32::from(image));
+    put_bits(writer, errs, lines, u64::from(image));
 }
 
 // A count, and what it may be at most.
@@ -222,6 +214,14 @@ fn put_more_gates<E: Sink>(writer: &mut Writer, errs: &mut E, most: u32)
     writer.put(errs, b": more than ");
     writer.put_number(errs, u128::from(most));
     writer.put(errs, b" gates");
+}
+
+fn put_undecided<E: Sink>(writer: &mut Writer, errs: &mut E, nodes: u32)
+    ensures { Adds writer.old (E.view errs.old) (said_of (InputFault.Undecided nodes)) writer.new (E.view errs.new) }
+{
+    writer.put(errs, b": undecided with ");
+    writer.put_number(errs, u128::from(nodes));
+    writer.put(errs, b" nodes");
 }
 
 // A count of a template, and what it may be at most.
@@ -249,7 +249,7 @@ fn rule_of(format: TextFormat, code: u8) -> &'static str
 }
 
 /// Adds the bits of a word, by its number.
-pub fn put_bits<E: Sink>(writer: &mut Writer, errs: &mut E, count: u8, word: u32)
+pub fn put_bits<E: Sink>(writer: &mut Writer, errs: &mut E, count: u8, word: u64)
     ensures { Adds writer.old (E.view errs.old) (bits_of count word) writer.new (E.view errs.new) }
 {
     let mut left = count;
@@ -266,10 +266,10 @@ fn digit(bit: bool) -> &'static [u8]
 }
 
 // Whether a number has the bit with the value 2^`place`.
-fn has_bit(number: u32, place: u8) -> bool
+fn has_bit(number: u64, place: u8) -> bool
     ensures { result ≡ has number place }
 {
-    place < MOST_LINES && has(u64::from(number), place)
+    place < MOST_LINES && has(number, place)
 }
 
 // What is said of a line of an input.

@@ -11,7 +11,7 @@ use rv_many::{Row, act_on_all, constant_row, number_row};
 use std::alloc::{AllocError, Global};
 
 // So many words are side by side.
-const BLOCK: u32 = 256;
+const BLOCK: u64 = 256;
 
 // With so many blocks a search begins, and so often words that tell are added.
 const BLOCKS: u32 = 4;
@@ -171,9 +171,9 @@ fn telling(alloc: Global, circuit: &Circuit, gates: &[Gate]) -> Result<Option<u3
     let copy = Vec::from_slice(alloc, gates)?;
     let frame = frame_of(alloc, circuit)?;
     let new = with_gates(circuit, frame, copy);
-    match compare_circuits(circuit, &new, false) {
+    match compare_circuits(alloc, circuit, &new, false) {
         Ok(Comparison::Same) => Ok(None),
-        Ok(Comparison::Differs(word)) => Ok(Some(word / BLOCK)),
+        Ok(Comparison::Differs(word)) => Ok(Some((word / BLOCK).min(u64::from(u32::MAX)) as u32)),
         _ => Ok(Some(0)),
     }
 }

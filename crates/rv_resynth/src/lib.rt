@@ -19,7 +19,7 @@ mod whole;
 mod window;
 
 pub use agreement::agree;
-pub use by_marks::{MarksFault, resynth_by_marks};
+pub use by_marks::resynth_by_marks;
 pub use lines::MOST_WINDOW_LINES;
 pub use resynthesis::resynth;
 pub use rv_search::Goal;

@@ -1,33 +1,27 @@
 -- What `compare` answers: by the definitions alone, what its report tells of both sides is what holds of them.
-use Rattle.std.proofs.Common.{◌≡◌, ◌≢◌, ◌↔◌, ◌++◌, ℕ, codes, if◌then◌else◌, ne_eqb, ◌<◌, Bool, true, false, List, [], ◌∷◌, length, Some, refl, ap, sym, subst, ◌∙◌, arith}
+use Rattle.std.proofs.Common.{◌≡◌, ◌≢◌, ◌↔◌, ◌++◌, ℕ, codes, if◌then◌else◌, ne_eqb, Bool, true, false, List, [], refl, ap, sym, subst, ◌∙◌, inl, inr, arith}
 use Rattle.std.proofs.lemmas.Bool.{true≢false}
 use Rattle.rv_gate.specs.Circuit.{Cascade}
 use Rattle.rv_gate.specs.Marks.{input_count}
 use Rattle.rv_perm.specs.Marked.{Marked}
 use Rattle.rv_pla.specs.Pla.{TwoLevel}
 use Rattle.rv_blif.specs.Logic.{Logic}
-use Rattle.rv_compare.specs.Compare.{AreSame, AreTooMany, AreTooManyFor, GivesAllowed, GivesImage, GivesOutputs, HasFewInputs, HaveFewInputs, IsAnswer, Size, asked}
+use Rattle.rv_compare.specs.Compare.{AreSame, EndsFor, GivesAllowed, GivesImage, GivesOutputs, HasManyInputs, IsAnswer, Size, asked}
 use Rattle.rv_compare.specs.Compare.{circuits_answer, logic_answer, perm_answer, size_by, size_for, size_in, size_of, table_answer}
-use Rattle.rv_compare.specs.declared.comparison.TheConstants.{MOST_INPUTS}
 use Rattle.rv_compare.specs.declared.comparison.CompareFault.{CompareFault}
-use Rattle.rv_compare.specs.declared.comparison.CompareFault.TheVariants.{FirstInputs, SecondInputs}
-use Rattle.rv_compare.specs.declared.comparison.LogicFault.{LogicFault}
-use Rattle.rv_compare.specs.declared.comparison.LogicFault.TheVariants.{CircuitInputs, LogicInputs, Mem}
+use Rattle.rv_compare.specs.declared.comparison.CompareFault.TheVariants as fault
 use Rattle.rv_compare.specs.declared.comparison.Comparison.{Comparison}
 use Rattle.rv_compare.specs.declared.comparison.Comparison.TheVariants.{Differs, Inputs, Outputs, Same}
 use Rattle.rv_compare.proofs.inside.Found.{circuits_answer-is, logic_answer-is, perm_answer-is, table_answer-is}
 use Rattle.rv_compare.proofs.inside.Least.{exact_answer}
 use Rattle.rv_faults.specs.Fault.{bits_of}
-use Rattle.rv_faults.specs.declared.fault.InputFault.TheVariants.{TooManyInputs}
 use Rattle.rv_faults.specs.declared.fault.Refusal.{Refusal}
-use Rattle.rv_faults.specs.declared.fault.Refusal.TheVariants.{Refused}
 use Rattle.rv_cmd.specs.declared.product.Product.{Product}
 use Rattle.rv_cmd.specs.declared.product.Product.TheVariants as product
-use Rattle.rv_cmd.specs.Commands.Compare.{CanBeCompared, TellsCircuits, TellsComparison, TellsLogic, TellsPerm, TellsTable, circuits_report, compare_limits}
-use Rattle.rv_cmd.specs.Commands.Compare.{comparison_text, differs_said, logic_limits, logic_report, no_answer, no_logic_answer, of_inputs, perm_report, says_apart, table_report}
-use Rattle.rv_cmd.specs.Limits.{AreKept, Limit, LimitedText, at_most, first_refused}
-use Rattle.rv_cmd.specs.inside.Products.{IsProductOf, IsRefusalOf, product_text}
-use Rattle.rv_cmd.proofs.inside.Limits.{refused-after, refused-first}
+use Rattle.rv_cmd.specs.Commands.Compare.{LacksAnswer, TellsCircuits, TellsComparison, TellsLogic, TellsPerm, TellsTable, circuits_report}
+use Rattle.rv_cmd.specs.Commands.Compare.{comparison_text, differs_said, logic_report, no_answer, perm_report, says_apart, table_report}
+use Rattle.rv_cmd.specs.Limits.{AreKept, Limit}
+use Rattle.rv_cmd.specs.inside.Products.{IsProductOf, IsUntoldOf, product_text}
 
 -- ---- the report
 
@@ -56,10 +50,10 @@ made-of limits Means count inputs want answer made kept counted is what meant = 
   means = meant;
 }
 
-pub circuits-made : (a b : Cascade) (inputs : ℕ) (answer : Comparison) (made : Product) → HasFewInputs a → HasFewInputs b → inputs ≡ input_count a.constants
+pub circuits-made : (a b : Cascade) (inputs : ℕ) (answer : Comparison) (made : Product) → inputs ≡ input_count a.constants
     → answer ≡ circuits_answer a b → made ≡ product.Comparison inputs answer → IsProductOf (circuits_report a b) (TellsCircuits a b) made
-circuits-made a b inputs answer made few_a few_b counted is what =
-    made-of (compare_limits a b) (TellsCircuits a b) (input_count a.constants) inputs (circuits_answer a b) answer made (few_a, (few_b, tt)) counted is what
+circuits-made a b inputs answer made counted is what =
+    made-of [] (TellsCircuits a b) (input_count a.constants) inputs (circuits_answer a b) answer made tt counted is what
     (tells (size_of a) (size_of b) (AreSame a b) (circuits_answer a b) (circuits_answer-is a b))
 
 pub perm-made : (c : Cascade) (m : Marked) (inputs : ℕ) (answer : Comparison) (made : Product) → inputs ≡ input_count c.constants → answer ≡ perm_answer c m
@@ -74,49 +68,23 @@ table-made c pla inputs answer made counted is what =
     made-of [] (TellsTable c pla) (input_count c.constants) inputs (table_answer c pla) answer made tt counted is what
     (tells (size_of c) (size_for pla) (GivesAllowed c pla) (table_answer c pla) (table_answer-is c pla))
 
-pub logic-made : (c : Cascade) (network : Logic) (inputs : ℕ) (answer : Comparison) (made : Product) → HaveFewInputs c network → inputs ≡ input_count c.constants
+pub logic-made : (c : Cascade) (network : Logic) (inputs : ℕ) (answer : Comparison) (made : Product) → inputs ≡ input_count c.constants
     → answer ≡ logic_answer c network → made ≡ product.Comparison inputs answer → IsProductOf (logic_report c network) (TellsLogic c network) made
-logic-made c network inputs answer made few counted is what =
-    made-of (logic_limits c network) (TellsLogic c network) (input_count c.constants) inputs (logic_answer c network) answer made (few.0, (few.1, tt)) counted is what
+logic-made c network inputs answer made counted is what =
+    made-of [] (TellsLogic c network) (input_count c.constants) inputs (logic_answer c network) answer made tt counted is what
     (tells (size_of c) (size_in network) (GivesOutputs c network) (logic_answer c network) (logic_answer-is c network))
 
--- ---- what is refused
+-- ---- where there is no answer
 
-refused-by : (a b : Cascade) (fault : CompareFault) → AreTooMany a b fault → IsRefusalOf 2 (compare_limits a b) (no_answer fault)
-refused-by a b (FirstInputs n) many =
-    let over : MOST_INPUTS < input_count a.constants = omega (arith, many.0, many.1) in
-    (omega arith, refused-first 0 (input_count a.constants) MOST_INPUTS (TooManyInputs (input_count a.constants) MOST_INPUTS) (TooManyInputs n MOST_INPUTS) (of_inputs 1 b ∷ []) (ap (λ k. TooManyInputs k MOST_INPUTS) many.0) over)
-refused-by a b (SecondInputs n) many =
-    let over : MOST_INPUTS < input_count b.constants = omega (arith, many.1.0, many.1.1) in (
-      omega arith,
-      refused-after (of_inputs 0 a ∷ []) (of_inputs 1 b ∷ []) (many.0, tt)
-          ∙ refused-first 1 (input_count b.constants) MOST_INPUTS (TooManyInputs (input_count b.constants) MOST_INPUTS) (TooManyInputs n MOST_INPUTS) [] (ap (λ k. TooManyInputs k MOST_INPUTS) many.1.0) over,
-    )
+untold-by : {X : Type 0} (all : Bool) (c : Cascade) (other : X) (of : CompareFault) → EndsFor (asked all c) of → IsUntoldOf 2 [] (LacksAnswer all c other) (no_answer of)
+untold-by all c other fault.Undecided many = inr (omega arith, (tt, (refl, (refl, many))))
+untold-by all c other fault.Mem ends = inl tt
 
-pub circuits-refused : (a b : Cascade) (fault : CompareFault) (refusal : Refusal) → AreTooMany a b fault → refusal ≡ no_answer fault → IsRefusalOf 2 (compare_limits a b) refusal
-circuits-refused a b fault refusal many is =
-    let P : Refusal → Type 0 = IsRefusalOf 2 (compare_limits a b) in subst P (sym is) (refused-by a b fault many)
+pub compare-untold : {X : Type 0} (all : Bool) (c : Cascade) (other : X) (of : CompareFault) (refusal : Refusal) → EndsFor (asked all c) of → refusal ≡ no_answer of
+    → IsUntoldOf 2 [] (LacksAnswer all c other) refusal
+compare-untold all c other of refusal ends is =
+    let P : Refusal → Type 0 = IsUntoldOf 2 [] (LacksAnswer all c other) in subst P (sym is) (untold-by all c other of ends)
 
-logic-refused-by : (c : Cascade) (network : Logic) (fault : LogicFault) → AreTooManyFor c network fault → IsRefusalOf 2 (logic_limits c network) (no_logic_answer fault)
-logic-refused-by c network (CircuitInputs n) many =
-    let n_of = input_count c.constants in
-    let over : MOST_INPUTS < n_of = omega (arith, many.0, many.1) in
-    let rest = at_most 1 (length network.inputs) MOST_INPUTS (TooManyInputs (length network.inputs) MOST_INPUTS) ∷ [] in
-    (omega arith, refused-first 0 n_of MOST_INPUTS (TooManyInputs n_of MOST_INPUTS) (TooManyInputs n MOST_INPUTS) rest (ap (λ k. TooManyInputs k MOST_INPUTS) many.0) over)
-logic-refused-by c network (LogicInputs n) many =
-    let n_of = length network.inputs in
-    let over : MOST_INPUTS < n_of = omega (arith, many.1, many.2) in
-    let last = at_most 1 n_of MOST_INPUTS (TooManyInputs n_of MOST_INPUTS) in (
-      omega arith,
-      refused-after (of_inputs 0 c ∷ []) (last ∷ []) (many.0, tt)
-          ∙ refused-first 1 n_of MOST_INPUTS (TooManyInputs n_of MOST_INPUTS) (TooManyInputs n MOST_INPUTS) [] (ap (λ k. TooManyInputs k MOST_INPUTS) many.1) over,
-    )
-logic-refused-by c network Mem many = tt
-
-pub logic-refused : (c : Cascade) (network : Logic) (fault : LogicFault) (refusal : Refusal) → AreTooManyFor c network fault → refusal ≡ no_logic_answer fault
-    → IsRefusalOf 2 (logic_limits c network) refusal
-logic-refused c network fault refusal many is =
-    let P : Refusal → Type 0 = IsRefusalOf 2 (logic_limits c network) in subst P (sym is) (logic-refused-by c network fault many)
-
-pub compare-kept : (a b : Cascade) → AreKept (compare_limits a b) ↔ CanBeCompared a b
-compare-kept a b = (λ kept. record { first = kept.0; second = kept.1.0 }, λ can. (can.first, (can.second, tt)))
+pub many-ends : (c : Cascade) (of : CompareFault) → HasManyInputs c → EndsFor c of
+many-ends c fault.Undecided many = many
+many-ends c fault.Mem many = tt

@@ -1,8 +1,6 @@
 -- What `resynth` writes: the text of any circuit that is found for the circuit.
-use Rattle.std.proofs.Common.{◌≡◌, ◌≤◌, false, true, refl}
+use Rattle.std.proofs.Common.{◌≡◌, false, true, refl}
 use Rattle.rv_gate.specs.Circuit.{Cascade, IsCascade}
-use Rattle.rv_gate.specs.Marks.{input_count}
-use Rattle.rv_compare.specs.declared.comparison.TheConstants.{MOST_INPUTS}
 use Rattle.rv_real.specs.Text.{text_of}
 use Rattle.rv_real.proofs.inside.ReadBack.{read_back}
 use Rattle.rv_resynth.specs.Resynthesis.{IsResynthesis, IsResynthesisByMarks}
@@ -14,18 +12,18 @@ use Rattle.rv_cmd.specs.inside.Products.{IsProductOf}
 
 -- on all lines nothing is refused
 pub resynth-answers : (goal : Goal) (c new : Cascade) → IsCascade new → IsResynthesis goal c new
-    → IsProductOf (found_within (resynth_limits false c) (text_of new)) (IsResynthReport false goal c) (product.Circuit new)
+    → IsProductOf (found_within (resynth_limits c) (text_of new)) (IsResynthReport false goal c) (product.Circuit new)
 resynth-answers goal c new valid resynthesis = record {
   kept = tt;
   is = refl;
   means = record { new = new; is = refl; read_back = read_back new valid; resynthesis = resynthesis };
 }
 
--- by the marks there are few inputs
-pub marks-answers : (goal : Goal) (c new : Cascade) → IsCascade new → input_count c.constants ≤ MOST_INPUTS → IsResynthesisByMarks goal c new
-    → IsProductOf (found_within (resynth_limits true c) (text_of new)) (IsResynthReport true goal c) (product.Circuit new)
-marks-answers goal c new valid few resynthesis = record {
-  kept = (few, tt);
+-- by the marks neither
+pub marks-answers : (goal : Goal) (c new : Cascade) → IsCascade new → IsResynthesisByMarks goal c new
+    → IsProductOf (found_within (resynth_limits c) (text_of new)) (IsResynthReport true goal c) (product.Circuit new)
+marks-answers goal c new valid resynthesis = record {
+  kept = tt;
   is = refl;
   means = record { new = new; is = refl; read_back = read_back new valid; resynthesis = resynthesis };
 }

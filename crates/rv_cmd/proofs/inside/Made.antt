@@ -17,7 +17,7 @@ use Rattle.rv_cmd.specs.declared.product.Product.{Product}
 use Rattle.rv_cmd.specs.Limits.{AreKept, Limit, LimitedText, Report, first_refused, found_within, within}
 use Rattle.rv_cmd.specs.Row.{ReadsFirst, finds, none, one, two}
 use Rattle.rv_cmd.specs.inside.Making.{IsMadeBy, IsRefusedBy, IsUnmadeBy, Makes}
-use Rattle.rv_cmd.specs.inside.Products.{IsProductOf, IsRefusalOf, alike, product_text, report_of}
+use Rattle.rv_cmd.specs.inside.Products.{IsLackOf, IsProductOf, IsRefusalOf, IsUntoldOf, alike, product_text, report_of}
 use Rattle.rv_cmd.proofs.inside.Limits.{within-kept, within-refused}
 
 -- what holds of one refusal holds of another
@@ -174,9 +174,9 @@ makes-at row names others old new result same makes = subst (λ n. Makes row n o
 -- ---- of two inputs
 
 module _ {X Y : Type 0} (first : Format X) (second : Format Y) (report : X → Y → LimitedText) (differs : X → Y → Bool)
-    (Means : X → Y → List ℕ → Type 0) (a b : List ℕ) (old new : FilesView) where
+    (Lacks : X → Y → Refusal → Type 0) (Means : X → Y → List ℕ → Type 0) (a b : List ℕ) (old new : FilesView) where
   abbrev row : ReadsFirst
-  row = two first second report differs Means
+  row = two first second report differs Lacks Means
 
   -- after the second text, and after both
   abbrev after_second : X → Result Y Refusal → Result Report Refusal
@@ -245,10 +245,22 @@ module _ {X Y : Type 0} (first : Format X) (second : Format Y) (report : X → Y
         is = inl (both-read x y has.first_text has.second_text has.first_is has.second_is ∙ within-refused (report x y) (differs x y) by is);
       }) refused f
 
+  -- there is no report
+  lack-two : (x : X) (y : Y) (refused : Refusal) → HasObjects first second (a ∷ b ∷ []) old new x y → IsLackOf 2 (report x y).limits (Lacks x y) refused
+      → IsUnmadeBy row (a ∷ b ∷ []) old new (unmade_by refused)
+  lack-two x y (Refused input why) has lack =
+      let by : IsRefusedBy row (a ∷ b ∷ []) old new (Refused input why) = record {
+        texts = has.first_text ∷ has.second_text ∷ [];
+        read = has.read;
+        is = inr (record { object = x; is = has.first_is; fact = record { object = y; is = has.second_is; fact = (lack.1, lack.2) } });
+      } in (lack.0, by)
+  lack-two x y OutOfMemory has lack = absurd lack
+
   pub refused-two : (x : X) (y : Y) (refused : Refusal) (it : Unmade) → it ≡ unmade_by refused → ReadsOnly (a ∷ b ∷ []) old new → HasObjects first second (a ∷ b ∷ []) old new x y
-      → IsRefusalOf 2 (report x y).limits refused → Makes row (a ∷ b ∷ []) old new (Err it)
+      → IsUntoldOf 2 (report x y).limits (Lacks x y) refused → Makes row (a ∷ b ∷ []) old new (Err it)
   refused-two x y refused it same keeps has f = record {
     keeps = keeps;
     made = tt;
-    unmade = subst (IsUnmadeBy row (a ∷ b ∷ []) old new) (sym same) (refusal-two x y refused has f);
+    unmade = subst (IsUnmadeBy row (a ∷ b ∷ []) old new) (sym same)
+        (elim f [ inl by ↦ refusal-two x y refused has by | inr lack ↦ lack-two x y refused has lack ]);
   }

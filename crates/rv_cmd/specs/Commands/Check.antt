@@ -19,7 +19,7 @@ use Rattle.rv_faults.specs.declared.fault.Refusal.{Refusal}
 use Rattle.rv_faults.specs.declared.fault.Refusal.TheVariants.{OutOfMemory, Refused}
 use Rattle.rv_inputs.specs.Formats.{circuit, program}
 use Rattle.rv_cmd.specs.Limits.{Limit, LimitedText, at_most, no_fault}
-use Rattle.rv_cmd.specs.Row.{ReadsFirst, two}
+use Rattle.rv_cmd.specs.Row.{ReadsFirst, always_told, two}
 
 -- ---- the limits
 
@@ -101,4 +101,4 @@ pub record TellsVerdict (c : Cascade) (listing : Listing) (text : List ℕ) : Ty
   pub status : (check_differs c listing ≡ false) ↔ (verdict_for c listing.net ≡ Same)
 
 abbrev pub check_row : ReadsFirst
-check_row = two circuit program check_report check_differs TellsVerdict
+check_row = two circuit program check_report check_differs always_told TellsVerdict

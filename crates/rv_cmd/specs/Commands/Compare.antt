@@ -1,61 +1,41 @@
 -- `compare`: whether a circuit has the function of another circuit, a permutation or a logic network, or one that a
 -- table allows.
-use Rattle.std.specs.Prelude.{◌≡◌, ◌↔◌, ℕ, Bool, true, false, List, [], ◌∷◌, ◌++◌, ◌==◌, if◌then◌else◌, length, codes, decimal}
+use Rattle.std.specs.Prelude.{◌≡◌, ◌↔◌, ℕ, Bool, true, false, List, ◌++◌, ◌==◌, if◌then◌else◌, codes, decimal}
 use Rattle.rv_gate.specs.Circuit.{Cascade}
 use Rattle.rv_gate.specs.Marks.{input_count}
 use Rattle.rv_perm.specs.Marked.{Marked}
 use Rattle.rv_pla.specs.Pla.{TwoLevel}
 use Rattle.rv_blif.specs.Logic.{Logic}
-use Rattle.rv_compare.specs.Compare.{AreSame, GivesAllowed, GivesImage, GivesOutputs, HasFewInputs, IsAnswer, Size, asked, asked_perm}
+use Rattle.rv_diagram.specs.declared.diagram.TheConstants.{MOST_NODES}
+use Rattle.rv_compare.specs.Compare.{AreSame, GivesAllowed, GivesImage, GivesOutputs, HasManyInputs, IsAnswer, Size}
+use Rattle.rv_compare.specs.Compare.{asked, asked_perm}
 use Rattle.rv_compare.specs.Compare.{circuits_answer, logic_answer, perm_answer, size_by, size_for, size_in, size_of, table_answer}
-use Rattle.rv_compare.specs.declared.comparison.TheConstants.{MOST_INPUTS}
 use Rattle.rv_compare.specs.declared.comparison.CompareFault.{CompareFault}
-use Rattle.rv_compare.specs.declared.comparison.CompareFault.TheVariants.{FirstInputs, SecondInputs}
-use Rattle.rv_compare.specs.declared.comparison.LogicFault.{LogicFault}
-use Rattle.rv_compare.specs.declared.comparison.LogicFault.TheVariants.{CircuitInputs, LogicInputs, Mem}
+use Rattle.rv_compare.specs.declared.comparison.CompareFault.TheVariants as fault
 use Rattle.rv_compare.specs.declared.comparison.Comparison.{Comparison}
 use Rattle.rv_compare.specs.declared.comparison.Comparison.TheVariants.{Differs, Inputs, Outputs, Same}
 use Rattle.rv_faults.specs.Fault.{bits_of}
-use Rattle.rv_faults.specs.declared.fault.InputFault.TheVariants.{TooManyInputs}
+use Rattle.rv_faults.specs.declared.fault.InputFault.TheVariants.{Undecided}
 use Rattle.rv_faults.specs.declared.fault.Refusal.{Refusal}
 use Rattle.rv_faults.specs.declared.fault.Refusal.TheVariants.{OutOfMemory, Refused}
 use Rattle.rv_words.specs.declared.command.Form.{Form}
 use Rattle.rv_words.specs.declared.command.Form.TheVariants as form
 use Rattle.rv_inputs.specs.Formats.{circuit, logic, permutation, table}
-use Rattle.rv_cmd.specs.Limits.{Limit, LimitedText, at_most, unlimited}
-use Rattle.rv_cmd.specs.Row.{ReadsFirst, two}
+use Rattle.rv_cmd.specs.Limits.{LimitedText, unlimited}
+use Rattle.rv_cmd.specs.Row.{ReadsFirst, always_told, two}
 
--- ---- the limits
+-- ---- where there is no answer
 
--- a circuit that is compared with another has at most so many inputs
-abbrev pub of_inputs : ℕ → Cascade → Limit
-of_inputs input c =
-    at_most input (input_count c.constants) MOST_INPUTS (TooManyInputs (input_count c.constants) MOST_INPUTS)
-
--- the first circuit's inputs, then the second one's
-abbrev pub compare_limits : Cascade → Cascade → List Limit
-compare_limits a b = of_inputs 0 a ∷ of_inputs 1 b ∷ []
-
--- the circuit's inputs, then the network's
-abbrev pub logic_limits : Cascade → Logic → List Limit
-logic_limits c network =
-    of_inputs 0 c ∷ at_most 1 (length network.inputs) MOST_INPUTS (TooManyInputs (length network.inputs) MOST_INPUTS)
-    ∷ []
-
--- By `LimitsInTerms` these limits are kept exactly if:
-pub record CanBeCompared (a b : Cascade) : Type 0 where
-  pub first : HasFewInputs a
-  pub second : HasFewInputs b
+-- A circuit of more inputs than are compared on all words may remain undecided: no diagram of at most so many nodes
+-- tells. It never does where there are at most 24 inputs.
+abbrev pub IsUndecided : Cascade → Refusal → Type 0
+IsUndecided c (Refused input why) = (input ≡ 0) × (why ≡ Undecided MOST_NODES) × HasManyInputs c
+IsUndecided c OutOfMemory = ⊥
 
 -- a fault of a comparison, as a refusal
 abbrev pub no_answer : CompareFault → Refusal
-no_answer (FirstInputs count) = Refused 0 (TooManyInputs count MOST_INPUTS)
-no_answer (SecondInputs count) = Refused 1 (TooManyInputs count MOST_INPUTS)
-
-abbrev pub no_logic_answer : LogicFault → Refusal
-no_logic_answer (CircuitInputs count) = Refused 0 (TooManyInputs count MOST_INPUTS)
-no_logic_answer (LogicInputs count) = Refused 1 (TooManyInputs count MOST_INPUTS)
-no_logic_answer Mem = OutOfMemory
+no_answer fault.Undecided = Refused 0 (Undecided MOST_NODES)
+no_answer fault.Mem = OutOfMemory
 
 -- ---- the report
 
@@ -94,8 +74,7 @@ pub record TellsComparison (a b : Size) (Agree : List Bool → Type 0) (answer :
 -- ---- a circuit and another: they give the same word
 
 abbrev pub circuits_report : Cascade → Cascade → LimitedText
-circuits_report a b =
-    record { limits = compare_limits a b; text = comparison_text (input_count a.constants) (circuits_answer a b) }
+circuits_report a b = unlimited (comparison_text (input_count a.constants) (circuits_answer a b))
 
 abbrev pub circuits_differ : Cascade → Cascade → Bool
 circuits_differ a b = says_apart (circuits_answer a b)
@@ -128,11 +107,7 @@ TellsTable c pla = TellsComparison (size_of c) (size_for pla) (GivesAllowed c pl
 -- ---- a circuit and a logic network: the circuit gives the network's outputs
 
 abbrev pub logic_report : Cascade → Logic → LimitedText
-logic_report c network =
-    record {
-      limits = logic_limits c network;
-      text = comparison_text (input_count c.constants) (logic_answer c network);
-    }
+logic_report c network = unlimited (comparison_text (input_count c.constants) (logic_answer c network))
 
 abbrev pub logic_differs : Cascade → Logic → Bool
 logic_differs c network = says_apart (logic_answer c network)
@@ -155,6 +130,10 @@ with_table said all c pla = said (asked all c) pla
 abbrev pub with_logic : {X : Type 0} → (Cascade → Logic → X) → Bool → Cascade → Logic → X
 with_logic said all c network = said (asked all c) network
 
+-- why there may be no report of a circuit and another side
+abbrev pub LacksAnswer : {X : Type 0} → Bool → Cascade → X → Refusal → Type 0
+LacksAnswer all c other = IsUndecided (asked all c)
+
 -- what the text means
 abbrev pub MeansCircuits : Bool → Cascade → Cascade → List ℕ → Type 0
 MeansCircuits all a b = TellsCircuits (asked all a) (asked all b)
@@ -171,10 +150,11 @@ MeansLogic all c network = TellsLogic (asked all c) network
 -- by the form of the second input
 abbrev pub compare_row : Form → Bool → ReadsFirst
 compare_row form.Pla all =
-    two circuit table (with_table table_report all) (with_table table_differs all) (MeansTable all)
+    two circuit table (with_table table_report all) (with_table table_differs all) always_told (MeansTable all)
 compare_row form.Perm all =
-    two circuit permutation (with_perm perm_report all) (with_perm perm_differs all) (MeansPerm all)
+    two circuit permutation (with_perm perm_report all) (with_perm perm_differs all) always_told (MeansPerm all)
 compare_row form.Blif all =
-    two circuit logic (with_logic logic_report all) (with_logic logic_differs all) (MeansLogic all)
+    two circuit logic (with_logic logic_report all) (with_logic logic_differs all) (LacksAnswer all) (MeansLogic all)
 compare_row _ all =
-    two circuit circuit (with_circuit circuits_report all) (with_circuit circuits_differ all) (MeansCircuits all)
+    two circuit circuit (with_circuit circuits_report all) (with_circuit circuits_differ all) (LacksAnswer all)
+    (MeansCircuits all)

@@ -1,5 +1,5 @@
 -- `resynth`: a circuit that a search finds for a circuit.
-use Rattle.std.specs.Prelude.{◌≡◌, ℕ, Bool, true, false, List, [], ◌∷◌, Option, Some, None, Ok}
+use Rattle.std.specs.Prelude.{◌≡◌, ℕ, Bool, true, false, List, [], Option, Some, None, Ok}
 use Rattle.rv_gate.specs.Circuit.{Cascade}
 use Rattle.rv_resynth.specs.Resynthesis.{IsResynthesis, IsResynthesisByMarks}
 use Rattle.rv_search.specs.declared.goal.Goal.{Goal}
@@ -9,7 +9,6 @@ use Rattle.rv_words.specs.declared.command.Goal as wishes
 use Rattle.rv_real.specs.Reading.{real_of}
 use Rattle.rv_real.specs.Text.{text_of}
 use Rattle.rv_inputs.specs.Formats.{circuit}
-use Rattle.rv_cmd.specs.Commands.Compare.{of_inputs}
 use Rattle.rv_cmd.specs.Limits.{Limit}
 use Rattle.rv_cmd.specs.Row.{ReadsFirst, always, finds}
 
@@ -21,10 +20,9 @@ resynth_goal (Some wish.Gates) = Gates
 resynth_goal (Some wish.Quantum) = Quantum
 resynth_goal (Some wish.T) = T
 
--- by its marks a circuit is compared with what is found on each word of its inputs, of which there are few enough
-abbrev pub resynth_limits : Bool → Cascade → List Limit
-resynth_limits true c = of_inputs 0 c ∷ []
-resynth_limits false c = []
+-- nothing is refused
+abbrev pub resynth_limits : Cascade → List Limit
+resynth_limits c = []
 
 -- Read back, the text is a circuit with the names, labels and marks of the one that was read. It makes the same of
 -- every word, and the goal counts no more of it.
@@ -46,4 +44,4 @@ IsResynthReport true goal = IsResynthesizedByMarks goal
 IsResynthReport false goal = IsResynthesized goal
 
 abbrev pub resynth_row : Goal → Bool → ReadsFirst
-resynth_row goal marks = finds circuit (resynth_limits marks) always (IsResynthReport marks goal)
+resynth_row goal marks = finds circuit resynth_limits always (IsResynthReport marks goal)

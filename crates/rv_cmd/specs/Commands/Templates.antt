@@ -16,7 +16,7 @@ use Rattle.rv_faults.specs.declared.fault.InputFault.TheVariants.{LongTemplate, 
 use Rattle.rv_faults.specs.declared.fault.InputFault.{InputFault}
 use Rattle.rv_inputs.specs.Formats.{circuit}
 use Rattle.rv_cmd.specs.Limits.{Limit, LimitedText, no_fault, unlimited}
-use Rattle.rv_cmd.specs.Row.{ReadsFirst, one, two}
+use Rattle.rv_cmd.specs.Row.{ReadsFirst, always_told, one, two}
 
 -- ---- a template
 
@@ -70,4 +70,4 @@ pub record IsSimplified (library : List (List Shape)) (c : Cascade) (text : List
 abbrev pub templates_row : Option (List ℕ) → ReadsFirst
 templates_row None = one circuit simplified_report (IsSimplified built_in)
 templates_row (Some name) =
-    two circuit circuit templates_report (λ c given. false) (λ c given. IsSimplified (library_with given) c)
+    two circuit circuit templates_report (λ c given. false) always_told (λ c given. IsSimplified (library_with given) c)

@@ -1,5 +1,5 @@
 -- What a command's code answers, where a text within limits is asked for and memory may be wanting.
-use Rattle.std.specs.Prelude.{◌≡◌, ℕ, ◌<◌, false, List, Some, Result, Ok}
+use Rattle.std.specs.Prelude.{◌≡◌, ◌⊎◌, ℕ, ◌<◌, false, List, Some, Result, Ok}
 use Rattle.rv_real.specs.Text as real
 use Rattle.rv_perm.specs.Text as perm
 use Rattle.rv_pla.specs.Text.{esop_text}
@@ -42,6 +42,14 @@ pub record IsProductOf (asked : LimitedText) (IsMeant : List ℕ → Type 0) (pr
 abbrev pub IsRefusalOf : ℕ → List Limit → Refusal → Type 0
 IsRefusalOf count limits (Refused input why) = (input < count) × (first_refused limits ≡ Some (Refused input why))
 IsRefusalOf count limits OutOfMemory = Unit {0}
+
+-- for a reason of one of so many inputs there is no report, though the limits are kept
+abbrev pub IsLackOf : ℕ → List Limit → (Refusal → Type 0) → Refusal → Type 0
+IsLackOf count limits Lacks (Refused input why) = (input < count) × AreKept limits × Lacks (Refused input why)
+IsLackOf count limits Lacks OutOfMemory = ⊥
+
+abbrev pub IsUntoldOf : ℕ → List Limit → (Refusal → Type 0) → Refusal → Type 0
+IsUntoldOf count limits Lacks refused = IsRefusalOf count limits refused ⊎ IsLackOf count limits Lacks refused
 
 -- the report that is written of what was made
 abbrev pub report_of : Made → Report

@@ -26,6 +26,8 @@ impl TwoInputs for Check {
 
     ghost differs = { λ command. check_differs };
 
+    ghost Lacks = { λ command. always_told };
+
     ghost Means = { λ command. TellsVerdict };
 
     fn make(&self, alloc: Global, circuit: &Circuit, program: &Program) -> Result<Made, Refusal> {
@@ -104,7 +106,7 @@ fn put_said<O: Sink>(writer: &mut Writer, out: &mut O, lines: u8, verdict: Verdi
         }
         Verdict::Differs(word) => {
             writer.put(out, b"differs at word ");
-            put_bits(writer, out, lines, u32::from(word));
+            put_bits(writer, out, lines, u64::from(word));
         }
     }
 }

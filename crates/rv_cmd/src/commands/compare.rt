@@ -1,22 +1,24 @@
 ghost use Rattle.std.specs.Prelude.{◌≡◌, length};
 ghost use Rattle.rv_io.specs.Sink.{Sends};
 ghost use Rattle.rv_io.specs.Writer.{Adds};
-ghost use Rattle.rv_cmd.specs.Commands.Compare.{MeansCircuits, MeansLogic, MeansPerm, MeansTable, circuits_differ};
-ghost use Rattle.rv_cmd.specs.Commands.Compare.{circuits_report, logic_differs, logic_report, no_logic_answer};
-ghost use Rattle.rv_cmd.specs.Commands.Compare.{with_logic};
+ghost use Rattle.rv_cmd.specs.Commands.Compare.{LacksAnswer, MeansCircuits, MeansLogic, MeansPerm, MeansTable};
+ghost use Rattle.rv_cmd.specs.Commands.Compare.{circuits_differ, circuits_report, logic_differs, logic_report};
 ghost use Rattle.rv_cmd.specs.Commands.Compare.{compare_row, comparison_said, comparison_text, counts_said};
 ghost use Rattle.rv_cmd.specs.Commands.Compare.{differs_said, no_answer, perm_differs, perm_report, says_apart};
-ghost use Rattle.rv_cmd.specs.Commands.Compare.{table_differs, table_report, with_circuit, with_perm, with_table};
+ghost use Rattle.rv_cmd.specs.Commands.Compare.{table_differs, table_report, with_circuit, with_logic, with_perm};
+ghost use Rattle.rv_cmd.specs.Commands.Compare.{with_table};
 ghost use Rattle.rv_cmd.specs.Names.{names_read};
+ghost use Rattle.rv_cmd.specs.Row.{always_told};
 ghost use Rattle.rv_cmd.specs.inside.Making.{Makes};
 
 use crate::making::{TwoInputs, of_two};
 use crate::product::{Made, Product};
 use rv_blif::{BlifReader, Logic};
 use rv_compare::{
-    CompareFault, Comparison, LogicFault, MOST_INPUTS, compare_circuits, compare_logic,
-    compare_perm, compare_table, input_count,
+    CompareFault, Comparison, compare_circuits, compare_logic, compare_perm, compare_table,
+    input_count,
 };
+use rv_diagram::MOST_NODES;
 use rv_faults::{InputFault, Refusal, Unmade, put_bits};
 use rv_gate::Circuit;
 use rv_io::{Files, Sink, WriteFault, Writer};
@@ -61,10 +63,12 @@ impl TwoInputs for WithCircuit {
 
     ghost differs = { λ command. with_circuit circuits_differ command.all };
 
+    ghost Lacks = { λ command. LacksAnswer command.all };
+
     ghost Means = { λ command. MeansCircuits command.all };
 
-    fn make(&self, _alloc: Global, first: &Circuit, second: &Circuit) -> Result<Made, Refusal> {
-        match compare_circuits(first, second, self.all) {
+    fn make(&self, alloc: Global, first: &Circuit, second: &Circuit) -> Result<Made, Refusal> {
+        match compare_circuits(alloc, first, second, self.all) {
             Ok(answer) => Ok(told(input_count(first, self.all), answer)),
             Err(fault) => Err(no_answer(fault)),
         }
@@ -84,6 +88,8 @@ impl TwoInputs for WithPerm {
     ghost report = { λ command. with_perm perm_report command.all };
 
     ghost differs = { λ command. with_perm perm_differs command.all };
+
+    ghost Lacks = { λ command. always_told };
 
     ghost Means = { λ command. MeansPerm command.all };
 
@@ -109,6 +115,8 @@ impl TwoInputs for WithTable {
 
     ghost differs = { λ command. with_table table_differs command.all };
 
+    ghost Lacks = { λ command. always_told };
+
     ghost Means = { λ command. MeansTable command.all };
 
     fn make(&self, _alloc: Global, circuit: &Circuit, pla: &Pla) -> Result<Made, Refusal> {
@@ -133,12 +141,14 @@ impl TwoInputs for WithLogic {
 
     ghost differs = { λ command. with_logic logic_differs command.all };
 
+    ghost Lacks = { λ command. LacksAnswer command.all };
+
     ghost Means = { λ command. MeansLogic command.all };
 
     fn make(&self, alloc: Global, circuit: &Circuit, network: &Logic) -> Result<Made, Refusal> {
         match compare_logic(alloc, circuit, network, self.all) {
             Ok(answer) => Ok(told(input_count(circuit, self.all), answer)),
-            Err(fault) => Err(no_logic_answer(fault)),
+            Err(fault) => Err(no_answer(fault)),
         }
     }
 }
@@ -168,42 +178,14 @@ fn says_apart(answer: Comparison) -> bool
 fn no_answer(fault: CompareFault) -> Refusal
     ensures { result ≡ no_answer fault }
 {
-    let most = MOST_INPUTS;
     match fault {
-        CompareFault::FirstInputs(count) => Refusal::Refused {
+        CompareFault::Undecided => Refusal::Refused {
             input: 0,
-            why: InputFault::TooManyInputs {
-                count: u32::from(count),
-                most,
+            why: InputFault::Undecided {
+                nodes: MOST_NODES as u32,
             },
         },
-        CompareFault::SecondInputs(count) => Refusal::Refused {
-            input: 1,
-            why: InputFault::TooManyInputs {
-                count: u32::from(count),
-                most,
-            },
-        },
-    }
-}
-
-fn no_logic_answer(fault: LogicFault) -> Refusal
-    ensures { result ≡ no_logic_answer fault }
-{
-    let most = MOST_INPUTS;
-    match fault {
-        LogicFault::CircuitInputs(count) => Refusal::Refused {
-            input: 0,
-            why: InputFault::TooManyInputs {
-                count: u32::from(count),
-                most,
-            },
-        },
-        LogicFault::LogicInputs(count) => Refusal::Refused {
-            input: 1,
-            why: InputFault::TooManyInputs { count, most },
-        },
-        LogicFault::Mem => Refusal::OutOfMemory,
+        CompareFault::Mem => Refusal::OutOfMemory,
     }
 }
 
@@ -238,7 +220,7 @@ fn put_said<O: Sink>(writer: &mut Writer, out: &mut O, inputs: u8, answer: Compa
 }
 
 // The word at which both differ.
-fn put_differs<O: Sink>(writer: &mut Writer, out: &mut O, inputs: u8, word: u32)
+fn put_differs<O: Sink>(writer: &mut Writer, out: &mut O, inputs: u8, word: u64)
     ensures { Adds writer.old (O.view out.old) (differs_said inputs word) writer.new (O.view out.new) }
 {
     if inputs == 0 {

@@ -5,12 +5,11 @@ ghost use Rattle.rv_cmd.specs.inside.Making.{Makes};
 
 use crate::making::{OneSearch, found_of_one};
 use crate::product::{Made, Product};
-use crate::refusals::too_many_inputs;
 use rv_faults::{Refusal, Unmade};
 use rv_gate::Circuit;
 use rv_io::Files;
 use rv_real::RealReader;
-use rv_resynth::{Goal, MarksFault, resynth as found_for, resynth_by_marks};
+use rv_resynth::{Goal, resynth as found_for, resynth_by_marks};
 use rv_words::{Goal as Wish, Settings};
 use std::alloc::Global;
 
@@ -52,7 +51,7 @@ struct OnAllLines {
 impl OneSearch for OnAllLines {
     type Text = RealReader;
 
-    ghost limits = { λ command. resynth_limits false };
+    ghost limits = { λ command. resynth_limits };
 
     ghost Means = { λ command. IsResynthReport false command.search.goal };
 
@@ -76,7 +75,7 @@ struct ByMarks {
 impl OneSearch for ByMarks {
     type Text = RealReader;
 
-    ghost limits = { λ command. resynth_limits true };
+    ghost limits = { λ command. resynth_limits };
 
     ghost Means = { λ command. IsResynthReport true command.search.goal };
 
@@ -87,8 +86,7 @@ impl OneSearch for ByMarks {
                 new.recall_invariant();
                 Ok(Product::Circuit(new))
             }
-            Err(MarksFault::TooManyInputs(count)) => Err(too_many_inputs(count)),
-            Err(MarksFault::Mem) => Err(Refusal::OutOfMemory),
+            Err(_) => Err(Refusal::OutOfMemory),
         }
     }
 }

@@ -70,6 +70,8 @@ impl TwoInputs for WithTemplate {
 
     ghost differs = { λ command c given. false };
 
+    ghost Lacks = { λ command. always_told };
+
     ghost Means = { λ command c given. IsSimplified (library_with given) c };
 
     fn make(&self, alloc: Global, circuit: &Circuit, given: &Circuit) -> Result<Made, Refusal> {

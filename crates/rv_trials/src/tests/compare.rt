@@ -46,7 +46,7 @@ fn expect_compares(rt: &impl Abort, alloc: Global, words: &str, cases: &[(&str, 
 fn circuits_are_compared_by_their_marks(rt: HostRuntime) {
     const NINE: &str = typed!(10, "a b c d e f g h i j", "t10 a b c d e f g h i j\n");
     const NONE: &str = typed!(10, "a b c d e f g h i j", "");
-    const CASES: [(&str, &str, u8, &str); 13] = [
+    const CASES: [(&str, &str, u8, &str); 12] = [
         (EXCHANGE, typed!(2, "p q", "f2 p q\n"), 0, "same\n"),
         (COPY, WIRE, 0, "same\n"),
         (
@@ -86,9 +86,40 @@ fn circuits_are_compared_by_their_marks(rt: HostRuntime) {
             "differs at word 000000000000000000000000\n",
         ),
         (FILLED, WIRE, 0, "same\n"),
-        (WIDE, WIRE, 5, "c.real: 25 inputs are more than 24"),
-        (WIRE, WIDE, 5, "other: 25 inputs are more than 24"),
-        (WIDE, WIDE, 5, "c.real: 25 inputs are more than 24"),
+        (WIDE, WIRE, 1, "differs in inputs 25 and 1\n"),
+        (WIRE, WIDE, 1, "differs in inputs 1 and 25\n"),
+    ];
+    expect_compares(&rt, rt.alloc(), WITH_CIRCUIT, &CASES)
+}
+
+// Of 25 inputs and more there are too many words to look at each.
+#[test]
+fn wide_circuits_are_compared(rt: HostRuntime) -> Result<(), Fail> {
+    const SPREAD: &str = typed!(
+        25,
+        "a b c d e f g h i j k l m n o p q r s t u v w x y",
+        "t3 a b y\nt3 b c y\nt1 a\nt3 b c y\n"
+    );
+    const GATHERED: &str = typed!(
+        25,
+        "a b c d e f g h i j k l m n o p q r s t u v w x y",
+        "t1 a\nt2 b y\nt3 a b y\n"
+    );
+    const CASES: [(&str, &str, u8, &str); 4] = [
+        (WIDE, WIDE, 0, "same\n"),
+        (
+            WIDE,
+            typed!(25, "a b c d e f g h i j k l m n o p q r s t u v w x y", ""),
+            1,
+            "differs at word 0000000000000000000000000\n",
+        ),
+        (SPREAD, GATHERED, 0, "same\n"),
+        (
+            SPREAD,
+            WIDE,
+            1,
+            "differs at word 1100000000000000000000000\n",
+        ),
     ];
     expect_compares(&rt, rt.alloc(), WITH_CIRCUIT, &CASES);
 }
@@ -160,7 +191,7 @@ fn all_lines_are_compared_without_marks(rt: HostRuntime) {
             "differs at word 0\n",
         ),
         (COPY, WIRE, 1, "differs in inputs 2 and 1\n"),
-        (FILLED, WIRE, 5, "c.real: 25 inputs are more than 24"),
+        (FILLED, WIRE, 1, "differs in inputs 25 and 1\n"),
     ];
     const PERMUTATIONS: [(&str, &str, u8, &str); 2] = [
         (COPY, ".constants 0-\n.garbage -1\n0 1 3 2\n", 0, "same\n"),
@@ -224,12 +255,12 @@ fn a_circuit_is_compared_with_a_logic_network(rt: HostRuntime) {
             1,
             "differs at word 0\n",
         ),
-        (WIDE, ADDER, 5, "c.real: 25 inputs are more than 24"),
+        (WIDE, ADDER, 1, "differs in inputs 25 and 3\n"),
         (
             COPY,
             ".inputs a b c d e f g h i j k l m n o p q r s t u v w x y\n.outputs a\n",
-            5,
-            "other: 25 inputs are more than 24",
+            1,
+            "differs in inputs 1 and 25\n",
         ),
         (COPY, ".inputs a\n.outputs b\n", 3, "other:2: never driven"),
     ];
@@ -284,4 +315,40 @@ fn a_logic_network_gives_what_its_covers_say(rt: HostRuntime) {
         ),
     ];
     expect_compares(&rt, rt.alloc(), "compare --from blif c.real other", &CASES);
+}
+
+// All of 26 inputs are 1: by a network of three nodes, and by a flip; and but for the last input.
+#[test]
+fn a_wide_circuit_is_compared_with_a_logic_network(rt: HostRuntime) -> Result<(), Fail> {
+    const ALL: &str = concat!(
+        ".inputs a b c d e f g h i j k l m n o p q r s t u v w x y z\n.outputs all\n",
+        ".names a b c d e f g h i j k l m first\n1111111111111 1\n",
+        ".names n o p q r s t u v w x y z last\n1111111111111 1\n",
+        ".names first last all\n11 1\n.end\n"
+    );
+    const FLIPPED: &str = written!(
+        27,
+        "a b c d e f g h i j k l m n o p q r s t u v w x y z all",
+        "--------------------------0",
+        "11111111111111111111111111-",
+        "t27 a b c d e f g h i j k l m n o p q r s t u v w x y z all\n"
+    );
+    const BUT_THE_LAST: &str = written!(
+        27,
+        "a b c d e f g h i j k l m n o p q r s t u v w x y z all",
+        "--------------------------0",
+        "11111111111111111111111111-",
+        "t26 a b c d e f g h i j k l m n o p q r s t u v w x y all\n"
+    );
+    const CASES: [(&str, &str, u8, &str); 3] = [
+        (FLIPPED, ALL, 0, "same\n"),
+        (
+            BUT_THE_LAST,
+            ALL,
+            1,
+            "differs at word 11111111111111111111111110\n",
+        ),
+        (COPY, ALL, 1, "differs in inputs 1 and 26\n"),
+    ];
+    expect_compares(&rt, rt.alloc(), "compare --from blif c.real other", &CASES)
 }

@@ -56,9 +56,19 @@ fn a_search_finds_the_least_circuit(rt: HostRuntime) {
         ),
         (
             "resynth --marks",
-            typed!(25, "a b c d e f g h i j k l m n o p q r s t u v w x y", ""),
-            5,
-            "-: 25 inputs are more than 24",
+            typed!(
+                25,
+                "a b c d e f g h i j k l m n o p q r s t u v w x y",
+                "t3 a b c\nt3 a b c\n"
+            ),
+            0,
+            written!(
+                25,
+                "a b c d e f g h i j k l m n o p q r s t u v w x y",
+                "-------------------------",
+                "-------------------------",
+                ""
+            ),
         ),
     ];
     expect_each(&rt, rt.alloc(), &CASES);

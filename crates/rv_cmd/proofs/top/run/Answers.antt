@@ -2,7 +2,6 @@ use Rattle.rv_words.specs.Settings.{texts}
 use Rattle.rv_cmd.specs.Headline.{Scene}
 use Rattle.rv_cmd.proofs.Completeness as completeness
 use Rattle.rv_cmd.proofs.Laws.Check.{check-kept}
-use Rattle.rv_cmd.proofs.Laws.Compare.{compare-kept}
 use Rattle.rv_cmd.proofs.inside.Taken.{operations-kept, template-kept}
 use Rattle.rv_cmd.proofs.top.run.Goals as goal
 
@@ -43,4 +42,4 @@ returns-clause-written g c =
     (g.E.Sink.view c.args.errs.now) (g.E.Sink.view c.run_arguments.new.errs) c.run_arguments.result c.run_arguments.ensures
 
 pub returns-clause-terms : goal.returns-clause-terms
-returns-clause-terms g c = record { template = template-kept; operations = operations-kept; check = check-kept; compare = compare-kept }
+returns-clause-terms g c = record { template = template-kept; operations = operations-kept; check = check-kept }

@@ -12,8 +12,9 @@ loop-block-preserved g c =
 pub returns-in-Some : goal.returns-in-Some
 returns-in-Some g c =
     let size = size_of (asked c.args.all c.args.circuit.now) in
-    differs_at size (g.T.Other.size c.args.all c.args.other.now) (g.T.Other.Agrees c.args.all c.args.other.now c.args.circuit.now) c.word_count-words.result c.loop-block.block c.min-count.result c.in-Some.place (omega arith) (omega arith)
-    (c.word_count-words.ensures ∙ ap (λ n. 2 ^ n) c.requires.inputs) c.min-count.ensures c.loop-block.invariant c.in-Some.ensures.first
+    rw c.from.ensures
+    (differs_at size (g.T.Other.size c.args.all c.args.other.now) (g.T.Other.Agrees c.args.all c.args.other.now c.args.circuit.now) c.word_count-words.result c.loop-block.block c.min-count.result c.in-Some.place (omega arith) (omega arith)
+    (c.word_count-words.ensures ∙ ap (λ n. 2 ^ n) c.requires.inputs) c.min-count.ensures c.loop-block.invariant c.in-Some.ensures.first)
 
 pub returns : goal.returns
 returns g c =

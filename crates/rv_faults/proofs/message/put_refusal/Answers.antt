@@ -21,12 +21,6 @@ returns-in-TooManyLines g c =
     (adds_as (ap (λ (n : ℕ). counted_to c.in-TooManyLines.count (codes " lines are more than ") n) c.from-in-TooManyLines.ensures)
     c.put_counted-in-TooManyLines.ensures)
 
-pub returns-in-TooManyInputs : goal.returns-in-TooManyInputs
-returns-in-TooManyInputs g c =
-    rw c.in-TooManyInputs.is
-    (adds_as (ap (λ (n : ℕ). counted_to c.in-TooManyInputs.count (codes " inputs are more than ") n) c.from-in-TooManyInputs.ensures)
-    c.put_counted-in-TooManyInputs.ensures)
-
 pub returns-in-TooManyGates : goal.returns-in-TooManyGates
 returns-in-TooManyGates g c = rw c.in-TooManyGates.is c.put_counted-in-TooManyGates.ensures
 
@@ -57,3 +51,6 @@ returns-in-WideTemplate g c =
 
 pub returns-in-LongTemplate : goal.returns-in-LongTemplate
 returns-in-LongTemplate g c = rw c.in-LongTemplate.is c.put_template-in-LongTemplate.ensures
+
+pub returns-in-Undecided : goal.returns-in-Undecided
+returns-in-Undecided g c = rw c.in-Undecided.is c.put_undecided.ensures

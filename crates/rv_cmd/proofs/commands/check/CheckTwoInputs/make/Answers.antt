@@ -1,3 +1,4 @@
+use Rattle.std.proofs.Common.{inl}
 use Rattle.rv_cmd.proofs.Laws.Check.{check-answers, check-refuses-of, check-says}
 use Rattle.rv_cmd.proofs.commands.check.CheckTwoInputs.make.Goals as goal
 
@@ -13,5 +14,5 @@ returns-in-Ok-clause-differs c =
 
 pub returns-in-Err-clause-unmade : goal.returns-in-Err-clause-unmade
 returns-in-Err-clause-unmade c =
-    check-refuses-of c.args.circuit.now c.args.program.now c.net-net.result.now c.lines-lines.result c.in-Err.fault c.no_verdict.result c.net-net.ensures.value
-    c.lines-lines.ensures.value c.no_verdict.ensures c.in-Err.ensures.answer
+    inl (check-refuses-of c.args.circuit.now c.args.program.now c.net-net.result.now c.lines-lines.result c.in-Err.fault c.no_verdict.result c.net-net.ensures.value
+    c.lines-lines.ensures.value c.no_verdict.ensures c.in-Err.ensures.answer)
