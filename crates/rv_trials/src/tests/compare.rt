@@ -89,12 +89,12 @@ fn circuits_are_compared_by_their_marks(rt: HostRuntime) {
         (WIDE, WIRE, 1, "differs in inputs 25 and 1\n"),
         (WIRE, WIDE, 1, "differs in inputs 1 and 25\n"),
     ];
-    expect_compares(&rt, rt.alloc(), WITH_CIRCUIT, &CASES)
+    expect_compares(&rt, rt.alloc(), WITH_CIRCUIT, &CASES);
 }
 
 // Of 25 inputs and more there are too many words to look at each.
 #[test]
-fn wide_circuits_are_compared(rt: HostRuntime) -> Result<(), Fail> {
+fn wide_circuits_are_compared(rt: HostRuntime) {
     const SPREAD: &str = typed!(
         25,
         "a b c d e f g h i j k l m n o p q r s t u v w x y",
@@ -319,7 +319,7 @@ fn a_logic_network_gives_what_its_covers_say(rt: HostRuntime) {
 
 // All of 26 inputs are 1: by a network of three nodes, and by a flip; and but for the last input.
 #[test]
-fn a_wide_circuit_is_compared_with_a_logic_network(rt: HostRuntime) -> Result<(), Fail> {
+fn a_wide_circuit_is_compared_with_a_logic_network(rt: HostRuntime) {
     const ALL: &str = concat!(
         ".inputs a b c d e f g h i j k l m n o p q r s t u v w x y z\n.outputs all\n",
         ".names a b c d e f g h i j k l m first\n1111111111111 1\n",
@@ -350,5 +350,5 @@ fn a_wide_circuit_is_compared_with_a_logic_network(rt: HostRuntime) -> Result<()
         ),
         (COPY, ALL, 1, "differs in inputs 1 and 26\n"),
     ];
-    expect_compares(&rt, rt.alloc(), "compare --from blif c.real other", &CASES)
+    expect_compares(&rt, rt.alloc(), "compare --from blif c.real other", &CASES);
 }
