@@ -26,10 +26,10 @@ fn expect_content(
     rt: &impl Abort,
     alloc: Global,
     files: &mut MemFiles,
-    (name, limit): (&str, u32),
+    (name, limit): (&str, u8),
     want: Result<&[u8], InFault>,
 ) {
-    match read_all(alloc, files, name, limit) {
+    match read_all(alloc, files, name, u32::from(limit)) {
         Ok(bytes) => expect_true(rt, name, Ok(bytes.as_slice()) == want),
         Err(fault) => expect_true(rt, name, Err(fault) == want),
     }
@@ -37,7 +37,7 @@ fn expect_content(
 
 #[test]
 fn a_name_is_read_up_to_the_limit(rt: HostRuntime) {
-    let cases: [(&str, u32, Result<&[u8], InFault>); 5] = [
+    let cases: [(&str, u8, Result<&[u8], InFault>); 5] = [
         ("word", 3, Ok(b"abc")),
         ("word", 4, Ok(b"abc")),
         ("word", 2, Err(InFault::TooLong)),
