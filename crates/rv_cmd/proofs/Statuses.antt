@@ -8,7 +8,7 @@ use Rattle.rv_words.specs.declared.fault.ArgumentFault.{ArgumentFault}
 use Rattle.rv_words.specs.declared.fault.ArgumentFault.TheVariants as arguments
 use Rattle.rv_faults.specs.declared.fault.Fault.TheVariants.{CannotRead, CannotWrite, Refused, TooLong, OutOfMemory}
 use Rattle.rv_faults.specs.declared.fault.InputFault.{InputFault}
-use Rattle.rv_faults.specs.declared.fault.InputFault.TheVariants.{Text, WrongLength, OutOfRange, Repeated, Conflict, NotToffoli, NotIdentity, NotClassical, WideTemplate, LongTemplate, TooManyLines, TooManyInputs, TooManyGates, MoreGates, TooManyOps, LargeCoefficient}
+use Rattle.rv_faults.specs.declared.fault.InputFault.TheVariants.{Text, WrongLength, OutOfRange, Repeated, Conflict, NotToffoli, NotIdentity, NotClassical, WideTemplate, LongTemplate, TooManyLines, TooManyGates, MoreGates, TooManyOps, LargeCoefficient, Undecided}
 use Rattle.rv_cmd.specs.declared.run_end.RunEnd.{RunEnd}
 use Rattle.rv_cmd.specs.declared.run_end.RunEnd.TheVariants.{Understood, ArgumentsRefused}
 use Rattle.rv_cmd.specs.Commands.{row_of}
@@ -42,7 +42,7 @@ input-other (NotClassical place) = λ h. omega (arith, h)
 input-other (WideTemplate lines most) = λ h. omega (arith, h)
 input-other (LongTemplate gates most) = λ h. omega (arith, h)
 input-other (TooManyLines count most) = λ h. omega (arith, h)
-input-other (TooManyInputs count most) = λ h. omega (arith, h)
+input-other (Undecided nodes) = λ h. omega (arith, h)
 input-other (TooManyGates count most) = λ h. omega (arith, h)
 input-other (MoreGates most) = λ h. omega (arith, h)
 input-other (TooManyOps count most) = λ h. omega (arith, h)

@@ -77,7 +77,7 @@ logic-made c network inputs answer made counted is what =
 -- ---- where there is no answer
 
 untold-by : {X : Type 0} (all : Bool) (c : Cascade) (other : X) (of : CompareFault) → EndsFor (asked all c) of → IsUntoldOf 2 [] (LacksAnswer all c other) (no_answer of)
-untold-by all c other fault.Undecided many = inr (omega arith, (tt, (refl, (refl, many))))
+untold-by all c other fault.Undecided many = inr (omega arith, tt, (refl, refl, many))
 untold-by all c other fault.Mem ends = inl tt
 
 pub compare-untold : {X : Type 0} (all : Bool) (c : Cascade) (other : X) (of : CompareFault) (refusal : Refusal) → EndsFor (asked all c) of → refusal ≡ no_answer of

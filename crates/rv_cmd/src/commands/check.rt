@@ -3,6 +3,7 @@ ghost use Rattle.rv_io.specs.Sink.{Sends};
 ghost use Rattle.rv_io.specs.Writer.{Adds};
 ghost use Rattle.rv_cmd.specs.Commands.Check.{TellsVerdict, check_differs, check_report, lines_said, no_verdict};
 ghost use Rattle.rv_cmd.specs.Commands.Check.{says_different, verdict_said, verdict_text};
+ghost use Rattle.rv_cmd.specs.Row.{always_told};
 
 use crate::making::TwoInputs;
 use crate::product::{Made, Product};

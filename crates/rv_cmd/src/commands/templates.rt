@@ -11,6 +11,7 @@ ghost use Rattle.rv_cmd.specs.Limits.{AreKept, unlimited};
 ghost use Rattle.rv_cmd.specs.Names.{names_read};
 ghost use Rattle.rv_cmd.specs.inside.Making.{Makes};
 ghost use Rattle.rv_cmd.specs.inside.Products.{IsProductOf, IsRefusalOf};
+ghost use Rattle.rv_cmd.specs.Row.{always_told};
 
 use crate::making::{OneInput, TwoInputs, of_one, of_two};
 use crate::product::{Made, Product};
