@@ -13,7 +13,7 @@ use crate::comparison::{CompareFault, Comparison, MOST_INPUTS, answer_of, undeci
 use crate::drawn::circuit_edges;
 use crate::marks::{input_count, output_count};
 use crate::sides::{Other, compare_words, sizes_apart};
-use crate::ways::{LEAST_DRAWN, diagram_for, way_count, way_of};
+use crate::ways::{LEAST_DRAWN, circuit_order, diagram_for, way_count, way_of};
 use rv_diagram::{Diagram, DiagramFault};
 use rv_gate::{Circuit, MOST_LINES};
 use rv_many::Row;
@@ -66,9 +66,9 @@ fn apart_in(
     ensures { IfOk result (IsFirstFailing (2 ^ inputs)
         (λ k. AreSame (asked all a.now) (asked all b.now) (word_of inputs k))) }
 {
-    let mine = circuit_edges(alloc, diagram, a, all)?;
-    let others = circuit_edges(alloc, diagram, b, all)?;
-    let found = diagram.first_apart(&mine, &others, inputs)?;
+    let mut mine = circuit_edges(alloc, diagram, a, all, &mut Vec::new(alloc))?;
+    let mut others = circuit_edges(alloc, diagram, b, all, &mut mine)?;
+    let found = diagram.first_apart(alloc, &mut mine, &mut others, inputs)?;
     Ok(found)
 }
 
@@ -88,7 +88,8 @@ fn first_apart_drawn(
     for number in 0..way_count(inputs) {
         let way = way_of(inputs, number);
         let by = if way.by_second { b } else { a };
-        let mut diagram = diagram_for(alloc, way, by, all)?;
+        let order = circuit_order(alloc, way.order, by, all)?;
+        let mut diagram = diagram_for(alloc, way, order)?;
         match apart_in(alloc, &mut diagram, a, b, all, inputs) {
             Ok(found) => return Ok(found),
             Err(DiagramFault::Mem) => return Err(DiagramFault::Mem),

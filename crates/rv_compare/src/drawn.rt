@@ -1,10 +1,10 @@
 // The functions of circuits and networks on a diagram.
-ghost use Rattle.std.specs.Prelude.{◌≡◌, ◌+◌, ◌<◌, ◌≤◌, Bool, List, All, length, map, not, take, IfOk};
+ghost use Rattle.std.specs.Prelude.{◌≡◌, ◌+◌, ◌<◌, ◌≤◌, Bool, List, All, length, map, not, take, IfOk, OnOk};
 ghost use Rattle.rv_gate.specs.Marks.{output_count};
 ghost use Rattle.rv_gate.specs.Word.{bit_of};
 ghost use Rattle.rv_gate.specs.declared.word.TheConstants.{MOST_LINES};
 ghost use Rattle.rv_blif.specs.Logic.{IsNode, any_holds, node_value, outputs_of, values};
-ghost use Rattle.rv_diagram.specs.Diagram.{IsEdge, Keeps, value, word_at};
+ghost use Rattle.rv_diagram.specs.Diagram.{AreStill, IsEdge, Keeps, value, word_at};
 ghost use Rattle.rv_compare.specs.Compare.{asked, function_of, size_of};
 
 use crate::marks::{constants_of, garbage_of};
@@ -13,14 +13,16 @@ use rv_diagram::{Diagram, DiagramFault, Edge, blank_lines};
 use rv_gate::Circuit;
 use std::alloc::Global;
 
-/// The outputs of a circuit.
+/// The outputs of a circuit. What is kept stands for the same afterwards.
 pub(crate) fn circuit_edges(
     alloc: Global,
     diagram: &mut Diagram,
     circuit: &Circuit,
     all: bool,
+    kept: &mut Vec<Edge>,
 ) -> Result<Vec<Edge>, DiagramFault>
-    ensures keeps { Keeps diagram.old diagram.new }
+    requires kept { All (IsEdge diagram.old) kept.old.items }
+    ensures kept { OnOk result (AreStill diagram.old diagram.new kept.old.items kept.new.items) }
     ensures count { IfOk result (λ edges. length edges.items ≡ (size_of (asked all circuit.now)).outputs) }
     ensures edges { IfOk result (λ edges. All (IsEdge diagram.new) edges.items) }
     ensures words { IfOk result (λ edges. (x : List Bool)
@@ -28,13 +30,15 @@ pub(crate) fn circuit_edges(
 {
     circuit.recall_invariant();
     let mut lines = blank_lines(alloc, usize::from(circuit.line_count()))?;
-    let kept = diagram.give_outputs(
+    let count = diagram.give_outputs(
+        alloc,
         constants_of(circuit, all),
         circuit.gates(),
         garbage_of(circuit, all),
         &mut lines,
+        kept,
     )?;
-    lines.truncate(kept);
+    lines.truncate(count);
     Ok(lines)
 }
 
@@ -97,7 +101,19 @@ fn input_edges(alloc: Global, diagram: &mut Diagram, count: u8) -> Result<Vec<Ed
     Ok(signals)
 }
 
-// The functions of all signals.
+// Leaves out what these signals don't need, if there is much of it.
+fn make_room(
+    alloc: Global,
+    diagram: &mut Diagram,
+    signals: &mut Vec<Edge>,
+) -> Result<(), DiagramFault>
+    requires { All (IsEdge diagram.old) signals.old.items }
+    ensures { OnOk result (AreStill diagram.old diagram.new signals.old.items signals.new.items) }
+{
+    diagram.make_room(alloc, signals, &mut [])
+}
+
+// The functions of all signals, and little besides.
 fn signal_edges(
     alloc: Global,
     diagram: &mut Diagram,
@@ -106,7 +122,6 @@ fn signal_edges(
 ) -> Result<Vec<Edge>, DiagramFault>
     requires inputs { inputs ≡ length logic.now.inputs }
     requires few { inputs ≤ MOST_LINES }
-    ensures keeps { Keeps diagram.old diagram.new }
     ensures count { IfOk result (λ signals. length signals.items ≡ length logic.now.inputs + length logic.now.nodes) }
     ensures edges { IfOk result (λ signals. All (IsEdge diagram.new) signals.items) }
     ensures words { IfOk result (λ signals. (x : List Bool) → length x ≡ inputs
@@ -115,6 +130,7 @@ fn signal_edges(
     let mut signals = input_edges(alloc, diagram, inputs)?;
     let nodes = logic.nodes();
     for k in 0..nodes.len() {
+        make_room(alloc, diagram, &mut signals)?;
         let edge = node_edge(diagram, &nodes[k], &signals)?;
         if signals.push(edge).is_err() {
             return Err(DiagramFault::Mem);
@@ -156,7 +172,6 @@ pub(crate) fn logic_edges(
 ) -> Result<Vec<Edge>, DiagramFault>
     requires inputs { inputs ≡ length logic.now.inputs }
     requires few { inputs ≤ MOST_LINES }
-    ensures keeps { Keeps diagram.old diagram.new }
     ensures count { IfOk result (λ edges. length edges.items ≡ length logic.now.outputs) }
     ensures edges { IfOk result (λ edges. All (IsEdge diagram.new) edges.items) }
     ensures words { IfOk result (λ edges. (x : List Bool) → length x ≡ inputs

@@ -17,7 +17,7 @@ use crate::comparison::{CompareFault, Comparison, MOST_INPUTS, answer_of, undeci
 use crate::drawn::{circuit_edges, logic_edges};
 use crate::marks::{input_count, inputs_of};
 use crate::sides::{Other, compare_words, sizes_apart};
-use crate::ways::{LEAST_DRAWN, diagram_for, way_count, way_of};
+use crate::ways::{LEAST_DRAWN, diagram_for, order_beside, way_count, way_of};
 use rv_blif::{Logic, Output};
 use rv_diagram::{Diagram, DiagramFault};
 use rv_gate::{Circuit, MOST_LINES};
@@ -99,9 +99,9 @@ fn apart_in(
     ensures { IfOk result (IsFirstFailing (2 ^ inputs)
         (λ k. GivesOutputs (asked all circuit.now) logic.now (word_of inputs k))) }
 {
-    let mine = circuit_edges(alloc, diagram, circuit, all)?;
-    let others = logic_edges(alloc, diagram, logic, inputs)?;
-    let found = diagram.first_apart(&mine, &others, inputs)?;
+    let mut others = logic_edges(alloc, diagram, logic, inputs)?;
+    let mut mine = circuit_edges(alloc, diagram, circuit, all, &mut others)?;
+    let found = diagram.first_apart(alloc, &mut mine, &mut others, inputs)?;
     Ok(found)
 }
 
@@ -121,13 +121,12 @@ fn first_apart_drawn(
 {
     for number in 0..way_count(inputs) {
         let way = way_of(inputs, number);
-        if !way.by_second {
-            let mut diagram = diagram_for(alloc, way, circuit, all)?;
-            match apart_in(alloc, &mut diagram, circuit, logic, all, inputs) {
-                Ok(found) => return Ok(found),
-                Err(DiagramFault::Mem) => return Err(DiagramFault::Mem),
-                Err(DiagramFault::TooLarge) => {}
-            }
+        let order = order_beside(alloc, way, circuit, logic, all)?;
+        let mut diagram = diagram_for(alloc, way, order)?;
+        match apart_in(alloc, &mut diagram, circuit, logic, all, inputs) {
+            Ok(found) => return Ok(found),
+            Err(DiagramFault::Mem) => return Err(DiagramFault::Mem),
+            Err(DiagramFault::TooLarge) => {}
         }
     }
     Err(DiagramFault::TooLarge)

@@ -3,18 +3,19 @@ ghost use Rattle.std.specs.Prelude.{◌≡◌, [], IfOk};
 
 use crate::comparison::MOST_INPUTS;
 use crate::marks::{constants_of, garbage_of};
-use rv_diagram::{Diagram, MOST_NODES, Order, order_of};
-use rv_gate::Circuit;
+use rv_blif::Logic;
+use rv_diagram::{Diagram, MOST_NODES, Order, Signals, network_order, order_of};
+use rv_gate::{Circuit, MOST_LINES};
 use std::alloc::{AllocError, Global};
 
 /// From so many inputs on a small diagram is tried before all words.
 pub(crate) const LEAST_DRAWN: u8 = 18;
 
-/// An order of the bits by one of two circuits, and how large a diagram may become.
+/// An order of the bits by one of two sides, and how large a diagram may become.
 #[derive(Clone, Copy)]
 pub(crate) struct Way {
     pub(crate) by_second: bool,
-    order: Order,
+    pub(crate) order: Order,
     nodes: usize,
     steps: u64,
 }
@@ -22,22 +23,27 @@ pub(crate) struct Way {
 // Steps for each node.
 const STEPS: u64 = 16;
 
+// How many ways go with small diagrams.
+const SMALL: u8 = 6;
+
 /// How many ways there are for so many inputs.
 pub(crate) fn way_count(inputs: u8) -> u8 {
-    if inputs <= MOST_INPUTS { 1 } else { 6 }
+    if inputs <= MOST_INPUTS { 1 } else { 8 }
 }
 
 /// The way of a number.
 pub(crate) fn way_of(inputs: u8, number: u8) -> Way {
     let (by_second, order) = match number {
-        0 | 4 => (false, Order::DepthFirst),
-        1 | 5 => (false, Order::DeepestFirst),
-        2 => (true, Order::DeepestFirst),
-        _ => (false, Order::FirstUse),
+        0 | 6 => (false, Order::DepthFirst),
+        1 | 7 => (false, Order::DeepestFirst),
+        2 => (true, Order::DepthFirst),
+        3 => (true, Order::DeepestFirst),
+        4 => (false, Order::FirstUse),
+        _ => (true, Order::FirstUse),
     };
     let nodes = if inputs <= MOST_INPUTS {
         1 << 12
-    } else if number < 4 {
+    } else if number < SMALL {
         1 << 16
     } else {
         MOST_NODES
@@ -50,22 +56,61 @@ pub(crate) fn way_of(inputs: u8, number: u8) -> Way {
     }
 }
 
-/// A diagram without nodes, with the order that a circuit gives.
-pub(crate) fn diagram_for(
+/// The order of bits that a circuit gives.
+pub(crate) fn circuit_order(
     alloc: Global,
-    way: Way,
+    order: Order,
     circuit: &Circuit,
     all: bool,
-) -> Result<Diagram, AllocError>
-    ensures { IfOk result (λ diagram. diagram ≡ []) }
-{
-    let order = order_of(
+) -> Result<[u8; MOST_LINES as usize], AllocError> {
+    order_of(
         alloc,
-        way.order,
+        order,
         constants_of(circuit, all),
         circuit.gates(),
         garbage_of(circuit, all),
-    )?;
+    )
+}
+
+/// The order of bits that a circuit or a network gives.
+pub(crate) fn order_beside(
+    alloc: Global,
+    way: Way,
+    circuit: &Circuit,
+    logic: &Logic,
+    all: bool,
+) -> Result<[u8; MOST_LINES as usize], AllocError> {
+    if way.by_second {
+        logic_order(alloc, way.order, logic)
+    } else {
+        circuit_order(alloc, way.order, circuit, all)
+    }
+}
+
+// The order of bits that a network gives.
+fn logic_order(
+    alloc: Global,
+    order: Order,
+    logic: &Logic,
+) -> Result<[u8; MOST_LINES as usize], AllocError> {
+    let mut signals = Signals::of_network(alloc, logic.input_count() as usize);
+    for node in logic.nodes() {
+        signals.add_node(node.operands())?;
+    }
+    for output in logic.outputs() {
+        signals.add_output(output.signal())?;
+    }
+    network_order(alloc, order, &signals)
+}
+
+/// A diagram without nodes, with an order of bits.
+pub(crate) fn diagram_for(
+    alloc: Global,
+    way: Way,
+    order: [u8; MOST_LINES as usize],
+) -> Result<Diagram, AllocError>
+    ensures { IfOk result (λ diagram. diagram ≡ []) }
+{
     let places = way.nodes.saturating_mul(2);
     let diagram = Diagram::new(alloc, order, way.nodes, places, way.nodes / 2, way.steps)?;
     Ok(diagram)

@@ -1,5 +1,5 @@
 -- Where two sides differ.
-use Rattle.std.proofs.Common.{◌≡◌, ℕ, ◌+◌, ◌*◌, ◌^◌, ◌<◌, ◌≤◌, ◌⊎◌, Bool, true, false, ◌&&◌, List, [], ◌∷◌, ◌++◌, length, get_or, take, All, Some, inl, inr, refl, sym, ap, ◌∙◌, arith, add-one, length-append}
+use Rattle.std.proofs.Common.{◌≡◌, ℕ, ◌+◌, ◌*◌, ◌^◌, ◌<◌, ◌≤◌, ◌⊎◌, Bool, true, false, ◌&&◌, List, [], ◌∷◌, ◌++◌, length, get_or, take, All, Option, None, Some, inl, inr, refl, sym, ap, ◌∙◌, arith, add-one, length-append}
 use mir.Val.{bool_byte}
 use Rattle.std.proofs.Math.Nat.{pow-suc}
 use Rattle.std.proofs.Math.Pow.{pow_mono}
@@ -180,25 +180,35 @@ either : (a : Bool) → (a ≡ true) ⊎ (a ≡ false)
 either true = inl refl
 either false = inr refl
 
-pub apart_some : (start now last : List Node) (a b : List Edge) (agree : Edge) (inputs number : ℕ) → length a ≡ length b → Keeps now last → IsEdge now agree → number < 2 ^ inputs
+pub apart_some : (start now room last : List Node) (a b : List Edge) (agree differ : Edge) (inputs number : ℕ) → length a ≡ length b → Keeps room last → IsEdge room differ → number < 2 ^ inputs
     → ((x : List Bool) → value now agree x ≡ all_below (agrees (word_at start a x) (word_at start b x)) (length a))
-    → ((x : List Bool) → length x ≡ inputs → value now (turned_by agree true) x ≡ true → number ≤ number_of x)
-    → value last (turned_by agree true) (word_of inputs number) ≡ true
+    → ((x : List Bool) → value room differ x ≡ value now (turned_by agree true) x)
+    → ((x : List Bool) → length x ≡ inputs → value room differ x ≡ true → number ≤ number_of x)
+    → value last differ (word_of inputs number) ≡ true
     → IsFirstApart inputs (word_at start a) (word_at start b) (Some number)
-apart_some start now last a b agree inputs number count k is_agree below is least here =
+apart_some start now room last a b agree differ inputs number count k is_differ below is turned least here =
     let word = word_of inputs number in (
       below,
       λ same_here.
-          let off : value last agree word ≡ false = flipped _ (sym (value_turned last agree true word) ∙ here) in
-          false≢true (sym off ∙ k.same agree word is_agree ∙ is word ∙ same_self_all (word_at start a word) (word_at start b word) (length a) same_here),
+          let off : value now agree word ≡ false = flipped _ (sym (value_turned now agree true word) ∙ sym (turned word) ∙ sym (k.same differ word is_differ) ∙ here) in
+          false≢true (sym off ∙ is word ∙ same_self_all (word_at start a word) (word_at start b word) (length a) same_here),
       λ less lt.
           let w = word_of inputs less in
           elim (either (value now agree w)) [
             | inl on ↦
                 same_words (word_at start a w) (word_at start b w) (length a) (length-map a (λ e. value start e w)) (length-map b (λ e. value start e w) ∙ sym count) (sym (is w) ∙ on)
             | inr off ↦
-                absurd (omega (arith, least w (length-word_of inputs less) (value_turned now agree true w ∙ back _ off), number_of-word_of_small inputs less (omega arith)))
+                absurd (omega (arith, least w (length-word_of inputs less) (turned w ∙ value_turned now agree true w ∙ back _ off), number_of-word_of_small inputs less (omega arith)))
           ],
     )
 
 -- the same, of functions that are equal at each word
+pub apart_as : (inputs : ℕ) (f g f2 g2 : List Bool → List Bool) (found : Option ℕ) → ((x : List Bool) → f x ≡ f2 x) → ((x : List Bool) → g x ≡ g2 x)
+    → IsFirstApart inputs f g found → IsFirstApart inputs f2 g2 found
+apart_as inputs f g f2 g2 None same_f same_g is = λ x. sym (same_f x) ∙ is x ∙ same_g x
+apart_as inputs f g f2 g2 (Some number) same_f same_g is =
+    let word = word_of inputs number in (
+      is.0,
+      λ e. is.1 (same_f word ∙ e ∙ sym (same_g word)),
+      λ less lt. sym (same_f (word_of inputs less)) ∙ is.2 less lt ∙ same_g (word_of inputs less),
+    )

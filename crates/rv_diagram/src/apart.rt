@@ -119,27 +119,30 @@ impl Diagram {
     /// The number of the first word, of so many bits, at which two sides differ; none, where they are the same.
     pub fn first_apart(
         &mut self,
-        a: &[Edge],
-        b: &[Edge],
+        alloc: Global,
+        a: &mut [Edge],
+        b: &mut [Edge],
         inputs: u8,
     ) -> Result<Option<u64>, DiagramFault>
-        requires count { length a.now ≡ length b.now }
-        requires a { All (IsEdge self.old) a.now }
-        requires b { All (IsEdge self.old) b.now }
+        requires count { length a.old ≡ length b.old }
+        requires a { All (IsEdge self.old) a.old }
+        requires b { All (IsEdge self.old) b.old }
         requires inputs { inputs ≤ MOST_LINES }
-        ensures { IfOk result (IsFirstApart inputs (word_at self.old a.now) (word_at self.old b.now)) }
+        ensures { IfOk result (IsFirstApart inputs (word_at self.old a.old) (word_at self.old b.old)) }
     {
+        self.make_room(alloc, a, b)?;
         let agree = self.agreement(a, b)?;
         let whole = agree.is_same(Edge::ONE);
         if whole {
             return Ok(None);
         }
-        let differ = agree.turn(true);
-        let number = self.first_word(differ, inputs)?;
+        let mut differ = [agree.turn(true)];
+        self.make_room(alloc, &mut differ, &mut [])?;
+        let number = self.first_word(differ[0], inputs)?;
         let Some(word) = Word::new(inputs, number) else {
             unreachable!()
         };
-        if !self.value_at(differ, word) {
+        if !self.value_at(differ[0], word) {
             return Err(DiagramFault::TooLarge);
         }
         Ok(Some(number))

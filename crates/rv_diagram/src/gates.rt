@@ -4,11 +4,12 @@ ghost use Rattle.rv_gate.specs.Gate.{FitsIn, holds, same};
 ghost use Rattle.rv_gate.specs.Word.{bit_of};
 ghost use Rattle.rv_gate.specs.declared.gate.Shape.TheVariants.{Flip, Swap, Peres};
 ghost use Rattle.rv_gate.specs.declared.word.TheConstants.{MOST_LINES};
-ghost use Rattle.rv_diagram.specs.Diagram.{HaveRun, IsEdge, Keeps, value, word_at};
+ghost use Rattle.rv_diagram.specs.Diagram.{AreStill, HaveRun, IsEdge, Keeps, value, word_at};
 
 use crate::diagram::Diagram;
 use crate::edge::{DiagramFault, Edge};
 use rv_gate::{Gate, LineSet, MOST_LINES, Shape, has};
+use std::alloc::Global;
 
 impl Diagram {
     /// The function that is a bit of the input word.
@@ -145,15 +146,24 @@ impl Diagram {
         }
     }
 
-    /// What gates make of the functions on lines, one gate after another.
-    pub fn run_gates(&mut self, gates: &[Gate], lines: &mut [Edge]) -> Result<(), DiagramFault>
+    /// What gates make of the functions on lines, one gate after another. The diagram keeps what these and those that are
+    /// kept need, and little besides.
+    pub fn run_gates(
+        &mut self,
+        alloc: Global,
+        gates: &[Gate],
+        lines: &mut [Edge],
+        kept: &mut [Edge],
+    ) -> Result<(), DiagramFault>
         requires fits { All (λ gate. FitsIn gate (length lines.old)) gates.now }
         requires few { length lines.old ≤ MOST_LINES }
         requires lines { All (IsEdge self.old) lines.old }
-        ensures keeps { Keeps self.old self.new }
+        requires kept { All (IsEdge self.old) kept.old }
+        ensures kept { OnOk result (AreStill self.old self.new kept.old kept.new) }
         ensures run { OnOk result (HaveRun self.old self.new lines.old lines.new gates.now) }
     {
         for gate in gates {
+            self.make_room(alloc, lines, kept)?;
             self.act(*gate, lines)?;
         }
         Ok(())

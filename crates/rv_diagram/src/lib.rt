@@ -6,6 +6,7 @@
 #![tactic(auto)]
 
 mod apart;
+mod copies;
 mod diagram;
 mod edge;
 mod gates;
@@ -17,4 +18,5 @@ mod signals;
 pub use apart::blank_lines;
 pub use diagram::{Diagram, MOST_NODES};
 pub use edge::{DiagramFault, Edge};
-pub use order::{Order, order_of};
+pub use order::{Order, network_order, order_of};
+pub use signals::Signals;

@@ -9,10 +9,10 @@ const LINES: usize = MOST_LINES as usize;
 /// How the bits of an input word are put into an order. How large a diagram becomes goes by it, and nothing else.
 #[derive(Clone, Copy, Debug, PartialEq, Eq)]
 pub enum Order {
-    /// As the gates come to their lines.
+    /// As the gates come to their lines, or the nodes to their operands.
     FirstUse,
     /// As a walk from the outputs comes to them, which goes through all that an output depends on before it goes on to
-    /// the next, and through the controls of a gate before its targets.
+    /// the next, and through the controls of a gate before its targets, through the operands of a node as they stand.
     DepthFirst,
     /// As this walk comes to them if it takes the deepest way first.
     DeepestFirst,
@@ -55,6 +55,43 @@ pub fn order_of(
         Order::DepthFirst => walked(alloc, constants, gates, garbage, false),
         Order::DeepestFirst => walked(alloc, constants, gates, garbage, true),
     }
+}
+
+/// An order of the inputs of a network: of each its place.
+pub fn network_order(
+    alloc: Global,
+    how: Order,
+    network: &Signals,
+) -> Result<[u8; MOST_LINES as usize], AllocError> {
+    match how {
+        Order::FirstUse => Ok(first_named(network)),
+        Order::DepthFirst => network_walked(alloc, network, false),
+        Order::DeepestFirst => network_walked(alloc, network, true),
+    }
+}
+
+// The order in which nodes come to their inputs.
+fn first_named(network: &Signals) -> [u8; LINES] {
+    let mut places = Places::new();
+    for operand in network.operands() {
+        if *operand < LINES {
+            places.put(*operand);
+        }
+    }
+    places.order
+}
+
+// The order in which a walk from the outputs comes to the inputs.
+fn network_walked(
+    alloc: Global,
+    network: &Signals,
+    deepest: bool,
+) -> Result<[u8; LINES], AllocError> {
+    let mut stack = network.outputs(alloc)?;
+    if deepest {
+        network.sort_from(&mut stack, 0);
+    }
+    walk(alloc, &[Mark::Input; LINES], network, &mut stack, deepest)
 }
 
 // The order in which gates come to their lines.

@@ -13,7 +13,7 @@ use Rattle.rv_blif.specs.Logic.{Node, Output, any_holds, node_value, operand_wor
 use Rattle.rv_blif.proofs.NodeLaws.{none_step, with_nodes-push}
 use Rattle.rv_diagram.specs.declared.edge.Edge.{Edge}
 use Rattle.rv_diagram.specs.declared.edge.Node.{Node as Branch}
-use Rattle.rv_diagram.specs.Diagram.{IsEdge, IsFirstApart, Keeps, turned_by, value, word_at}
+use Rattle.rv_diagram.specs.Diagram.{AreStill, IsEdge, IsFirstApart, Keeps, turned_by, value, word_at}
 use Rattle.rv_diagram.proofs.Values.{keeps_on, value_turned}
 use Rattle.rv_diagram.proofs.Lines.{edges_on, word_on}
 use Rattle.rv_compare.specs.Compare.{IsAnswer, Size, of_failing}
@@ -124,23 +124,22 @@ inputs_more start now next signals i made h k is at = record {
       ∙ sym (take_more x i false (omega (arith, le)));
 }
 
-pub record AreSignals (start now : List Branch) (inputs : ℕ) (nodes : List Node) (signals : List Edge) (k : ℕ) : Type 0 where
-  pub keeps : Keeps start now
+pub record AreSignals (now : List Branch) (inputs : ℕ) (nodes : List Node) (signals : List Edge) (k : ℕ) : Type 0 where
   pub count : length signals ≡ inputs + k
   pub edges : All (IsEdge now) signals
   pub words : (x : List Bool) → length x ≡ inputs → word_at now signals x ≡ with_nodes (take k nodes) x
 
-pub signals_more : (start now next : List Branch) (inputs : ℕ) (nodes : List Node) (signals : List Edge) (k : ℕ) (d : Node) (made : Edge) → k < length nodes
-    → AreSignals start now inputs nodes signals k → Keeps now next → IsEdge next made
-    → ((x : List Bool) → value next made x ≡ node_value (get_or nodes k d) (word_at now signals x)) → AreSignals start next inputs nodes (signals ++ made ∷ []) (k + 1)
-signals_more start now next inputs nodes signals k d made lt h kept is at = record {
-  keeps = keeps_on start now next h.keeps kept;
-  count = omega (arith, h.count, length-append signals (made ∷ []));
-  edges = All-push (IsEdge next) signals made (edges_on now next signals kept h.edges) is;
+pub signals_more : (now room next : List Branch) (inputs : ℕ) (nodes : List Node) (signals left : List Edge) (k : ℕ) (d : Node) (made : Edge) → k < length nodes
+    → AreSignals now inputs nodes signals k → AreStill now room signals left → Keeps room next → IsEdge next made
+    → ((x : List Bool) → value next made x ≡ node_value (get_or nodes k d) (word_at room left x)) → AreSignals next inputs nodes (left ++ made ∷ []) (k + 1)
+signals_more now room next inputs nodes signals left k d made lt h still kept is at = record {
+  count = omega (arith, h.count, still.count, length-append left (made ∷ []));
+  edges = All-push (IsEdge next) left made (edges_on room next left kept still.edges) is;
   words = λ x len.
       let before : List Bool = with_nodes (take k nodes) x in
       let node : Node = get_or nodes k d in
-      word-push now next signals made x before (node_value node before) kept h.edges (h.words x len) (at x ∙ ap (node_value node) (h.words x len))
+      let same : word_at room left x ≡ before = still.word x ∙ h.words x len in
+      word-push room next left made x before (node_value node before) kept still.edges same (at x ∙ ap (node_value node) same)
       ∙ sym (ap (λ ns. with_nodes ns x) (take_more nodes k d lt) ∙ with_nodes-push (take k nodes) node x);
 }
 

@@ -1,7 +1,7 @@
 use Rattle.std.proofs.Common.{◌∙◌, ap, arith, get_or, length, not}
 use Rattle.rv_blif.specs.Logic.{any_holds}
-use Rattle.rv_diagram.specs.Diagram.{value, word_at}
-use Rattle.rv_compare.proofs.inside.Drawn.{blank, node_is, own_edges, own_word}
+use Rattle.rv_diagram.specs.Diagram.{word_at}
+use Rattle.rv_compare.proofs.inside.Drawn.{blank, node_is, own_word}
 use Rattle.rv_compare.proofs.drawn.node_edge.Goals as goal
 
 pub returns-clause-value : goal.returns-clause-value

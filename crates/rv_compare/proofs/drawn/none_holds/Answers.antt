@@ -1,7 +1,4 @@
-use Rattle.std.proofs.Common.{arith, true, ap, sym, ◌∙◌}
-use Rattle.rv_gate.specs.Gate.{holds}
-use Rattle.rv_diagram.specs.Diagram.{word_at}
-use Rattle.rv_diagram.proofs.Lines.{edges_on}
+use Rattle.std.proofs.Common.{arith, true}
 use Rattle.rv_diagram.proofs.Values.{keeps_self, value_constant}
 use Rattle.rv_compare.proofs.inside.Drawn.{none_more}
 use Rattle.rv_compare.proofs.drawn.none_holds.Goals as goal

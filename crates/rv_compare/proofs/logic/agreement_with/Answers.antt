@@ -1,4 +1,4 @@
-use Rattle.std.proofs.Common.{◌≡◌, ◌∙◌, Bool, List, Decides, arith, subst, sym}
+use Rattle.std.proofs.Common.{◌≡◌, Bool, List, Decides, arith, subst}
 use Rattle.rv_many.specs.Column.{column, row_bit}
 use Rattle.rv_compare.proofs.inside.Rows.{outputs_given}
 use Rattle.rv_compare.proofs.logic.agreement_with.Goals as goal

@@ -1,9 +1,9 @@
-use Rattle.std.proofs.Common.{◌≡◌, ◌∙◌, ℕ, ◌+◌, ◌*◌, ◌<◌, Bool, List, Decides, ap, arith, length, map, subst, sym, take}
+use Rattle.std.proofs.Common.{◌≡◌, ◌∙◌, ℕ, ◌+◌, ◌*◌, ◌<◌, Bool, List, Decides, ap, arith, map, subst, sym, take}
 use Rattle.rv_gate.specs.Word.{bit_of, word_of}
 use Rattle.rv_many.specs.Column.{column, row_bit}
 use Rattle.rv_many.specs.declared.words.TheConstants.{MOST_WORDS}
 use Rattle.rv_blif.specs.Logic.{Output, outputs_of, values}
-use Rattle.rv_compare.specs.Compare.{GivesOutputs, asked, function_of, size_of}
+use Rattle.rv_compare.specs.Compare.{GivesOutputs, asked, size_of}
 use Rattle.rv_compare.proofs.inside.Least.{first_failing-as}
 use Rattle.rv_compare.proofs.logic.LogicOther.first_apart.Goals as goal
 
