@@ -1,5 +1,11 @@
 pub mod Packing
 pub mod Running
+pub mod Contained
+pub mod Keys
+pub mod Swapping
+pub mod Bits
+pub mod Walking
+pub mod Renaming
 pub mod Reaching
 pub mod Meeting
 pub mod Codes
@@ -7,5 +13,6 @@ pub mod Searching
 pub mod After
 pub mod Members
 pub mod Growing
+pub mod Ahead
 pub mod Sides
 pub mod Loops

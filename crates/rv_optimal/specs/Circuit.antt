@@ -9,8 +9,8 @@ use Rattle.rv_optimal.specs.declared.library.Library.TheVariants.{Mixed, Positiv
 
 -- so many gates are looked for at the most
 abbrev pub most_gates : Library → ℕ
-most_gates Positive = 10
-most_gates Mixed = 7
+most_gates Positive = 11
+most_gates Mixed = 8
 
 -- its gates on the lines of the permutation, with its marks, compute the permutation as it stands, and no list of gates
 -- of the library that does is shorter

@@ -38,8 +38,8 @@ fn most_gates(library: Library) -> u8
     ensures few { result ≤ 100 }
 {
     match library {
-        Library::Positive => 10,
-        Library::Mixed => 7,
+        Library::Positive => 11,
+        Library::Mixed => 8,
     }
 }
 

@@ -1,6 +1,7 @@
 //! Shortest circuits for permutations of few lines, and that no circuit is shorter.
 #![tactic(auto)]
 
+mod alike;
 mod circuit;
 mod key;
 mod levels;

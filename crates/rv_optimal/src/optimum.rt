@@ -2,6 +2,7 @@ ghost use Rattle.std.specs.Prelude.{◌≤◌, ◌+◌, length, IfOk, IfSome, If
 ghost use Rattle.rv_optimal.specs.Shortest.{TakesAtLeast, IsShortest};
 ghost use Rattle.rv_optimal.specs.declared.library.TheConstants.{MOST_OPTIMAL_LINES};
 
+use crate::alike::Alike;
 use crate::key::{identity, table_key};
 use crate::library::{Library, moves_of};
 use crate::search::{Depths, meet};
@@ -28,6 +29,7 @@ pub fn shortest(
     let lines = perm.lines();
     let gates = library.gates(alloc, lines)?;
     let moves = moves_of(alloc, &gates, lines)?;
+    let alike = Alike::of(lines, &moves);
     let front = Vec::from_slice(alloc, &[identity(lines)])?;
     let back = Vec::from_slice(alloc, &[table_key(perm)])?;
     let depths = Depths {
@@ -35,7 +37,9 @@ pub fn shortest(
         back: 0,
         left: most,
     };
-    match meet(alloc, perm, library, &gates, &moves, &front, &back, depths)? {
+    match meet(
+        alloc, perm, library, &gates, &moves, alike, &front, &back, depths,
+    )? {
         Some(way) => Ok(Some(way.gates)),
         None => Ok(None),
     }

@@ -4,9 +4,12 @@ ghost use Rattle.std.specs.List.{Contains, flat_map};
 ghost use Rattle.std.specs.List.Sorted.{IsNonDecreasing};
 ghost use Rattle.rv_optimal.specs.Library.{IsIn, AreIn};
 ghost use Rattle.rv_optimal.specs.inside.Packed.{composed, move_of};
-ghost use Rattle.rv_optimal.specs.inside.Levels.{grown_from, after, AreWhole, AreMoves, IsWhole};
+ghost use Rattle.rv_optimal.specs.inside.Alike.{least, Suits};
+ghost use Rattle.rv_optimal.specs.inside.Levels.{grown_from, after, AreLeast, AreMoves, AreWhole, IsWhole};
+ghost use Rattle.rv_optimal.specs.declared.alike.Alike.TheVariants.{Equal};
 ghost use Rattle.rv_optimal.specs.declared.library.TheConstants.{MOST_OPTIMAL_LINES};
 
+use crate::alike::Alike;
 use crate::key::{composed, move_of, word_count};
 use crate::levels::{holds, step_to};
 use crate::library::Library;
@@ -28,21 +31,26 @@ fn gate_down(
     level: &[u64],
     gates: &[Gate],
     moves: &[u64],
+    alike: Alike,
     key: u64,
 ) -> Option<Gate>
     requires few { lines ≤ MOST_OPTIMAL_LINES }
     requires moves { AreMoves library lines gates.now moves.now }
     requires rising { IsNonDecreasing level.now }
     requires whole { AreWhole lines level.now }
-    requires next { Contains (flat_map (grown_from (2 ^ lines) moves.now) level.now) key }
-    ensures there { IsNone result → Contains level.now key }
+    requires least { AreLeast alike level.now }
+    requires suits { Suits alike lines moves.now }
+    requires key { IsWhole lines key }
+    requires next { Contains (flat_map (grown_from alike (2 ^ lines) moves.now) level.now) (least alike key) }
+    ensures there { IsNone result → Contains level.now (least alike key) }
     ensures allowed { IfSome result (λ gate. IsIn library lines gate) }
-    ensures down { IfSome result (λ gate. Contains level.now (composed (2 ^ lines) (move_of lines gate) key)) }
+    ensures down { IfSome result (λ gate.
+        Contains level.now (least alike (composed (2 ^ lines) (move_of lines gate) key))) }
 {
-    if holds(level, key) {
+    if holds(level, alike.least(key)) {
         return None;
     }
-    match step_to(level, moves, word_count(lines), key) {
+    match step_to(level, moves, word_count(lines), alike, key) {
         Some(place) => Some(gates[place]),
         None => unreachable!(),
     }
@@ -55,23 +63,27 @@ pub(crate) fn begin_below(
     level: &[u64],
     gates: &[Gate],
     moves: &[u64],
+    alike: Alike,
     way: Way,
 ) -> Result<Way, AllocError>
     requires few { lines ≤ MOST_OPTIMAL_LINES }
     requires moves { AreMoves library lines gates.now moves.now }
     requires rising { IsNonDecreasing level.now }
     requires whole { AreWhole lines level.now }
-    requires next { Contains (flat_map (grown_from (2 ^ lines) moves.now) level.now) way.from }
+    requires least { AreLeast alike level.now }
+    requires suits { Suits alike lines moves.now }
+    requires next { Contains (flat_map (grown_from alike (2 ^ lines) moves.now) level.now) (least alike way.from) }
     requires key { IsWhole lines way.from }
     requires allowed { AreIn library lines way.gates.items }
-    ensures begins { IfOk result (λ new. Contains level.now new.from) }
+    ensures begins { IfOk result (λ new. Contains level.now (least alike new.from)) }
+    ensures whole { IfOk result (λ new. IsWhole lines new.from) }
     ensures ends { IfOk result (λ new. new.to ≡ way.to) }
     ensures allowed { IfOk result (λ new. AreIn library lines new.gates.items) }
     ensures leads { IfOk result (λ new.
         after lines new.gates.items new.from ≡ after lines way.gates.items way.from) }
     ensures longer { IfOk result (λ new. length new.gates.items ≤ length way.gates.items + 1) }
 {
-    match gate_down(library, lines, level, gates, moves, way.from) {
+    match gate_down(library, lines, level, gates, moves, alike, way.from) {
         Some(gate) => {
             let from = composed(word_count(lines), move_of(lines, gate), way.from);
             let mut new = way.gates;
@@ -99,7 +111,8 @@ pub(crate) fn end_below(
     requires moves { AreMoves library lines gates.now moves.now }
     requires rising { IsNonDecreasing level.now }
     requires whole { AreWhole lines level.now }
-    requires next { Contains (flat_map (grown_from (2 ^ lines) moves.now) level.now) way.to }
+    requires next { Contains (flat_map (grown_from Equal (2 ^ lines) moves.now) level.now) way.to }
+    requires key { IsWhole lines way.to }
     requires allowed { AreIn library lines way.gates.items }
     requires leads { after lines way.gates.items way.from ≡ way.to }
     ensures begins { IfOk result (λ new. new.from ≡ way.from) }
@@ -108,7 +121,7 @@ pub(crate) fn end_below(
     ensures leads { IfOk result (λ new. after lines new.gates.items new.from ≡ new.to) }
     ensures longer { IfOk result (λ new. length new.gates.items ≤ length way.gates.items + 1) }
 {
-    match gate_down(library, lines, level, gates, moves, way.to) {
+    match gate_down(library, lines, level, gates, moves, Alike::Equal, way.to) {
         Some(gate) => {
             let to = composed(word_count(lines), move_of(lines, gate), way.to);
             let mut new = way.gates;

@@ -7,8 +7,10 @@ use Rattle.std.proofs.lemmas.List.Elements.{Contains-append_cases, Contains-appe
 use Rattle.std.proofs.lemmas.List.Kept.{Contains-dedup_nat, Contains-from_dedup}
 use Rattle.std.proofs.lemmas.List.Sorted.{Contains-permutation, IsPermutation-sym}
 use Rattle.rv_optimal.specs.inside.Packed.{composed}
+use Rattle.rv_optimal.specs.inside.Alike.{least}
+use Rattle.rv_optimal.specs.declared.alike.Alike.{Alike}
 use Rattle.rv_optimal.specs.inside.Levels.{grown_from, HaveSame}
-use Rattle.rv_optimal.proofs.inside.Reaching.{Contains-head, Contains-tail}
+use Rattle.rv_optimal.proofs.inside.Contained.{Contains-head, Contains-tail}
 
 pub record IsImage {X Y : Type 0} (f : X → Y) (xs : List X) (y : Y) : Type 0 where
   pub from : X
@@ -38,12 +40,12 @@ joined_of {X} {Y} f (x ∷ xs) y c =
           record { from = r.from; there = Contains-tail x xs r.from r.there; made = r.made }
     ]
 
-pub grown_cases : (count : ℕ) (moves : List ℕ) (key new : ℕ) → Contains (grown_from count moves key) new
-    → (new ≡ key) ⊎ IsImage (λ move. composed count move key) moves new
-grown_cases count moves key new (zero, l, e) = inl (sym e)
-grown_cases count moves key new (suc k, l, e) =
-    let l' : k < length (map (λ move. composed count move key) moves) = omega (arith, l) in
-    inr (image_of (λ move. composed count move key) moves new (k, l', e))
+pub grown_cases : (alike : Alike) (count : ℕ) (moves : List ℕ) (key new : ℕ) → Contains (grown_from alike count moves key) new
+    → (new ≡ key) ⊎ IsImage (λ move. least alike (composed count move key)) moves new
+grown_cases alike count moves key new (zero, l, e) = inl (sym e)
+grown_cases alike count moves key new (suc k, l, e) =
+    let l' : k < length (map (λ move. least alike (composed count move key)) moves) = omega (arith, l) in
+    inr (image_of (λ move. least alike (composed count move key)) moves new (k, l', e))
 
 pub one_of : {X : Type 0} (x y : X) → Contains (x ∷ []) y → y ≡ x
 one_of x y (zero, l, e) = sym e

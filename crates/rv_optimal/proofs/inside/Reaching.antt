@@ -1,16 +1,21 @@
 -- Levels have the keys of all lists of so many gates.
-use Rattle.std.proofs.Common.{◌≡◌, ℕ, zero, suc, ◌+◌, ◌<◌, ◌≤◌, ◌⊎◌, List, [], ◌∷◌, ◌++◌, All, Contains, length, map, get_or, refl, sym, ◌∙◌, ap, subst, inl, inr, arith, flat_map}
+use Rattle.std.proofs.Common.{◌≡◌, ℕ, ◌+◌, ◌^◌, ◌<◌, ◌≤◌, ◌⊎◌, List, [], ◌∷◌, ◌++◌, All, Contains, length, get_or, refl, sym, ◌∙◌, ap, subst, inl, inr, arith}
 use Rattle.std.proofs.lemmas.Bool.{cases_lt}
-use Rattle.std.proofs.lemmas.List.{length-map, get_or-map, get_or_append_left, get_or_at, length_push, nil_from_length}
-use Rattle.std.proofs.lemmas.List.Elements.{All-same, Contains-append_left, Contains-append_right}
+use Rattle.std.proofs.lemmas.List.{get_or_append_left, get_or_at, length_push, nil_from_length}
+use Rattle.std.proofs.lemmas.List.Elements.{All-same}
 use Rattle.rv_gate.specs.Gate.{IsFlipOn}
 use Rattle.rv_gate.specs.declared.gate.Shape.{Shape}
 use Rattle.rv_optimal.specs.Library.{IsIn, AreIn}
 use Rattle.rv_optimal.specs.declared.library.Library.{Library}
 use Rattle.rv_optimal.specs.declared.library.Library.TheVariants.{Positive, Mixed}
 use Rattle.rv_optimal.specs.inside.Packed.{composed, move_of}
-use Rattle.rv_optimal.specs.inside.Levels.{key_after, HasAll, HasMoves, grown_from}
+use Rattle.rv_optimal.specs.inside.Alike.{least, Suits}
+use Rattle.rv_optimal.specs.inside.Levels.{key_after, HasAll, HasMoves, IsWhole, grown_from}
+use Rattle.rv_optimal.specs.declared.alike.Alike.{Alike}
+use Rattle.rv_optimal.proofs.inside.After.{whole_more}
+use Rattle.rv_optimal.proofs.inside.Renaming.{followed, like_least, same_least}
 use Rattle.rv_optimal.proofs.inside.Running.{key_more}
+use Rattle.rv_optimal.proofs.inside.Contained.{Contains-head, Contains-map, Contains-tail}
 
 pub is_flip_on : (library : Library) (n : ℕ) (g : Shape) → IsIn library n g → IsFlipOn n g
 is_flip_on Positive n g h = h.0
@@ -18,27 +23,6 @@ is_flip_on Mixed n g h = h
 
 pub are_flips : (library : Library) (n : ℕ) (gates : List Shape) → AreIn library n gates → All (IsFlipOn n) gates
 are_flips library n gates are = λ k d l. is_flip_on library n (get_or gates k d) (are k d l)
-
--- ---- what a list contains
-
-pub Contains-head : {X : Type 0} (x : X) (xs : List X) → Contains (x ∷ xs) x
-Contains-head x xs = (zero, omega arith, refl)
-
-pub Contains-tail : {X : Type 0} (x : X) (xs : List X) (y : X) → Contains xs y → Contains (x ∷ xs) y
-Contains-tail x xs y c = Contains-append_right (x ∷ []) xs y c
-
-pub Contains-map : {X Y : Type 0} (f : X → Y) (xs : List X) (x : X) → Contains xs x → Contains (map f xs) (f x)
-Contains-map f xs x c =
-    let within : c.0 < length (map f xs) = omega (arith, c.1, length-map xs f) in
-    (c.0, within, get_or-map f xs c.0 x (f x) c.1 ∙ ap f c.2)
-
-pub Contains-flat_map : {X Y : Type 0} (f : X → List Y) (xs : List X) (x : X) (y : Y) → Contains xs x → Contains (f x) y → Contains (flat_map f xs) y
-Contains-flat_map f [] x y c d = absurd (omega (arith, c.1))
-Contains-flat_map f (z ∷ xs) x y (zero, l, e) d =
-    Contains-append_left (f z) (flat_map f xs) y (subst (λ v. Contains (f v) y) (sym e) d)
-Contains-flat_map f (z ∷ xs) x y (suc k, l, e) d =
-    let l' : k < length xs = omega (arith, l) in
-    Contains-append_right (f z) (flat_map f xs) y (Contains-flat_map f xs x y (k, l', e) d)
 
 -- ---- the last gate
 
@@ -66,26 +50,35 @@ last_all P front last a =
 
 -- ---- levels
 
-pub has_none : (library : Library) (n : ℕ) (numbers keys : List ℕ) → Contains keys (key_after n numbers []) → HasAll library n numbers 0 keys
-has_none library n numbers keys c gates are few =
+pub has_none : (library : Library) (n : ℕ) (numbers : List ℕ) (alike : Alike) (keys : List ℕ) → Contains keys (least alike (key_after n numbers [])) → HasAll library n numbers alike 0 keys
+has_none library n numbers alike keys c gates are few =
     let e : gates ≡ [] = nil_from_length gates (omega (arith, few)) in
-    subst (λ g. Contains keys (key_after n numbers g)) (sym e) c
+    subst (λ g. Contains keys (least alike (key_after n numbers g))) (sym e) c
 
-pub has_more : (library : Library) (n : ℕ) (numbers moves keys next : List ℕ) (k : ℕ) → n ≤ 4 → HasMoves library n moves
-    → ((key new : ℕ) → Contains keys key → Contains (grown_from (length numbers) moves key) new → Contains next new) → HasAll library n numbers k keys → HasAll library n numbers (k + 1) next
-has_more library n numbers moves keys next k few has grown all gates are most =
+pub has_more : (library : Library) (n : ℕ) (numbers : List ℕ) (alike : Alike) (moves keys next : List ℕ) (k : ℕ) → n ≤ 4 → length numbers ≡ 2 ^ n → HasMoves library n moves → Suits alike n moves
+    → ((key new : ℕ) → Contains keys key → Contains (grown_from alike (2 ^ n) moves key) new → Contains next new) → HasAll library n numbers alike k keys → HasAll library n numbers alike (k + 1) next
+has_more library n numbers alike moves keys next k few count has suits grown all gates are most =
     elim (split k (length gates) most) [
-      | inl less ↦ grown (key_after n numbers gates) (key_after n numbers gates) (all gates are less) (Contains-head _ _)
+      | inl less ↦ (let key : ℕ = least alike (key_after n numbers gates) in grown key key (all gates are less) (Contains-head _ _))
       | inr more ↦
           let e = ends gates more.0 in
           let both : AreIn library n (e.front ++ e.last ∷ []) = All-same (IsIn library n) _ gates (sym e.is) are in
           let short : length e.front ≤ k = omega (arith, more.1, ap length e.is, length_push e.front e.last) in
           let key : ℕ = key_after n numbers e.front in
-          let old : Contains keys key = all e.front (front_all (IsIn library n) e.front e.last both) short in
-          let moved : Contains moves (move_of n e.last) = has e.last (last_all (IsIn library n) e.front e.last both) in
-          let new : Contains (grown_from (length numbers) moves key) (composed (length numbers) (move_of n e.last) key) =
-          Contains-tail key _ _ (Contains-map (λ move. composed (length numbers) move key) moves (move_of n e.last) moved) in
-          subst (Contains next) (sym (key_more n numbers e.front e.last few) ∙ ap (key_after n numbers) (sym e.is)) (grown key _ old new)
+          let step : ℕ = move_of n e.last in
+          let from : ℕ = least alike key in
+          let old : Contains keys from = all e.front (front_all (IsIn library n) e.front e.last both) short in
+          let moved : Contains moves step = has e.last (last_all (IsIn library n) e.front e.last both) in
+          let whole : IsWhole n key = record { numbers = numbers; gates = e.front; all = count; is = refl } in
+          let f = followed alike n moves step key from suits moved (like_least alike key) in
+          let new : ℕ = composed (2 ^ n) step key in
+          let new_is : new ≡ key_after n numbers gates =
+          ap (λ c. composed c step key) (sym count) ∙ sym (key_more n numbers e.front e.last few) ∙ ap (key_after n numbers) (sym e.is) in
+          let same : least alike (composed (2 ^ n) f.step from) ≡ least alike new =
+          same_least alike n moves new (composed (2 ^ n) f.step from) suits (whole_more n key e.last few whole) f.like in
+          let there : Contains (grown_from alike (2 ^ n) moves from) (least alike (composed (2 ^ n) f.step from)) =
+          Contains-tail from _ _ (Contains-map (λ move. least alike (composed (2 ^ n) move from)) moves f.step f.there) in
+          subst (Contains next) (same ∙ ap (least alike) new_is) (grown from _ old there)
     ]
   where
     split : (k m : ℕ) → m ≤ k + 1 → (m ≤ k) ⊎ ((0 < m) × (m ≤ k + 1))

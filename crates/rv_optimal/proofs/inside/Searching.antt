@@ -6,7 +6,9 @@ use Rattle.std.proofs.lemmas.Bool.{cases_lt, false≢true}
 use Rattle.std.proofs.lemmas.List.{get_or_default}
 use Rattle.std.proofs.lemmas.List.Kept.{AllPairs-from_increasing}
 use Rattle.std.proofs.lemmas.List.Sorted.{searched}
+use Rattle.rv_optimal.specs.inside.Alike.{least}
 use Rattle.rv_optimal.specs.inside.Levels.{AreApart}
+use Rattle.rv_optimal.specs.declared.alike.Alike.{Alike}
 
 pub not_there : (keys : List ℕ) (key : ℕ) (r : Result ℕ ℕ) → IsNonDecreasing keys → IsBinarySearchResult (λ y. nat_cmp y key) keys r → is_ok r ≡ false → Contains keys key → ⊥
 not_there keys key (Ok i) rising position e c = absurd (false≢true (sym e))
@@ -26,11 +28,11 @@ rising_from_strict keys up = λ i j d le lt.
       | inr more ↦ (let e : i ≡ j = omega (arith, le, more) in let f : get_or keys i d ≡ get_or keys j d = ap (λ k. get_or keys k d) e in omega (arith, f))
     ]
 
-pub apart_by_search : (a b : List ℕ) (n : ℕ) → length b ≤ n → ((k : ℕ) → k < n → Contains a (get_or b k 0) → ⊥) → AreApart a b
-apart_by_search a b n all none key in_a in_b =
+pub apart_by_search : (alike : Alike) (a b : List ℕ) (n : ℕ) → length b ≤ n → ((k : ℕ) → k < n → Contains a (least alike (get_or b k 0)) → ⊥) → AreApart alike a b
+apart_by_search alike a b n all none key in_a in_b =
     let k : ℕ = in_b.0 in
     let is : get_or b k 0 ≡ key = get_or_default b k 0 key in_b.1 ∙ in_b.2 in
-    none k (omega (arith, in_b.1, all)) (subst (Contains a) (sym is) in_a)
+    none k (omega (arith, in_b.1, all)) (subst (λ x. Contains a (least alike x)) (sym is) in_a)
 
 -- what holds of all moves holds of each
 pub none_leads : (level moves : List ℕ) (f : ℕ → ℕ) (n : ℕ) → length moves ≤ n → ((k : ℕ) → k < n → Contains level (f (get_or moves k 0)) → ⊥) → (step : ℕ) → Contains moves step → Contains level (f step) → ⊥

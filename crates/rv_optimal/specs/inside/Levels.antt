@@ -6,8 +6,10 @@ use Rattle.rv_gate.specs.Gate.{run_on_number}
 use Rattle.rv_gate.specs.declared.gate.Shape.{Shape}
 use Rattle.rv_gate.specs.declared.gate.Shape.TheVariants.{Flip, Swap, Peres}
 use Rattle.rv_optimal.specs.inside.Packed.{packed, composed, move_of}
+use Rattle.rv_optimal.specs.inside.Alike.{least}
 use Rattle.rv_optimal.specs.Library.{AreIn, IsIn}
 use Rattle.rv_optimal.specs.declared.library.Library.{Library}
+use Rattle.rv_optimal.specs.declared.alike.Alike.{Alike}
 
 -- what gates make of some numbers, packed
 abbrev pub key_after : ℕ → List ℕ → List Shape → ℕ
@@ -28,28 +30,34 @@ pub record IsWhole (n key : ℕ) : Type 0 where
 abbrev pub AreWhole : ℕ → List ℕ → Type 0
 AreWhole n keys = (key : ℕ) → Contains keys key → IsWhole n key
 
--- the keys of all lists of at most k gates are there
-abbrev pub HasAll : Library → ℕ → List ℕ → ℕ → List ℕ → Type 0
-HasAll library n numbers k keys =
-    (gates : List Shape) → AreIn library n gates → length gates ≤ k → Contains keys (key_after n numbers gates)
+-- for each list of at most k gates, the least key that is like its own is there
+abbrev pub HasAll : Library → ℕ → List ℕ → Alike → ℕ → List ℕ → Type 0
+HasAll library n numbers alike k keys =
+    (gates : List Shape) → AreIn library n gates → length gates ≤ k
+    → Contains keys (least alike (key_after n numbers gates))
 
--- the keys that at most k gates make of some numbers, in rising order
-pub record IsLevel (library : Library) (n : ℕ) (numbers : List ℕ) (k : ℕ) (keys : List ℕ) : Type 0 where
-  pub has : HasAll library n numbers k keys
+-- each key is the least of those that are like it
+abbrev pub AreLeast : Alike → List ℕ → Type 0
+AreLeast alike keys = (key : ℕ) → Contains keys key → least alike key ≡ key
+
+-- the keys that at most k gates make of some numbers, the least one for those that are alike, in rising order
+pub record IsLevel (library : Library) (n : ℕ) (numbers : List ℕ) (alike : Alike) (k : ℕ) (keys : List ℕ) : Type 0 where
+  pub has : HasAll library n numbers alike k keys
   pub whole : AreWhole n keys
+  pub least_ones : AreLeast alike keys
   pub rising : IsNonDecreasing keys
 
--- no key is in both
-abbrev pub AreApart : List ℕ → List ℕ → Type 0
-AreApart a b = (key : ℕ) → Contains a key → Contains b key → ⊥
+-- the least key that is like one of the second ones is never among the first ones
+abbrev pub AreApart : Alike → List ℕ → List ℕ → Type 0
+AreApart alike a b = (key : ℕ) → Contains a (least alike key) → Contains b key → ⊥
 
 -- the same numbers are in both
 abbrev pub HaveSame : List ℕ → List ℕ → Type 0
 HaveSame a b = (key : ℕ) → Contains a key ↔ Contains b key
 
--- a key, and what one gate more makes of it
-abbrev pub grown_from : ℕ → List ℕ → ℕ → List ℕ
-grown_from count moves key = key ∷ map (λ move. composed count move key) moves
+-- a key, and what one gate more makes of it, the least one for those that are alike
+abbrev pub grown_from : Alike → ℕ → List ℕ → ℕ → List ℕ
+grown_from alike count moves key = key ∷ map (λ move. least alike (composed count move key)) moves
 
 -- the moves of all gates of a library are there
 abbrev pub HasMoves : Library → ℕ → List ℕ → Type 0

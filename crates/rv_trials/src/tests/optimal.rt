@@ -66,7 +66,7 @@ fn controls_of_both_kinds_take_fewer_gates(rt: HostRuntime) {
 #[test]
 fn more_gates_than_are_looked_for_are_told(rt: HostRuntime) {
     const CASES: [(&str, &str, u8, &str); 2] = [
-        ("optimal", LONG, 5, "-: more than 10 gates"),
+        ("optimal", LONG, 5, "-: more than 11 gates"),
         (
             "optimal --gates mct",
             "0 1 2 3 4 5 6 7 8 9 10 11 12 13 14 15 16 17 18 19 20 21 22 23 24 25 26 27 28 29 30 31",
