@@ -1,0 +1,316 @@
+// Ends a state whatever it costs: one output after another, by products that are added to one direction.
+use crate::cells::{at, bit, has, is_odd, number_of, put_at, size_of, top_place, widened, without};
+use crate::cover::{Wanted, cover, price_of};
+use crate::random::Random;
+use crate::step::{MOST_FORMS, Step};
+use crate::task::Task;
+use std::alloc::{AllocError, Global};
+
+// So many steps are made at the end, about.
+const MOST_STEPS: usize = 400;
+
+// So many directions are tried for an output.
+const MOST_WAYS: usize = 8;
+
+// Where a search is: the words over so many coordinates.
+#[derive(Drop)]
+pub(crate) struct State {
+    pub(crate) words: Vec<u32>,
+    pub(crate) dimension: usize,
+}
+
+// A form to which an output comes nearest, and at how many words it is as that says, less the others.
+#[derive(Clone, Copy)]
+struct Nearest {
+    output: usize,
+    form: u32,
+    size: u64,
+}
+
+// Steps for an output, and their price.
+#[derive(Drop)]
+struct Ending {
+    price: i64,
+    steps: Vec<Step>,
+}
+
+fn wanted_of(
+    alloc: Global,
+    task: &Task,
+    state: &State,
+    output: usize,
+) -> Result<Wanted, AllocError> {
+    let mut signs = Vec::new(alloc);
+    for k in 0..state.words.len() {
+        signs.push(task.sign(k, output))?;
+    }
+    Ok(Wanted {
+        words: Vec::from_slice(alloc, &state.words)?,
+        signs,
+        dimension: state.dimension,
+    })
+}
+
+fn nearest_form(
+    alloc: Global,
+    task: &Task,
+    state: &State,
+    output: usize,
+) -> Result<Nearest, AllocError> {
+    let spectrum = wanted_of(alloc, task, state, output)?.spectrum(alloc)?;
+    let mut best = Nearest {
+        output,
+        form: 0,
+        size: 0,
+    };
+    for form in 0..spectrum.len() {
+        let size = at(&spectrum, form, 0).unsigned_abs();
+        if size > best.size {
+            best = Nearest {
+                output,
+                form: number_of(form),
+                size,
+            };
+        }
+    }
+    Ok(best)
+}
+
+// The directions in which two words lie apart that are to have the same bit, or that change a solved output.
+fn barred(
+    alloc: Global,
+    state: &State,
+    wanted: &Wanted,
+    solved: &[u32],
+) -> Result<Vec<bool>, AllocError> {
+    let mut barred = vec![in alloc; false; size_of(state.dimension)]?;
+    put_at(&mut barred, 0, true);
+    for lambda in 1..barred.len() {
+        let direction = number_of(lambda);
+        if solved.iter().any(|form| is_odd(*form & direction)) {
+            put_at(&mut barred, lambda, true);
+        }
+    }
+    for k in 0..state.words.len() {
+        let sign = wanted.sign(k);
+        for j in 0..k {
+            if sign != 0 && sign == wanted.sign(j) {
+                let lambda = wanted.word(k) ^ wanted.word(j);
+                put_at(&mut barred, lambda as usize, true);
+            }
+        }
+    }
+    Ok(barred)
+}
+
+// What is wanted of the words without a coordinate of a direction: nothing where two of them say other things.
+fn folded(alloc: Global, wanted: &Wanted, lambda: u32) -> Result<Option<Wanted>, AllocError> {
+    let place = top_place(lambda);
+    let mut seen = vec![in alloc; 0i64; size_of(wanted.dimension)]?;
+    let mut words = Vec::new(alloc);
+    let mut signs = Vec::new(alloc);
+    for k in 0..wanted.words.len() {
+        let word = wanted.word(k);
+        let is_on = has(word, place);
+        let low = without(if is_on { word ^ lambda } else { word }, place);
+        let sign = if is_on {
+            wanted.sign(k).wrapping_neg()
+        } else {
+            wanted.sign(k)
+        };
+        let there = at(&seen, low as usize, 0);
+        if sign != 0 && there == sign.wrapping_neg() {
+            return Ok(None);
+        }
+        if sign != 0 {
+            put_at(&mut seen, low as usize, sign);
+        }
+        words.push(low)?;
+        signs.push(sign)?;
+    }
+    Ok(Some(Wanted {
+        words,
+        signs,
+        dimension: wanted.dimension.saturating_sub(1),
+    }))
+}
+
+// A product over the coordinates without one, as one over all, that a direction doesn't change.
+fn unfolded(product: &Step, lambda: u32) -> Step {
+    let place = top_place(lambda);
+    let mut step = Step { lambda, ..*product };
+    for i in 0..product.count.min(MOST_FORMS) {
+        let wide = widened(product.form(i), place);
+        let form = if is_odd(wide & lambda) {
+            wide | bit(place)
+        } else {
+            wide
+        };
+        put_at(&mut step.forms, i, form);
+    }
+    step
+}
+
+// Steps that add what an output lacks to a direction.
+fn in_place(
+    alloc: Global,
+    wanted: &Wanted,
+    lambda: u32,
+    random: &mut Random,
+) -> Result<Option<Ending>, AllocError> {
+    let Some(mut low) = folded(alloc, wanted, lambda)? else {
+        return Ok(None);
+    };
+    let Some(products) = cover(alloc, &mut low, random)? else {
+        return Ok(None);
+    };
+    let mut steps = Vec::new(alloc);
+    for product in &products {
+        steps.push(unfolded(product, lambda))?;
+    }
+    let price = price_of(&products);
+    Ok(Some(Ending { price, steps }))
+}
+
+// Steps that make an output on a new coordinate.
+fn beside(
+    alloc: Global,
+    wanted: &mut Wanted,
+    random: &mut Random,
+) -> Result<Option<Ending>, AllocError> {
+    let place = wanted.dimension;
+    let Some(products) = cover(alloc, wanted, random)? else {
+        return Ok(None);
+    };
+    let mut steps = Vec::new(alloc);
+    for product in &products {
+        let lambda = if steps.is_empty() { 0 } else { bit(place) };
+        steps.push(Step { lambda, ..*product })?;
+    }
+    let price = price_of(&products);
+    Ok(Some(Ending { price, steps }))
+}
+
+fn cheaper(one: Option<Ending>, other: Option<Ending>) -> Option<Ending> {
+    match one {
+        None => other,
+        Some(one) => match other {
+            None => Some(one),
+            Some(other) => {
+                if other.price < one.price {
+                    Some(other)
+                } else {
+                    Some(one)
+                }
+            }
+        },
+    }
+}
+
+// The cheapest steps for an output.
+fn ending_of(
+    alloc: Global,
+    task: &Task,
+    state: &State,
+    output: usize,
+    solved: &[u32],
+    most_dimension: usize,
+    random: &mut Random,
+) -> Result<Option<Ending>, AllocError> {
+    let mut wanted = wanted_of(alloc, task, state, output)?;
+    let barred = barred(alloc, state, &wanted, solved)?;
+    let mut best = None;
+    let mut tried = 0usize;
+    for lambda in 1..barred.len() {
+        if tried < MOST_WAYS && !at(&barred, lambda, true) {
+            tried = tried.wrapping_add(1);
+            let found = in_place(alloc, &wanted, number_of(lambda), random)?;
+            best = cheaper(best, found);
+        }
+    }
+    if state.dimension < most_dimension {
+        let found = beside(alloc, &mut wanted, random)?;
+        best = cheaper(best, found);
+    }
+    Ok(best)
+}
+
+// The outputs that are no forms, the nearest first, and the forms of the others.
+fn open_outputs(
+    alloc: Global,
+    task: &Task,
+    state: &State,
+    solved: &mut Vec<u32>,
+) -> Result<Vec<Nearest>, AllocError> {
+    let mut open = Vec::new(alloc);
+    for output in 0..task.outputs {
+        let nearest = nearest_form(alloc, task, state, output)?;
+        if nearest.size >= task.count(output).unsigned_abs() {
+            solved.push(nearest.form)?;
+        } else {
+            open.push(nearest)?;
+        }
+    }
+    open.sort_by_key(|nearest| u64::MAX - nearest.size)?;
+    Ok(open)
+}
+
+// Steps for the first output that can be ended.
+fn next_ending(
+    alloc: Global,
+    task: &Task,
+    state: &State,
+    open: &[Nearest],
+    solved: &[u32],
+    most_dimension: usize,
+    random: &mut Random,
+) -> Result<Option<Ending>, AllocError> {
+    for nearest in open {
+        let found = ending_of(
+            alloc,
+            task,
+            state,
+            nearest.output,
+            solved,
+            most_dimension,
+            random,
+        )?;
+        if found.is_some() {
+            return Ok(found);
+        }
+    }
+    Ok(None)
+}
+
+/// Steps after which all outputs are forms, if they are found.
+pub(crate) fn finish(
+    alloc: Global,
+    task: &Task,
+    state: State,
+    most_dimension: usize,
+    random: &mut Random,
+) -> Result<Option<Vec<Step>>, AllocError> {
+    let mut state = state;
+    let mut steps = Vec::new(alloc);
+    for _ in 0..task.outputs.saturating_add(1) {
+        let mut solved = Vec::new(alloc);
+        let open = open_outputs(alloc, task, &state, &mut solved)?;
+        if open.is_empty() {
+            return Ok(Some(steps));
+        }
+        let found = next_ending(alloc, task, &state, &open, &solved, most_dimension, random)?;
+        let Some(ending) = found else {
+            return Ok(None);
+        };
+        for step in &ending.steps {
+            let words = step.apply(alloc, &state.words, state.dimension)?;
+            let dimension = step.dimension(state.dimension);
+            state = State { words, dimension };
+            steps.push(*step)?;
+        }
+        if steps.len() > MOST_STEPS {
+            return Ok(None);
+        }
+    }
+    Ok(None)
+}
