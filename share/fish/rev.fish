@@ -1,10 +1,11 @@
 # fish completion for rev: copy this file to ~/.config/fish/completions/
 # >>> fish
-set -l commands embed esop compute synth single optimal templates resynth decompose route compare simulate draw map fold reduce check toreal cost flow demo
+set -l commands embed esop compute realize synth single optimal templates resynth decompose route compare simulate draw map fold reduce check toreal cost flow demo
 complete -c rev -n "not __fish_seen_subcommand_from $commands" -f
 complete -c rev -n "not __fish_seen_subcommand_from $commands" -a embed -d 'a permutation that gives a function, on few lines'
 complete -c rev -n "not __fish_seen_subcommand_from $commands" -a esop -d 'a cascade that adds a function, or its sum of products'
 complete -c rev -n "not __fish_seen_subcommand_from $commands" -a compute -d 'a circuit for a logic network, found by a search'
+complete -c rev -n "not __fish_seen_subcommand_from $commands" -a realize -d 'a circuit for a function or a permutation, found by a search'
 complete -c rev -n "not __fish_seen_subcommand_from $commands" -a synth -d 'a circuit that computes a permutation'
 complete -c rev -n "not __fish_seen_subcommand_from $commands" -a single -d 'a circuit of single-target gates that computes a permutation'
 complete -c rev -n "not __fish_seen_subcommand_from $commands" -a optimal -d 'a circuit with the fewest gates, for a permutation of up to four lines'
@@ -24,7 +25,7 @@ complete -c rev -n "not __fish_seen_subcommand_from $commands" -a cost -d 'what 
 complete -c rev -n "not __fish_seen_subcommand_from $commands" -a flow -d 'the network of a function or a permutation, by all steps in one'
 complete -c rev -n "not __fish_seen_subcommand_from $commands" -a demo -d 'what each step makes of a generated permutation'
 complete -c rev -n '__fish_seen_subcommand_from cost draw' -l from -x -a 'real qasm' -d 'the form that is read'
-complete -c rev -n '__fish_seen_subcommand_from flow' -l from -x -a 'pla perm' -d 'the form that is read'
+complete -c rev -n '__fish_seen_subcommand_from realize flow' -l from -x -a 'pla perm' -d 'the form that is read'
 complete -c rev -n '__fish_seen_subcommand_from compare' -l from -x -a 'real pla perm blif' -d 'the form of the second input'
 complete -c rev -n '__fish_seen_subcommand_from esop' -l to -x -a 'real pla' -d 'the form that is written'
 complete -c rev -n '__fish_seen_subcommand_from synth' -l method -x -a 'best out both' -d 'how the gates are found'
@@ -37,16 +38,19 @@ complete -c rev -n '__fish_seen_subcommand_from decompose map flow' -l aux -x -a
 complete -c rev -n '__fish_seen_subcommand_from simulate compare' -l all -d 'all lines are inputs and outputs, whatever their marks'
 complete -c rev -n '__fish_seen_subcommand_from draw' -l as -x -a 'text svg latex' -d 'the form of the drawing'
 complete -c rev -n '__fish_seen_subcommand_from draw' -l wrap -x -d 'how many gates a block of the drawing has, 1 to 65535, or 0 for one block of all'
-complete -c rev -n '__fish_seen_subcommand_from compute' -l lines -x -d 'how many lines the circuit may have, 1 to 64'
+complete -c rev -n '__fish_seen_subcommand_from compute realize' -l lines -x -d 'how many lines the circuit may have, 1 to 64'
 complete -c rev -n '__fish_seen_subcommand_from demo' -l lines -x -d 'how many lines the permutation has, 1 to 8'
 complete -c rev -n '__fish_seen_subcommand_from esop' -l goal -x -a 'cubes gates quantum t' -d 'what a search is to make small; without it there is no search'
+complete -c rev -n '__fish_seen_subcommand_from compute' -l goal -x -a 'lines t quantum gates' -d 'what the search is to make small'
+complete -c rev -n '__fish_seen_subcommand_from realize' -l goal -x -a 't cx quantum gates lines' -d 'what the search is to make small'
 complete -c rev -n '__fish_seen_subcommand_from resynth' -l goal -x -a 'quantum t gates' -d 'what the search is to make small'
 complete -c rev -n '__fish_seen_subcommand_from esop' -l effort -x -d 'how long the search goes on, 0 to 1000; needs --goal'
+complete -c rev -n '__fish_seen_subcommand_from compute realize' -l effort -x -d 'how long the search goes on, 0 to 1000'
 complete -c rev -n '__fish_seen_subcommand_from resynth' -l effort -x -d 'how long the search goes on, 0 to 1000'
 complete -c rev -n '__fish_seen_subcommand_from resynth' -l marks -d 'only the function by the marks of the circuit is kept'
 complete -c rev -n '__fish_seen_subcommand_from demo' -l seed -x -d 'the seed of the permutation, 0 to 65535'
 complete -c rev -n '__fish_seen_subcommand_from esop' -l seed -x -d 'other random numbers for the search, 0 to 65535; needs --goal'
-complete -c rev -n '__fish_seen_subcommand_from resynth' -l seed -x -d 'other random numbers for the search, 0 to 65535'
+complete -c rev -n '__fish_seen_subcommand_from compute realize resynth' -l seed -x -d 'other random numbers for the search, 0 to 65535'
 complete -c rev -n '__fish_seen_subcommand_from demo' -f
 # <<<
 complete -c rev -n "not __fish_seen_subcommand_from $commands" -a help -d 'what the commands take and write'

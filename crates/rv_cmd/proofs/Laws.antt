@@ -11,6 +11,7 @@ pub mod Flow
 pub mod Fold
 pub mod Map
 pub mod Optimal
+pub mod Realize
 pub mod Reduce
 pub mod Resynth
 pub mod Route

@@ -12,6 +12,7 @@ pub mod Flow
 pub mod Fold
 pub mod Map
 pub mod Optimal
+pub mod Realize
 pub mod Reduce
 pub mod Resynth
 pub mod Route
@@ -37,6 +38,7 @@ use Rattle.rv_cmd.specs.Commands.Flow.{flow_row, flow_synthesis}
 use Rattle.rv_cmd.specs.Commands.Fold.{fold_row}
 use Rattle.rv_cmd.specs.Commands.Map.{map_row}
 use Rattle.rv_cmd.specs.Commands.Optimal.{optimal_row}
+use Rattle.rv_cmd.specs.Commands.Realize.{realize_row}
 use Rattle.rv_cmd.specs.Commands.Reduce.{reduce_row}
 use Rattle.rv_cmd.specs.Commands.Resynth.{resynth_goal, resynth_row}
 use Rattle.rv_cmd.specs.Commands.Route.{route_row}
@@ -69,6 +71,7 @@ row_for command.Compare s = reads_first (compare_row s.origin s.all)
 row_for command.Resynth s = reads_first (resynth_row (resynth_goal s.goal) s.marks)
 row_for command.Compute s = reads_first (compute_row s.lines)
 row_for command.Optimal s = reads_first (optimal_row s.gates)
+row_for command.Realize s = reads_first (realize_row s.origin s.lines)
 
 abbrev pub row_of : Settings → Row
 row_of settings = row_for settings.command settings

@@ -18,6 +18,7 @@ pub(crate) mod flow;
 pub(crate) mod fold;
 pub(crate) mod map;
 pub(crate) mod optimal;
+pub(crate) mod realize;
 pub(crate) mod reduce;
 pub(crate) mod resynth;
 pub(crate) mod route;
@@ -70,5 +71,6 @@ pub(crate) fn make<F: Files>(
         Command::Resynth => resynth::resynth(alloc, settings, files),
         Command::Compute => compute::compute(alloc, settings, files),
         Command::Optimal => optimal::optimal(alloc, settings, files),
+        Command::Realize => realize::realize(alloc, settings, files),
     }
 }

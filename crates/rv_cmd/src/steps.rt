@@ -15,6 +15,8 @@ use rv_gate::{Circuit, MOST_LINES};
 use rv_mct::{Aux, MctFault, decompose};
 use rv_perm::{MOST_PERM_LINES, PermSpec};
 use rv_pla::Pla;
+use rv_price::Goal;
+use rv_words::Goal as Wish;
 use std::alloc::Global;
 
 /// A circuit of NOT, CNOT and Toffoli gates that does what a circuit does.
@@ -42,5 +44,16 @@ pub(crate) fn embedding(alloc: Global, pla: &Pla) -> Result<PermSpec, Refusal>
         Ok(embedded) => Ok(embedded.spec),
         Err(EmbedFault::TooManyLines(count)) => Err(too_many_lines(count, MOST_PERM_LINES)),
         Err(EmbedFault::Mem) => Err(Refusal::OutOfMemory),
+    }
+}
+
+/// What a search is to make small.
+pub(crate) fn search_goal(wish: Option<Wish>) -> Goal {
+    match wish {
+        Some(Wish::Lines) => Goal::Lines,
+        Some(Wish::Cx) => Goal::Cx,
+        Some(Wish::Quantum) => Goal::Quantum,
+        Some(Wish::Gates) => Goal::Gates,
+        _ => Goal::T,
     }
 }

@@ -160,6 +160,7 @@ mod limits;
 mod made;
 mod one_pass;
 mod optimal;
+mod realize;
 mod reduce;
 mod route;
 mod searches;

@@ -152,6 +152,14 @@ unknown_picture : settings_of (codes "draw" ∷ codes "--as" ∷ codes "pdf" ∷
 unfolding settings_of read read_by values_in refusal value_of line clap_on_literals
 unknown_picture = refl
 
+cubes_of_networks : settings_of (codes "compute" ∷ codes "--goal" ∷ codes "cubes" ∷ []) ≡ Err (BadValue GOAL)
+unfolding settings_of read read_by values_in refusal value_of line clap_on_literals
+cubes_of_networks = refl
+
+networks_for_realize : settings_of (codes "realize" ∷ codes "--from" ∷ codes "blif" ∷ []) ≡ Err (BadValue FROM)
+unfolding settings_of read read_by values_in refusal value_of line clap_on_literals
+networks_for_realize = refl
+
 unknown_gates : settings_of (codes "optimal" ∷ codes "--gates" ∷ codes "ncv" ∷ []) ≡ Err (BadValue GATES)
 unfolding settings_of read read_by values_in refusal value_of line clap_on_literals
 unknown_gates = refl

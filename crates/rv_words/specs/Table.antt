@@ -3,7 +3,7 @@ use Rattle.std.specs.Prelude.{ℕ, Bool, false, List, [], ◌∷◌, ◌==◌, �
 use Rattle.std.specs.List.{list_any}
 use Rattle.std.specs.Str.{bytes_eq}
 use Rattle.rv_words.specs.declared.command.Command.{Command}
-use Rattle.rv_words.specs.declared.command.Command.TheVariants.{Synth, Embed, Esop, Templates, Decompose, Map, Cost, Simulate, ToReal, Flow, Demo, Fold, Reduce, Check, Single, Route, Draw, Compare, Resynth, Compute, Optimal}
+use Rattle.rv_words.specs.declared.command.Command.TheVariants.{Synth, Embed, Esop, Templates, Decompose, Map, Cost, Simulate, ToReal, Flow, Demo, Fold, Reduce, Check, Single, Route, Draw, Compare, Resynth, Compute, Optimal, Realize}
 use Rattle.rv_words.specs.declared.options.TheConstants.{METHOD, TO, FROM, LIBRARY, AUX, LINES, SEED, ALL, SIMPLIFY, WRAP, GOAL, EFFORT, MARKS, BLOCKS, AS, GATES}
 
 -- a command's name, how many inputs it takes at the least and at the most, and the places of the options that it uses
@@ -36,14 +36,15 @@ usage_of Route = row (codes "route") 0 1 []
 usage_of Draw = row (codes "draw") 0 1 (FROM ∷ WRAP ∷ AS ∷ [])
 usage_of Compare = row (codes "compare") 1 2 (FROM ∷ ALL ∷ [])
 usage_of Resynth = row (codes "resynth") 0 1 (GOAL ∷ EFFORT ∷ SEED ∷ MARKS ∷ [])
-usage_of Compute = row (codes "compute") 0 1 (LINES ∷ [])
+usage_of Compute = row (codes "compute") 0 1 (LINES ∷ GOAL ∷ EFFORT ∷ SEED ∷ [])
 usage_of Optimal = row (codes "optimal") 0 1 (GATES ∷ [])
+usage_of Realize = row (codes "realize") 0 1 (FROM ∷ LINES ∷ GOAL ∷ EFFORT ∷ SEED ∷ [])
 
 abbrev pub commands : List Command
 commands =
     Synth ∷ Embed ∷ Esop ∷ Templates ∷ Decompose ∷ Map ∷ Cost ∷ Simulate ∷ ToReal ∷ Flow ∷ Demo ∷ Fold ∷ Reduce ∷ Check
     ∷ Single ∷ Route ∷ Draw
-    ∷ Compare ∷ Resynth ∷ Compute ∷ Optimal ∷ []
+    ∷ Compare ∷ Resynth ∷ Compute ∷ Optimal ∷ Realize ∷ []
 
 -- the command of this name
 abbrev pub command_of : List ℕ → Option Command

@@ -12,13 +12,13 @@ use Rattle.rv_mct.specs.declared.aux.Aux.TheVariants.{Borrowed, Clean}
 use Rattle.rv_optimal.specs.declared.library.Library.{Library}
 use Rattle.rv_optimal.specs.declared.library.Library.TheVariants.{Mixed, Positive}
 use Rattle.rv_words.specs.declared.command.Command.{Command}
-use Rattle.rv_words.specs.declared.command.Command.TheVariants.{Compare, Compute, Esop, Flow, Resynth}
+use Rattle.rv_words.specs.declared.command.Command.TheVariants.{Compare, Compute, Demo, Flow, Realize, Resynth}
 use Rattle.rv_words.specs.declared.command.Blocks.{Blocks}
 use Rattle.rv_words.specs.declared.command.Blocks.TheVariants.{Exact, Relative, Toffoli, Near}
 use Rattle.rv_words.specs.declared.command.Synthesis.{Synthesis}
 use Rattle.rv_words.specs.declared.command.Synthesis.TheVariants.{Rows, SingleTargets}
 use Rattle.rv_words.specs.declared.command.Goal.{Goal}
-use Rattle.rv_words.specs.declared.command.Goal.TheVariants.{Cubes, Gates, Quantum, T}
+use Rattle.rv_words.specs.declared.command.Goal.TheVariants.{Cubes, Cx, Gates, Lines, Quantum, T}
 use Rattle.rv_words.specs.declared.command.PictureForm.{PictureForm}
 use Rattle.rv_words.specs.declared.command.PictureForm.TheVariants.{Text, Svg, Latex}
 use Rattle.rv_words.specs.declared.command.Form.{Form}
@@ -45,13 +45,18 @@ form_to value =
     else (if bytes_eq value (codes "pla") then Some Pla
     else None)
 
--- `flow` reads a truth table or a permutation, `compare` as its second input a circuit, one of these or a logic
--- network, and `cost` and `draw` a circuit or a network
-abbrev pub form_from : Command → List ℕ → Option Form
-form_from Flow value =
+-- a truth table or a permutation
+abbrev function_from : List ℕ → Option Form
+function_from value =
     if bytes_eq value (codes "pla") then Some Pla
     else (if bytes_eq value (codes "perm") then Some Perm
     else None)
+
+-- `flow` and `realize` read a truth table or a permutation, `compare` as its second input a circuit, one of these or a
+-- logic network, and `cost` and `draw` a circuit or a network
+abbrev pub form_from : Command → List ℕ → Option Form
+form_from Flow value = function_from value
+form_from Realize value = function_from value
 form_from Compare value =
     if bytes_eq value (codes "real") then Some Real
     else (if bytes_eq value (codes "pla") then Some Pla
@@ -65,6 +70,7 @@ form_from command value =
 
 abbrev pub usual_form : Command → Form
 usual_form Flow = Pla
+usual_form Realize = Pla
 usual_form command = Real
 
 abbrev pub aux_of : List ℕ → Option Aux
@@ -73,13 +79,27 @@ aux_of value =
     else (if bytes_eq value (codes "clean") then Some Clean
     else None)
 
--- what a search is to make small: of `resynth`, which has no cubes, one of three
+-- what a search is to make small: for `esop` one of four, and without cubes for `resynth`; for `compute` and `realize`
+-- also lines, and for `realize` CNOTs
 abbrev pub goal_of : Command → List ℕ → Option Goal
 goal_of Resynth value =
     if bytes_eq value (codes "quantum") then Some Quantum
     else (if bytes_eq value (codes "t") then Some T
     else (if bytes_eq value (codes "gates") then Some Gates
     else None))
+goal_of Compute value =
+    if bytes_eq value (codes "lines") then Some Lines
+    else (if bytes_eq value (codes "t") then Some T
+    else (if bytes_eq value (codes "quantum") then Some Quantum
+    else (if bytes_eq value (codes "gates") then Some Gates
+    else None)))
+goal_of Realize value =
+    if bytes_eq value (codes "t") then Some T
+    else (if bytes_eq value (codes "cx") then Some Cx
+    else (if bytes_eq value (codes "quantum") then Some Quantum
+    else (if bytes_eq value (codes "gates") then Some Gates
+    else (if bytes_eq value (codes "lines") then Some Lines
+    else None))))
 goal_of command value =
     if bytes_eq value (codes "cubes") then Some Cubes
     else (if bytes_eq value (codes "gates") then Some Gates
@@ -87,9 +107,11 @@ goal_of command value =
     else (if bytes_eq value (codes "t") then Some T
     else None)))
 
--- the goal that is not told: `resynth` always searches
+-- the goal that is not told: `resynth`, `compute` and `realize` always search
 abbrev pub usual_goal : Command → Option Goal
 usual_goal Resynth = Some Quantum
+usual_goal Compute = Some T
+usual_goal Realize = Some T
 usual_goal command = None
 
 abbrev pub usual_effort : Command → ℕ
@@ -98,9 +120,8 @@ usual_effort command = 100
 
 -- a search begins with the numbers of seed 0
 abbrev pub usual_seed : Command → ℕ
-usual_seed Esop = 0
-usual_seed Resynth = 0
-usual_seed command = 1
+usual_seed Demo = 1
+usual_seed command = 0
 
 abbrev pub blocks_of : List ℕ → Option Blocks
 blocks_of value =
@@ -155,12 +176,12 @@ aux_in g = chosen AUX Borrowed aux_of (g (codes "aux"))
 
 -- the lines of a generated permutation, or of a circuit that is to be found
 abbrev pub most_lines : Command → ℕ
-most_lines Compute = MOST_LINES
-most_lines command = MOST_DEMO_LINES
+most_lines Demo = MOST_DEMO_LINES
+most_lines command = MOST_LINES
 
 abbrev pub usual_lines : Command → ℕ
-usual_lines Compute = MOST_LINES
-usual_lines command = 4
+usual_lines Demo = 4
+usual_lines command = MOST_LINES
 
 abbrev pub IsLineCount : Command → ℕ → Type 0
 IsLineCount command lines = (1 ≤ lines) × (lines ≤ most_lines command)

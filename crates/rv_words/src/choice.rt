@@ -88,7 +88,7 @@ fn form_from(command: Command, value: &str) -> Option<Form>
     ensures { result ≡ form_from command value.now }
 {
     match command {
-        Command::Flow => match value {
+        Command::Flow | Command::Realize => match value {
             "pla" => Some(Form::Pla),
             "perm" => Some(Form::Perm),
             _ => None,
@@ -113,7 +113,7 @@ fn usual_form(command: Command) -> Form
     ensures { result ≡ usual_form command }
 {
     match command {
-        Command::Flow => Form::Pla,
+        Command::Flow | Command::Realize => Form::Pla,
         _ => Form::Real,
     }
 }
@@ -138,6 +138,21 @@ fn goal_of(command: Command, value: &str) -> Option<Goal>
             "gates" => Some(Goal::Gates),
             _ => None,
         },
+        Command::Compute => match value {
+            "lines" => Some(Goal::Lines),
+            "t" => Some(Goal::T),
+            "quantum" => Some(Goal::Quantum),
+            "gates" => Some(Goal::Gates),
+            _ => None,
+        },
+        Command::Realize => match value {
+            "t" => Some(Goal::T),
+            "cx" => Some(Goal::Cx),
+            "quantum" => Some(Goal::Quantum),
+            "gates" => Some(Goal::Gates),
+            "lines" => Some(Goal::Lines),
+            _ => None,
+        },
         _ => match value {
             "cubes" => Some(Goal::Cubes),
             "gates" => Some(Goal::Gates),
@@ -154,6 +169,7 @@ fn usual_goal(command: Command) -> Option<Goal>
 {
     match command {
         Command::Resynth => Some(Goal::Quantum),
+        Command::Compute | Command::Realize => Some(Goal::T),
         _ => None,
     }
 }
@@ -171,8 +187,8 @@ fn usual_seed(command: Command) -> u16
     ensures { result ≡ usual_seed command }
 {
     match command {
-        Command::Esop | Command::Resynth => 0,
-        _ => 1,
+        Command::Demo => 1,
+        _ => 0,
     }
 }
 
@@ -250,8 +266,8 @@ fn most_lines(command: Command) -> u8
     ensures { result ≡ most_lines command }
 {
     match command {
-        Command::Compute => MOST_LINES,
-        _ => MOST_DEMO_LINES,
+        Command::Demo => MOST_DEMO_LINES,
+        _ => MOST_LINES,
     }
 }
 
@@ -260,8 +276,8 @@ fn usual_lines(command: Command) -> u8
     ensures within { IsLineCount command result }
 {
     match command {
-        Command::Compute => MOST_LINES,
-        _ => 4,
+        Command::Demo => 4,
+        _ => MOST_LINES,
     }
 }
 

@@ -56,6 +56,8 @@ pub enum Command {
     Compute,
     /// Writes a circuit that computes a permutation, and than which none has fewer gates.
     Optimal,
+    /// Writes a circuit that realizes a table, or computes a permutation, found by a search.
+    Realize,
 }
 
 // A command's name, how many inputs it takes at the least and at the most, and the options that it uses.
@@ -108,12 +110,13 @@ pub(crate) fn usage_of(command: Command) -> Usage
         Command::Draw => row("draw", 0, 1, &[FROM, WRAP, AS]),
         Command::Compare => row("compare", 1, 2, &[FROM, ALL]),
         Command::Resynth => row("resynth", 0, 1, &[GOAL, EFFORT, SEED, MARKS]),
-        Command::Compute => row("compute", 0, 1, &[LINES]),
+        Command::Compute => row("compute", 0, 1, &[LINES, GOAL, EFFORT, SEED]),
         Command::Optimal => row("optimal", 0, 1, &[GATES]),
+        Command::Realize => row("realize", 0, 1, &[FROM, LINES, GOAL, EFFORT, SEED]),
     }
 }
 
-static COMMANDS: [Command; 21] = [
+static COMMANDS: [Command; 22] = [
     Command::Synth,
     Command::Embed,
     Command::Esop,
@@ -135,6 +138,7 @@ static COMMANDS: [Command; 21] = [
     Command::Resynth,
     Command::Compute,
     Command::Optimal,
+    Command::Realize,
 ];
 
 // The command of this name.
@@ -209,6 +213,10 @@ pub enum Goal {
     Quantum,
     /// T gates of the network.
     T,
+    /// Lines.
+    Lines,
+    /// CNOT gates of the network.
+    Cx,
 }
 
 /// The blocks that a network is made of.

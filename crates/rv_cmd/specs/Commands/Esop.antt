@@ -76,12 +76,12 @@ IsEsopReport _ pla text = IsEsopCascade pla text
 
 -- ---- with a goal: what a search finds
 
--- what the arguments ask to make small
+-- what the arguments ask to make small, and never lines or CNOTs
 abbrev pub esop_goal : wishes.Goal → Goal
-esop_goal wish.Cubes = Cubes
 esop_goal wish.Gates = Gates
 esop_goal wish.Quantum = Quantum
 esop_goal wish.T = T
+esop_goal _ = Cubes
 
 -- the limit is that of the cascade of the reduced list, with which the search begins
 abbrev pub found_limits : Form → TwoLevel → List Limit

@@ -14,11 +14,9 @@ use Rattle.rv_cmd.specs.Row.{ReadsFirst, always, finds}
 
 -- what the arguments ask to make small: quantum cost, if nothing else is asked
 abbrev pub resynth_goal : Option wishes.Goal → Goal
-resynth_goal None = Quantum
-resynth_goal (Some wish.Cubes) = Quantum
 resynth_goal (Some wish.Gates) = Gates
-resynth_goal (Some wish.Quantum) = Quantum
 resynth_goal (Some wish.T) = T
+resynth_goal _ = Quantum
 
 -- nothing is refused
 abbrev pub resynth_limits : Cascade → List Limit

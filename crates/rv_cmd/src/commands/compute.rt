@@ -6,8 +6,9 @@ ghost use Rattle.rv_cmd.specs.inside.Making.{Makes};
 
 use crate::names::name_of;
 use crate::product::{Made, Product};
+use crate::steps::search_goal;
 use rv_blif::BlifReader;
-use rv_compute::{ComputeFault, compute as circuit_for};
+use rv_compute::{ComputeFault, ComputeOptions, compute as circuit_for};
 use rv_faults::{InputFault, Refusal, Unmade};
 use rv_gate::MOST_GATES;
 use rv_inputs::read_one;
@@ -26,21 +27,32 @@ pub(crate) fn compute<F: Files>(
     ensures { Makes (compute_row settings.now.lines) (names_read settings.now) (F.view files.old) (F.view files.new)
         result }
 {
-    computed(alloc, name_of(settings, 0), files, settings.lines)
+    let options = ComputeOptions {
+        lines: settings.lines,
+        goal: search_goal(settings.goal),
+        effort: settings.effort,
+        seed: settings.seed,
+    };
+    computed(alloc, name_of(settings, 0), files, options)
 }
 
 // Reads the input of this name, and finds a circuit for it.
-fn computed<F: Files>(alloc: Global, name: &str, files: &mut F, lines: u8) -> Result<Made, Unmade>
-    requires { lines ≤ MOST_LINES }
-    ensures { Makes (compute_row lines) (name.now ∷ []) (F.view files.old) (F.view files.new) result }
+fn computed<F: Files>(
+    alloc: Global,
+    name: &str,
+    files: &mut F,
+    options: ComputeOptions,
+) -> Result<Made, Unmade>
+    requires { options.lines ≤ MOST_LINES }
+    ensures { Makes (compute_row options.lines) (name.now ∷ []) (F.view files.old) (F.view files.new) result }
 {
     match read_one::<F, BlifReader>(alloc, name, files) {
-        Ok(network) => match circuit_for(alloc, &network, lines) {
+        Ok(network) => match circuit_for(alloc, &network, options) {
             Ok(circuit) => {
                 circuit.recall_invariant();
                 Ok(Product::Circuit(circuit).alike())
             }
-            Err(fault) => Err(in_vain(fault, lines).unmade()),
+            Err(fault) => Err(in_vain(fault, options.lines).unmade()),
         },
         Err(unmade) => Err(unmade),
     }

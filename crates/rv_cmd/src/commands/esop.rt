@@ -173,10 +173,10 @@ fn esop_goal(wish: Wish) -> Goal
     ensures { result ≡ esop_goal wish }
 {
     match wish {
-        Wish::Cubes => Goal::Cubes,
         Wish::Gates => Goal::Gates,
         Wish::Quantum => Goal::Quantum,
         Wish::T => Goal::T,
+        _ => Goal::Cubes,
     }
 }
 

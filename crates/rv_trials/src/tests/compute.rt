@@ -28,7 +28,7 @@ macro_rules! summed {
 // Of each there is one circuit with the fewest gates, and with few controls.
 #[test]
 fn a_node_is_added_to_its_output(rt: HostRuntime) {
-    const CASES: [(&str, &str, u8, &str); 10] = [
+    const CASES: [(&str, &str, u8, &str); 12] = [
         (
             "compute",
             over!("s", ".names a b c s\n1-1 1\n"),
@@ -40,6 +40,19 @@ fn a_node_is_added_to_its_output(rt: HostRuntime) {
             over!("s", ".names a b c s\n0-1 1\n"),
             0,
             summed!("t3 -x0 x2 y0\n"),
+        ),
+        // By each goal, and without a search.
+        (
+            "compute --goal lines",
+            over!("s", ".names a b c s\n1-1 1\n"),
+            0,
+            summed!("t3 x0 x2 y0\n"),
+        ),
+        (
+            "compute --goal gates --effort 0 --seed 7",
+            over!("s", ".names a b c s\n1-1 1\n"),
+            0,
+            summed!("t3 x0 x2 y0\n"),
         ),
         // Without rows it is 0, and with a row of no operands 1.
         ("compute", over!("s", ".names s\n"), 0, summed!("")),
@@ -239,7 +252,7 @@ fn a_network_that_does_not_fit_is_refused(rt: HostRuntime) {
         "s m",
         ".names a b h\n10 1\n01 1\n.names h c s\n10 1\n01 1\n.names a b h c m\n11-- 1\n--11 1\n"
     );
-    const CASES: [(&str, &str, u8, &str); 5] = [
+    const CASES: [(&str, &str, u8, &str); 6] = [
         ("compute --lines 4", ADDER, 5, "-: 5 lines are more than 4"),
         (
             "compute --lines 1",
@@ -249,11 +262,12 @@ fn a_network_that_does_not_fit_is_refused(rt: HostRuntime) {
         ),
         ("compute --lines 0", ADDER, 2, "bad value for --lines"),
         ("compute --lines 65", ADDER, 2, "bad value for --lines"),
+        ("compute --goal cx", ADDER, 2, "bad value for --goal"),
         (
-            "compute --seed 1",
+            "compute --gates mct",
             ADDER,
             2,
-            "option --seed not used by compute",
+            "option --gates not used by compute",
         ),
     ];
     expect_each(&rt, rt.alloc(), &CASES);

@@ -58,6 +58,13 @@ compute-requires-clause-lines g c =
 pub optimal-requires : goal.optimal-requires
 optimal-requires g c = names_read-by c.args.settings.now command.Optimal c.requires.asked c.in-Optimal.is refl
 
+pub realize-requires-clause-input : goal.realize-requires-clause-input
+realize-requires-clause-input g c = names_read-by c.args.settings.now command.Realize c.requires.asked c.in-Realize.is refl
+
+pub realize-requires-clause-lines : goal.realize-requires-clause-lines
+realize-requires-clause-lines g c =
+    let Few : Command → Type 0 = λ doing. IsLineCount doing c.args.settings.now.lines in (subst Few c.in-Realize.is c.requires.asked.lines).1
+
 pub cost-requires : goal.cost-requires
 cost-requires g c = names_read-by c.args.settings.now command.Cost c.requires.asked c.in-Cost.is refl
 

@@ -9,7 +9,7 @@ use Rattle.rv_cmd.proofs.commands.compute.computed.Goals as goal
 
 pub returns-in-Ok-circuit_for : goal.returns-in-Ok-circuit_for
 returns-in-Ok-circuit_for g c =
-    let most = c.args.lines in
+    let most = c.args.options.lines in
     let e = c.in-Ok-circuit_for.ensures in
     finds-one logic compute_limits (EndsInVain most) (IsComputation most) c.args.name.now (g.F.Files.view c.args.files.now)
     (g.F.Files.view c.read_one.new.files) c.in-Ok.network (Circuit c.in-Ok-circuit_for.circuit) c.alike.result c.alike.ensures
@@ -19,12 +19,12 @@ returns-in-Ok-circuit_for g c =
 pub returns-in-Ok : goal.returns-in-Ok
 returns-in-Ok g c =
     let e = c.in-Err-circuit_for.ensures in
-    compute-refuses c.args.lines c.in-Ok.network c.in-Err-circuit_for.fault c.args.name.now (g.F.Files.view c.args.files.now)
+    compute-refuses c.args.options.lines c.in-Ok.network c.in-Err-circuit_for.fault c.args.name.now (g.F.Files.view c.args.files.now)
     (g.F.Files.view c.read_one.new.files) c.unmade.result (λ found is. e.too_many_lines found (ap Err is)) (λ is. e.too_many_gates (ap Err is))
     (c.unmade.ensures ∙ ap unmade_by c.in_vain.ensures) c.read_one.ensures.keeps c.in-Ok.ensures.read
 
 pub returns : goal.returns
 returns g c =
-    let most = c.args.lines in
+    let most = c.args.options.lines in
     finds-unread logic compute_limits (EndsInVain most) (IsComputation most) c.args.name.now (g.F.Files.view c.args.files.now)
     (g.F.Files.view c.read_one.new.files) c.in-Err.unmade c.read_one.ensures.keeps c.in-Err.ensures.unread

@@ -1,0 +1,71 @@
+-- `realize`: a circuit that a search finds for a truth table, or for a permutation.
+use Rattle.std.specs.Prelude.{◌≡◌, ℕ, List, [], ◌∷◌, Ok}
+use Rattle.rv_gate.specs.Circuit.{Cascade}
+use Rattle.rv_gate.specs.declared.circuit.TheConstants.{MOST_GATES}
+use Rattle.rv_perm.specs.Marked.{Marked}
+use Rattle.rv_pla.specs.Pla.{TwoLevel}
+use Rattle.rv_realize.specs.Realized.{IsEmbeddable, IsInPlace, IsRealized, IsTooFew}
+use Rattle.rv_realize.specs.declared.options.RealizeFault.{RealizeFault}
+use Rattle.rv_realize.specs.declared.options.RealizeFault.TheVariants as fault
+use Rattle.rv_real.specs.Reading.{real_of}
+use Rattle.rv_real.specs.Text.{text_of}
+use Rattle.rv_words.specs.declared.command.Form.{Form}
+use Rattle.rv_words.specs.declared.command.Form.TheVariants as form
+use Rattle.rv_faults.specs.declared.fault.InputFault.{InputFault}
+use Rattle.rv_faults.specs.declared.fault.InputFault.TheVariants.{MoreGates, TooManyLines}
+use Rattle.rv_faults.specs.declared.fault.Refusal.{Refusal}
+use Rattle.rv_faults.specs.declared.fault.Refusal.TheVariants.{OutOfMemory, Refused}
+use Rattle.rv_inputs.specs.Formats.{permutation, table}
+use Rattle.rv_cmd.specs.Limits.{Limit, of_lines}
+use Rattle.rv_cmd.specs.Row.{ReadsFirst, always, finds}
+
+-- what the search tells, as a refusal
+abbrev pub in_vain : ℕ → RealizeFault → Refusal
+in_vain most (fault.TooManyLines count) = Refused 0 (TooManyLines count most)
+in_vain most fault.TooManyGates = Refused 0 (MoreGates MOST_GATES)
+in_vain most fault.Mem = OutOfMemory
+
+-- ---- of a truth table
+
+-- nothing is refused before the search
+abbrev pub realize_limits : TwoLevel → List Limit
+realize_limits pla = []
+
+-- Why there may be no circuit on so many lines. More are needed: those of the embedding where it has at most 16, and if
+-- no entry is free, no circuit has fewer; else one for each input and output. Or the circuit would have more gates than a
+-- circuit has, which is only where the embedding has more than 16 lines.
+abbrev pub EndsFor : ℕ → TwoLevel → InputFault → Type 0
+EndsFor most pla (TooManyLines count limit) = (limit ≡ most) × IsTooFew pla most count
+EndsFor most pla (MoreGates limit) = (limit ≡ MOST_GATES) × (IsEmbeddable pla → ⊥)
+EndsFor most pla _ = ⊥
+
+abbrev pub EndsInVain : ℕ → TwoLevel → Refusal → Type 0
+EndsInVain most pla (Refused input why) = (input ≡ 0) × EndsFor most pla why
+EndsInVain most pla OutOfMemory = ⊥
+
+-- Read back, the text is a circuit on at most so many lines that gives, by its marks, what the table asks at each input
+-- word.
+pub record IsRealization (most : ℕ) (pla : TwoLevel) (text : List ℕ) : Type 0 where
+  pub circuit : Cascade
+  pub is : text ≡ text_of circuit
+  pub read_back : real_of text ≡ Ok circuit
+  pub realized : IsRealized pla most circuit
+
+-- ---- of a permutation
+
+-- its lines
+abbrev pub in_place_limits : ℕ → Marked → List Limit
+in_place_limits most spec = of_lines spec.table.lines most ∷ []
+
+-- Read back, the text is a circuit on the lines of the permutation, with its marks, whose gates compute the permutation
+-- on every word.
+pub record IsRealizedInPlace (spec : Marked) (text : List ℕ) : Type 0 where
+  pub circuit : Cascade
+  pub is : text ≡ text_of circuit
+  pub read_back : real_of text ≡ Ok circuit
+  pub in_place : IsInPlace spec circuit
+
+-- by the form of the input
+abbrev pub realize_row : Form → ℕ → ReadsFirst
+realize_row form.Perm most = finds permutation (in_place_limits most) always IsRealizedInPlace
+realize_row _ most = finds table realize_limits (EndsInVain most) (IsRealization most)
