@@ -11,7 +11,10 @@ use std::alloc::{AllocError, Global};
 const MOST_COORDINATES: usize = 12;
 
 // Steps of work for one of effort.
-const WORK: u64 = 200_000_000;
+const WORK: u64 = 170_000_000;
+
+// The least price of a level.
+const T: u64 = 7 << 10;
 
 // Products have at most so many forms together, less one for each.
 const MOST_LEVEL: usize = 60;
@@ -25,10 +28,10 @@ pub struct Search {
 }
 
 // A search ends after so many turns in a row that found nothing better, and a part of the work.
-const IDLE: usize = 12;
+const IDLE: usize = 40;
 
 const PLAIN: Way = Way {
-    beam: 14,
+    beam: 20,
     low: 6,
     keep: 24,
     per_parent: 8,
@@ -57,6 +60,7 @@ fn way_of(turn: usize) -> Way {
                 tenths: 10,
                 bonus: 0,
             },
+            beam: 14,
             noise: 15,
             forms: 10,
             ..PLAIN
@@ -66,10 +70,12 @@ fn way_of(turn: usize) -> Way {
                 tenths: 5,
                 bonus: ONE / 5,
             },
+            beam: 14,
             noise: 25,
             ..PLAIN
         },
         3 => Way {
+            beam: 14,
             noise: 50,
             all_up_to: 7,
             tries: 10,
@@ -156,7 +162,7 @@ impl Record {
             };
             if found.price < self.price() {
                 self.steps = Vec::from_slice(alloc, steps)?;
-                self.level = level_of(steps);
+                self.level = level_of(steps).min((found.price.saturating_sub(T) / T) as usize);
                 self.found = Some(found);
                 self.idle = 0;
                 self.idle_work = 0;
