@@ -1,6 +1,7 @@
 // Ends a state whatever it costs: one output after another, by products that are added to one direction.
 use crate::cells::{at, bit, has, is_odd, number_of, put_at, size_of, top_place, widened, without};
 use crate::cover::{Wanted, cover, price_of};
+use crate::greedy::{NO_TOP, Top, keep_top};
 use crate::random::Random;
 use crate::step::{MOST_FORMS, Step};
 use crate::task::Task;
@@ -11,6 +12,9 @@ const MOST_STEPS: usize = 400;
 
 // So many directions are tried for an output.
 const MOST_WAYS: usize = 8;
+
+// So many of an output's greatest coefficients are looked at.
+const MOST_TOPS: usize = 12;
 
 // Where a search is: the words over so many coordinates.
 #[derive(Drop)]
@@ -101,6 +105,33 @@ fn barred(
         }
     }
     Ok(barred)
+}
+
+// The directions that are not barred which change the forms of the greatest coefficients.
+fn directions(spectrum: &[i64], barred: &[bool]) -> [Top; MOST_WAYS] {
+    let mut tops = [NO_TOP; MOST_TOPS];
+    for form in 0..spectrum.len() {
+        let size = at(spectrum, form, 0).unsigned_abs();
+        keep_top(
+            &mut tops,
+            Top {
+                size,
+                form: number_of(form),
+            },
+        );
+    }
+    let mut ways = [NO_TOP; MOST_WAYS];
+    for lambda in 1..barred.len() {
+        if !at(barred, lambda, true) {
+            let form = number_of(lambda);
+            let size = match tops.iter().find(|top| is_odd(top.form & form)) {
+                Some(top) => top.size.wrapping_add(1),
+                None => 1,
+            };
+            keep_top(&mut ways, Top { size, form });
+        }
+    }
+    ways
 }
 
 // What is wanted of the words without a coordinate of a direction: nothing where two of them say other things.
@@ -220,11 +251,9 @@ fn ending_of(
     let mut wanted = wanted_of(alloc, task, state, output)?;
     let barred = barred(alloc, state, &wanted, solved)?;
     let mut best = None;
-    let mut tried = 0usize;
-    for lambda in 1..barred.len() {
-        if tried < MOST_WAYS && !at(&barred, lambda, true) {
-            tried = tried.wrapping_add(1);
-            let found = in_place(alloc, &wanted, number_of(lambda), random)?;
+    for way in directions(&wanted.spectrum(alloc)?, &barred) {
+        if way.form != 0 {
+            let found = in_place(alloc, &wanted, way.form, random)?;
             best = cheaper(best, found);
         }
     }

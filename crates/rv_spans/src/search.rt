@@ -11,7 +11,13 @@ use std::alloc::{AllocError, Global};
 const MOST_COORDINATES: usize = 12;
 
 // Steps of work for one of effort.
-const WORK: u64 = 1 << 24;
+const WORK: u64 = 170_000_000;
+
+// The least price of a level.
+const T: u64 = 7 << 10;
+
+// Products have at most so many forms together, less one for each.
+const MOST_LEVEL: usize = 60;
 
 /// What is looked for: circuits on at most so many lines.
 #[derive(Clone, Copy, Debug, PartialEq, Eq)]
@@ -21,6 +27,9 @@ pub struct Search {
     pub seed: u16,
 }
 
+// A search ends after so many turns in a row that found nothing better, and a part of the work.
+const IDLE: usize = 40;
+
 const PLAIN: Way = Way {
     beam: 20,
     low: 6,
@@ -28,10 +37,10 @@ const PLAIN: Way = Way {
     per_parent: 8,
     noise: 0,
     all_up_to: 6,
-    forms: 8,
+    forms: 0,
     tries: 6,
     most_forms: 7,
-    most_level: 60,
+    most_level: MOST_LEVEL,
     most_dimension: 0,
     patience: 12,
     ends: 6,
@@ -51,8 +60,9 @@ fn way_of(turn: usize) -> Way {
                 tenths: 10,
                 bonus: 0,
             },
+            beam: 14,
             noise: 15,
-            forms: 12,
+            forms: 10,
             ..PLAIN
         },
         2 => Way {
@@ -60,11 +70,14 @@ fn way_of(turn: usize) -> Way {
                 tenths: 5,
                 bonus: ONE / 5,
             },
+            beam: 14,
             noise: 25,
             ..PLAIN
         },
         3 => Way {
+            beam: 14,
             noise: 50,
+            all_up_to: 7,
             tries: 10,
             ..PLAIN
         },
@@ -74,12 +87,13 @@ fn way_of(turn: usize) -> Way {
                 bonus: 0,
             },
             noise: 25,
-            beam: 40,
+            beam: 28,
             ..PLAIN
         },
         _ => Way {
             noise: 25,
             low: 2,
+            all_up_to: 7,
             forms: 10,
             ..PLAIN
         },
@@ -95,21 +109,106 @@ fn level_of(steps: &[Step]) -> usize {
     level
 }
 
-// The cheaper of two.
-fn cheaper(one: Option<Found>, other: Option<Found>) -> Option<Found> {
-    match one {
-        None => other,
-        Some(one) => match other {
-            None => Some(one),
-            Some(other) => {
-                if other.price < one.price {
-                    Some(other)
-                } else {
-                    Some(one)
-                }
-            }
-        },
+// What was found so far, and the steps that make it.
+#[derive(Drop)]
+struct Record {
+    steps: Vec<Step>,
+    found: Option<Found>,
+    level: usize,
+    // so many turns in a row found nothing better, and the work that they did
+    idle: usize,
+    idle_work: u64,
+}
+
+impl Record {
+    fn price(&self) -> u64 {
+        match &self.found {
+            None => u64::MAX,
+            Some(found) => found.price,
+        }
     }
+
+    // The first steps of those found, some of them: none where nothing was found.
+    fn start(
+        &self,
+        alloc: Global,
+        turn: usize,
+        random: &mut Random,
+    ) -> Result<Vec<Step>, AllocError> {
+        let count = if turn % 2 == 0 {
+            0
+        } else {
+            random.below(self.steps.len())
+        };
+        match self.steps.get(..count) {
+            Some(steps) => Vec::from_slice(alloc, steps),
+            None => Ok(Vec::new(alloc)),
+        }
+    }
+
+    // Keeps what the ways of a beam make, where it is cheaper.
+    fn take(
+        &mut self,
+        alloc: Global,
+        whole: &Task,
+        lines: u8,
+        beam: &Beam,
+    ) -> Result<(), AllocError> {
+        self.idle = self.idle.saturating_add(1);
+        self.idle_work = self.idle_work.saturating_add(beam.work);
+        for steps in &beam.ways {
+            let Some(found) = built(alloc, whole, lines, steps)? else {
+                continue;
+            };
+            if found.price < self.price() {
+                self.steps = Vec::from_slice(alloc, steps)?;
+                self.level = level_of(steps).min((found.price.saturating_sub(T) / T) as usize);
+                self.found = Some(found);
+                self.idle = 0;
+                self.idle_work = 0;
+            }
+        }
+        Ok(())
+    }
+}
+
+// Searches turn by turn, until the work is done or many of them in a row found nothing better.
+fn search_on(
+    alloc: Global,
+    whole: &Task,
+    task: &Task,
+    most_dimension: usize,
+    search: Search,
+) -> Result<Record, AllocError> {
+    let mut random = Random::new(u64::from(search.seed));
+    let mut record = Record {
+        steps: Vec::new(alloc),
+        found: None,
+        level: MOST_LEVEL,
+        idle: 0,
+        idle_work: 0,
+    };
+    let effort = usize::from(search.effort);
+    let most_work = u64::from(search.effort).saturating_mul(WORK);
+    let mut left = most_work;
+    for turn in 0..effort.saturating_mul(4) {
+        if left == 0 || (record.idle >= IDLE && record.idle_work > most_work / 32) {
+            return Ok(record);
+        }
+        let start = record.start(alloc, turn, &mut random)?;
+        let most_level = record.level.saturating_sub(level_of(&start)).max(1);
+        let way = Way {
+            most_dimension,
+            most_level,
+            most_work: left,
+            ..way_of(turn / 2)
+        };
+        let mut beam = Beam::new(alloc, task, way, start)?;
+        beam.run(alloc, task, &mut random)?;
+        left = left.saturating_sub(beam.work.max(1 << 16));
+        record.take(alloc, whole, search.lines, &beam)?;
+    }
+    Ok(record)
 }
 
 /// The cheapest gates that are found for a table, on lines of which the first are its inputs and the others begin
@@ -122,30 +221,5 @@ pub fn found(alloc: Global, whole: &Task, search: Search) -> Result<Option<Found
     if most_dimension > MOST_COORDINATES || lines < whole.inputs || lines > 64 {
         return Ok(None);
     }
-    let mut random = Random::new(u64::from(search.seed));
-    let mut left = u64::from(search.effort).saturating_mul(WORK);
-    let mut best = None;
-    let mut most_level = 60usize;
-    for turn in 0..usize::from(search.effort).saturating_mul(4) {
-        if left == 0 {
-            return Ok(best);
-        }
-        let way = Way {
-            most_dimension,
-            most_level,
-            most_work: left,
-            ..way_of(turn)
-        };
-        let mut beam = Beam::new(alloc, &task, way)?;
-        beam.run(alloc, &task, &mut random)?;
-        left = left.saturating_sub(beam.work.max(1 << 12));
-        for steps in &beam.ways {
-            let found = built(alloc, whole, search.lines, steps)?;
-            if found.is_some() {
-                most_level = most_level.min(level_of(steps).max(1));
-            }
-            best = cheaper(best, found);
-        }
-    }
-    Ok(best)
+    Ok(search_on(alloc, whole, &task, most_dimension, search)?.found)
 }

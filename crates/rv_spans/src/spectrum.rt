@@ -1,7 +1,33 @@
-// Walsh spectra: how many more words a function agrees with a form than it doesn't.
+// Walsh spectra: how many more words a function agrees with a form than it doesn't. Three functions share a number.
 use crate::cells::{add_at, at, put_at, size_of};
 use crate::task::Task;
 use std::alloc::{AllocError, Global};
+
+// So many functions share a number: a sum of such numbers holds their sums.
+pub(crate) const SHARED: usize = 3;
+
+// The bits of each of them.
+const BITS: usize = 21;
+
+// In how many numbers 1 and all outputs are.
+pub(crate) fn planes_of(outputs: usize) -> usize {
+    outputs.saturating_add(SHARED) / SHARED
+}
+
+// A number as a function's part of a shared one.
+#[inline(always)]
+fn shared(value: i64, lane: usize) -> i64 {
+    value << ((lane % SHARED) * BITS)
+}
+
+// What three functions hold that share a number.
+#[inline(always)]
+pub(crate) fn parted(shared: i64) -> [i64; SHARED] {
+    let low = shared << 43 >> 43;
+    let rest = shared.wrapping_sub(low) >> 21;
+    let middle = rest << 43 >> 43;
+    [low, middle, rest.wrapping_sub(middle) >> 21]
+}
 
 // Sums and differences of the entries of `from..` that lie so far apart.
 #[inline(always)]
@@ -26,7 +52,8 @@ pub(crate) fn transform(values: &mut [i64], first: usize, dimension: usize) {
     }
 }
 
-// The spectra of 1 and of each output, one after another, for words over so many coordinates.
+// The spectra of 1 and of each output for words over so many coordinates: three in each list of numbers, one list
+// after another.
 pub(crate) fn spectra(
     alloc: Global,
     task: &Task,
@@ -34,18 +61,19 @@ pub(crate) fn spectra(
     dimension: usize,
 ) -> Result<Vec<i64>, AllocError> {
     let size = size_of(dimension);
-    let lanes = task.outputs.saturating_add(1);
-    let mut values = vec![in alloc; 0i64; size.saturating_mul(lanes)]?;
+    let planes = planes_of(task.outputs);
+    let mut values = vec![in alloc; 0i64; size.saturating_mul(planes)]?;
     for k in 0..words.len() {
         let cell = at(words, k, 0) as usize;
         add_at(&mut values, cell, 1);
         for output in 0..task.outputs {
-            let place = size.wrapping_mul(output.wrapping_add(1)).wrapping_add(cell);
-            add_at(&mut values, place, task.sign(k, output));
+            let lane = output.wrapping_add(1);
+            let place = size.wrapping_mul(lane / SHARED).wrapping_add(cell);
+            add_at(&mut values, place, shared(task.sign(k, output), lane));
         }
     }
-    for lane in 0..lanes {
-        transform(&mut values, lane.wrapping_mul(size), dimension);
+    for plane in 0..planes {
+        transform(&mut values, plane.wrapping_mul(size), dimension);
     }
     Ok(values)
 }
