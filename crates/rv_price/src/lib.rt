@@ -3,7 +3,7 @@
 
 mod goal;
 mod network;
-mod price;
+mod pricing;
 
 pub use goal::Goal;
-pub use price::price;
+pub use pricing::price;

@@ -31,6 +31,6 @@ pub fn price(goal: Goal, lines: u8, gates: &[Gate]) -> u64
         Goal::Lines => u64::from(lines),
         Goal::Gates => gates.len() as u64,
         Goal::Quantum => quantum_sum(gates),
-        Goal::T | Goal::Cx => gates_count(goal, lines, gates),
+        Goal::T | Goal::Cx => gates_count(goal, gates),
     }
 }
