@@ -1,8 +1,7 @@
 // A circuit for a table by a way that ends wherever there are lines enough.
-ghost use Rattle.std.specs.Prelude.{◌≡◌, ◌+◌, ◌<◌, ◌≤◌, ℕ, Err, IfOk};
-ghost use Rattle.rv_cube.specs.First.{first_of};
-ghost use Rattle.rv_cube.specs.ReductionFor.{reduced_for};
-ghost use Rattle.rv_embed.specs.Embedding.{embedding_of, least_lines};
+ghost use Rattle.std.specs.Prelude.{◌≡◌, ℕ, Err, IfOk};
+ghost use Rattle.rv_cube.specs.ReductionFor.{IsRight};
+ghost use Rattle.rv_embed.specs.Embedding.{least_lines};
 ghost use Rattle.rv_embed.specs.Least.{IsEmbedding, NoCircuitHasFewer};
 ghost use Rattle.rv_pla.specs.FreeEntries.{HasNoFree};
 ghost use Rattle.rv_realize.specs.Realized.{IsEmbeddable, IsRealized, IsTooFew};
@@ -16,7 +15,7 @@ use rv_esop::{EsopFault, cascade};
 use rv_gate::Circuit;
 use rv_perm::PermSpec;
 use rv_pla::Pla;
-use std::alloc::Global;
+use std::alloc::{AllocError, Global};
 
 // By single-target gates for the embedding.
 fn by_embedding(
@@ -40,6 +39,17 @@ fn by_embedding(
     Ok(synth_single(alloc, spec)?)
 }
 
+/// The first list of cubes of a table, reduced.
+pub(crate) fn reduced_list(alloc: Global, pla: &Pla) -> Result<CubeList, AllocError>
+    ensures inputs { IfOk result (λ list. list.inputs ≡ pla.now.inputs) }
+    ensures outputs { IfOk result (λ list. list.outputs ≡ pla.now.outputs) }
+    ensures right { IfOk result (λ list. IsRight pla.now list.cubes) }
+{
+    let mut list = CubeList::from_pla(alloc, pla)?;
+    list.reduce_for(pla)?;
+    Ok(list)
+}
+
 // By the cascade of the reduced exclusive sum.
 fn by_cascade(alloc: Global, pla: &Pla, most: u8) -> Result<Circuit, RealizeFault>
     requires { ¬ IsEmbeddable pla.now }
@@ -50,8 +60,7 @@ fn by_cascade(alloc: Global, pla: &Pla, most: u8) -> Result<Circuit, RealizeFaul
     if lines > most {
         return Err(RealizeFault::TooManyLines(lines));
     }
-    let mut list = CubeList::from_pla(alloc, pla)?;
-    list.reduce_for(pla)?;
+    let list = reduced_list(alloc, pla)?;
     match cascade(alloc, &list) {
         Ok(circuit) => Ok(circuit),
         Err(EsopFault::TooManyGates(_)) => Err(RealizeFault::TooManyGates),

@@ -10,7 +10,10 @@ mod first;
 mod options;
 mod perm;
 mod perm_ways;
+mod placing;
+mod pool;
 mod rank;
+mod spans;
 mod table;
 mod ways;
 

@@ -3,7 +3,7 @@ ghost use Rattle.rv_gate.specs.declared.word.TheConstants.{MOST_LINES};
 ghost use Rattle.rv_realize.specs.Realized.{IsInPlace};
 ghost use Rattle.rv_realize.specs.declared.options.RealizeFault.TheVariants.{Mem, TooManyGates, TooManyLines};
 
-use crate::perm_ways::gates_for;
+use crate::perm_ways::circuits_in_place;
 use crate::rank::is_better;
 use crate::{RealizeFault, RealizeOptions};
 use rv_compare::{Comparison, compare_perm};
@@ -92,6 +92,6 @@ pub fn realize_perm(
         return Err(RealizeFault::TooManyLines(lines));
     }
     let first = synth_single(alloc, spec)?;
-    let found = gates_for(alloc, spec, &first, options)?;
+    let found = circuits_in_place(alloc, spec, &first, options)?;
     Ok(best_of(alloc, spec, first, &found, options)?)
 }
