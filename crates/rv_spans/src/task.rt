@@ -48,7 +48,8 @@ impl Task {
         )
     }
 
-    pub(crate) fn of(
+    /// The task of so many inputs and outputs, by the outputs that are 1 at each word, and those that are not free.
+    pub fn of(
         alloc: Global,
         inputs: usize,
         outputs: usize,

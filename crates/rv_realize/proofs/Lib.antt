@@ -1,0 +1,2 @@
+mod Cascades
+mod Embedded

@@ -1,0 +1,135 @@
+// All ways to a circuit for a table.
+use crate::RealizeOptions;
+use crate::first::reduced_list;
+use crate::pool::Pool;
+use crate::spans::by_spans;
+use rv_embed::embed;
+use rv_esop::{EsopFault, cascade, shared_cascade};
+use rv_exorlink::{Goal as CubeGoal, found_list};
+use rv_gate::Circuit;
+use rv_pla::Pla;
+use rv_price::Goal;
+use rv_spans::{Search, Task};
+use rv_tbs::{Method, synth};
+use std::alloc::{AllocError, Global};
+
+// More lines than this are too many for the flips of a whole permutation.
+const MOST_TURNED: u8 = 10;
+
+// Of the effort the first search over spans gets so many 64ths, on as many lines as there are; the next ones half of it
+// each, on fewer.
+const SHARE: u16 = 32;
+
+// On more lines a search over spans may end at once.
+const MOST_SPANNED: u8 = 12;
+
+// No circuit has fewer lines.
+fn least(pla: &Pla) -> u8 {
+    pla.inputs().max(pla.outputs())
+}
+
+// An effort's part; not 0 if the whole isn't.
+fn part(effort: u16, share: u16) -> u16 {
+    let whole = u32::from(effort).saturating_mul(u32::from(share));
+    u16::try_from(whole / 64).unwrap_or(effort).max(1)
+}
+
+// By spans, on as many lines as there are, and on fewer.
+fn add_spans(
+    alloc: Global,
+    pla: &Pla,
+    options: RealizeOptions,
+    pool: &mut Pool,
+) -> Result<(), AllocError> {
+    let task = Task::new(alloc, pla)?;
+    let most = options.lines.min(pla.inputs().saturating_add(pla.outputs()));
+    let mut share = SHARE;
+    for fewer in 0..most.saturating_sub(least(pla)).saturating_add(1) {
+        let search = Search {
+            lines: most.saturating_sub(fewer),
+            effort: part(options.effort, share),
+            seed: options.seed,
+        };
+        let found = by_spans(alloc, &task, pla.inputs(), search)?;
+        if found.is_some() || search.lines <= MOST_SPANNED {
+            share /= 2;
+        }
+        if let Some(circuit) = found {
+            pool.add(circuit)?;
+        }
+        if share == 0 {
+            return Ok(());
+        }
+    }
+    Ok(())
+}
+
+fn cube_goal(goal: Goal) -> CubeGoal {
+    match goal {
+        Goal::Quantum => CubeGoal::Quantum,
+        Goal::Gates => CubeGoal::Gates,
+        Goal::Lines | Goal::T | Goal::Cx => CubeGoal::T,
+    }
+}
+
+fn add_cascade(
+    pool: &mut Pool,
+    cascade: Result<Circuit, EsopFault>,
+) -> Result<(), AllocError> {
+    match cascade {
+        Ok(circuit) => pool.add(circuit),
+        Err(EsopFault::TooManyGates(_)) => Ok(()),
+        Err(EsopFault::Mem) => Err(AllocError),
+    }
+}
+
+// By exclusive sums, where inputs and outputs have lines of their own.
+fn add_sums(
+    alloc: Global,
+    pla: &Pla,
+    options: RealizeOptions,
+    pool: &mut Pool,
+) -> Result<(), AllocError> {
+    if pla.inputs().saturating_add(pla.outputs()) > options.lines {
+        return Ok(());
+    }
+    add_cascade(pool, cascade(alloc, &reduced_list(alloc, pla)?))?;
+    let goal = cube_goal(options.goal);
+    let list = found_list(alloc, pla, goal, options.effort, options.seed)?;
+    add_cascade(
+        pool,
+        shared_cascade(alloc, &list, goal, options.effort, options.seed),
+    )
+}
+
+// By flips that turn the embedding's words.
+fn add_turned(alloc: Global, pla: &Pla, most: u8, pool: &mut Pool) -> Result<(), AllocError> {
+    let Ok(embedded) = embed(alloc, pla) else {
+        return Ok(());
+    };
+    if embedded.spec.perm().lines() > most.min(MOST_TURNED) {
+        return Ok(());
+    }
+    pool.add(synth(alloc, &embedded.spec, Method::Best)?)
+}
+
+/// Circuits for a table, of which nothing is promised.
+pub(crate) fn circuits_for(
+    alloc: Global,
+    pla: &Pla,
+    first: Option<&Circuit>,
+    options: RealizeOptions,
+) -> Result<Vec<Circuit>, AllocError> {
+    let mut pool = Pool::new(alloc, options);
+    if options.effort == 0 {
+        return Ok(pool.circuits);
+    }
+    if let Some(circuit) = first {
+        pool.add(circuit.copy()?)?;
+    }
+    add_spans(alloc, pla, options, &mut pool)?;
+    add_sums(alloc, pla, options, &mut pool)?;
+    add_turned(alloc, pla, options.lines, &mut pool)?;
+    pool.shorten(alloc, true)?;
+    Ok(pool.circuits)
+}
