@@ -7,7 +7,7 @@ ghost use Rattle.rv_compute.specs.Computed.{IsComputed, IsComputedWithin, Gives}
 ghost use Rattle.rv_compute.specs.inside.Held.{line_count};
 ghost use Rattle.rv_compute.specs.declared.circuit.ComputeFault.TheVariants.{Mem};
 
-use crate::found::found;
+use crate::found::best_circuit;
 use crate::options::ComputeOptions;
 use crate::own::on_own_lines;
 use rv_blif::{Logic, Node};
@@ -145,11 +145,9 @@ pub fn compute(alloc: Global, logic: &Logic, options: ComputeOptions) -> Result<
     let mut least = None;
     if nodes <= MOST_NODES {
         let extra = options.lines - lines as u8;
-        let best = found(alloc, logic, extra, options)?;
-        if let Some(circuit) = best.circuit {
+        if let Some(circuit) = best_circuit(alloc, logic, extra, options, &mut least)? {
             return Ok(circuit);
         }
-        least = best.least;
     }
     if lines + nodes as u32 > u32::from(options.lines) {
         return Err(ComputeFault::TooManyLines(too_many_lines(

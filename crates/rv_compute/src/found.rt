@@ -42,29 +42,27 @@ fn ordered(
     }
 }
 
-/// The best circuit that is found on at most so many work lines.
-pub(crate) fn found(
+/// The best circuit that is found on at most so many work lines, if there is one. Notes the fewest work lines of a plan.
+pub(crate) fn best_circuit(
     alloc: Global,
     logic: &Logic,
     extra: u8,
     options: ComputeOptions,
-) -> Result<Found, AllocError>
+    least: &mut Option<u8>,
+) -> Result<Option<Circuit>, AllocError>
     requires { line_count logic.now extra ≤ MOST_LINES }
-    ensures { IfOk result (λ found.
-        IfSome found.circuit (IsComputedWithin logic.now (line_count logic.now extra))) }
+    ensures { IfOk result (λ o. IfSome o (IsComputedWithin logic.now (line_count logic.now extra))) }
 {
     let one = ordered(alloc, logic, extra, options.goal)?;
     if options.effort == 0 {
-        return Ok(Found {
-            circuit: one,
-            least: None,
-        });
+        return Ok(one);
     }
     let Found {
         circuit: other,
-        least,
+        least: met,
     } = planned(alloc, logic, extra, options)?;
-    let circuit = match (one, other) {
+    *least = met;
+    Ok(match (one, other) {
         (Some(one), Some(other)) => Some(if is_cheaper(options.goal, &other, &one) {
             other
         } else {
@@ -72,6 +70,5 @@ pub(crate) fn found(
         }),
         (None, other) => other,
         (one, None) => one,
-    };
-    Ok(Found { circuit, least })
+    })
 }

@@ -25,7 +25,7 @@ struct Choice {
 // How long plans are looked for.
 fn planner_options(options: ComputeOptions) -> Options {
     Options {
-        effort: u32::from(options.effort),
+        effort: u32::from(options.effort / 10).max(1),
         seed: options.seed,
     }
 }

@@ -2,6 +2,7 @@
 #![tactic(auto)]
 
 mod goal;
+mod network;
 mod pricing;
 
 pub use goal::Goal;
