@@ -128,7 +128,11 @@ fn too_many_lines(
 ///
 /// Where no order is found that fits, the lines of the best one are told, or one for each input, output and node. Where
 /// each of these can have a line, and the gates for their words are few enough, there is a circuit.
-pub fn compute(alloc: Global, logic: &Logic, options: ComputeOptions) -> Result<Circuit, ComputeFault>
+pub fn compute(
+    alloc: Global,
+    logic: &Logic,
+    options: ComputeOptions,
+) -> Result<Circuit, ComputeFault>
     requires { options.lines ≤ MOST_LINES }
     ensures computed { IfOk result (IsComputed logic.now) }
     ensures gives { IfOk result (Gives logic.now) }

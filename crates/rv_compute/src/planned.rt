@@ -69,7 +69,16 @@ fn certified(
         return Ok(None);
     }
     let (terms, recipes, outs) = (&plans.terms, &plans.recipes, &plans.outs);
-    if !computes(alloc, logic, plan.work, terms, recipes, outs, &plan.gates, &plan.numbers)? {
+    if !computes(
+        alloc,
+        logic,
+        plan.work,
+        terms,
+        recipes,
+        outs,
+        &plan.gates,
+        &plan.numbers,
+    )? {
         return Ok(None);
     }
     let gates = Vec::from_slice(alloc, &plan.gates)?;
