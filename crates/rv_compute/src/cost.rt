@@ -1,21 +1,33 @@
 // Which of two circuits is better.
+use crate::turns::turns_of;
 use rv_gate::{Circuit, Gate};
 use rv_price::{Goal, price};
+use std::alloc::{AllocError, Global};
 
 /// What gates cost: what is to be small comes first.
 pub(crate) type Cost = (u64, u64, usize);
 
-pub(crate) fn cost_of(goal: Goal, lines: u8, gates: &[Gate]) -> Cost {
-    let turns = price(Goal::T, lines, gates);
-    let lines_cost = u64::from(lines);
-    match goal {
-        Goal::Lines => (lines_cost, turns, gates.len()),
-        Goal::T | Goal::Cx => (turns, lines_cost, gates.len()),
-        Goal::Quantum | Goal::Gates => (price(goal, lines, gates), lines_cost, gates.len()),
-    }
+pub(crate) fn cost_of(
+    alloc: Global,
+    goal: Goal,
+    lines: u8,
+    gates: &[Gate],
+) -> Result<Cost, AllocError> {
+    let count = u64::from(lines);
+    Ok(match goal {
+        Goal::Lines => (count, turns_of(alloc, gates)?, gates.len()),
+        Goal::T | Goal::Cx => (turns_of(alloc, gates)?, count, gates.len()),
+        Goal::Quantum | Goal::Gates => (price(goal, lines, gates), count, gates.len()),
+    })
 }
 
 /// Whether a circuit costs less than another.
-pub(crate) fn is_cheaper(goal: Goal, one: &Circuit, other: &Circuit) -> bool {
-    cost_of(goal, one.line_count(), one.gates()) < cost_of(goal, other.line_count(), other.gates())
+pub(crate) fn is_cheaper(
+    alloc: Global,
+    goal: Goal,
+    one: &Circuit,
+    other: &Circuit,
+) -> Result<bool, AllocError> {
+    let cost = cost_of(alloc, goal, one.line_count(), one.gates())?;
+    Ok(cost < cost_of(alloc, goal, other.line_count(), other.gates())?)
 }

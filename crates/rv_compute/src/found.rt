@@ -63,11 +63,13 @@ pub(crate) fn best_circuit(
     } = planned(alloc, logic, extra, options)?;
     *least = met;
     Ok(match (one, other) {
-        (Some(one), Some(other)) => Some(if is_cheaper(options.goal, &other, &one) {
-            other
-        } else {
-            one
-        }),
+        (Some(one), Some(other)) => {
+            if is_cheaper(alloc, options.goal, &other, &one)? {
+                Some(other)
+            } else {
+                Some(one)
+            }
+        }
         (None, other) => other,
         (one, None) => one,
     })

@@ -20,6 +20,7 @@ mod run;
 mod start;
 mod step;
 mod sum;
+mod turns;
 
 pub use circuit::{ComputeFault, compute};
 pub use options::ComputeOptions;

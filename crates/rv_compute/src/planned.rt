@@ -42,7 +42,7 @@ fn choices(
     for place in 0..plans.len() {
         let plan = &plans[place];
         if plan.work <= extra {
-            let cost = cost_of(goal, lines.saturating_add(plan.work), &plan.gates);
+            let cost = cost_of(alloc, goal, lines.saturating_add(plan.work), &plan.gates)?;
             choices.push(Choice { cost, place })?;
         }
     }
