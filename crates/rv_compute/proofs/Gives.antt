@@ -7,7 +7,8 @@ use Rattle.rv_gate.specs.Circuit.{Cascade}
 use Rattle.rv_gate.specs.Marks.{with_constants, without_garbage}
 use Rattle.rv_gate.proofs.Marks.{without_garbage-append, without_garbage-outputs, without_garbage-all, with_constants-filled}
 use Rattle.rv_blif.specs.Logic.{Logic, outputs_of}
-use Rattle.rv_compute.specs.Computed.{xor_each, IsComputed, IsComputedWithin, Gives}
+use Rattle.rv_forms.specs.Followed.{xor_each}
+use Rattle.rv_compute.specs.Computed.{IsComputed, IsComputedWithin, Gives}
 use Rattle.rv_compute.proofs.inside.Ends.{length-outputs_of, length-xor_each}
 
 xor_zeros : (outs : List Bool) → xor_each (replicate (length outs) false) outs ≡ outs

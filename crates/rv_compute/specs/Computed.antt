@@ -1,16 +1,11 @@
 -- What the circuit of a logic network does.
-use Rattle.std.specs.Prelude.{ℕ, ◌≡◌, ◌≤◌, Bool, false, List, [], ◌∷◌, ◌++◌, length, replicate}
-use Rattle.rv_gate.specs.Gate.{run, xor}
+use Rattle.std.specs.Prelude.{ℕ, ◌≡◌, ◌≤◌, Bool, false, List, ◌++◌, length, replicate}
+use Rattle.rv_gate.specs.Gate.{run}
 use Rattle.rv_gate.specs.Circuit.{Cascade}
 use Rattle.rv_gate.specs.Marks.{with_constants, without_garbage}
 use Rattle.rv_blif.specs.Logic.{Logic, outputs_of}
+use Rattle.rv_forms.specs.Followed.{xor_each}
 use Rattle.rv_compute.specs.Lines.{logic_lines}
-
--- a word with the bits changed that are 1 in another
-unfoldable pub xor_each : List Bool → List Bool → List Bool
-xor_each [] changes = []
-xor_each (bit ∷ word) [] = bit ∷ word
-xor_each (bit ∷ word) (change ∷ changes) = xor bit change ∷ xor_each word changes
 
 -- the circuit has the network's lines; whatever the lines of the outputs hold, it adds the network's outputs to them,
 -- bit by bit, keeps the inputs, and leaves the work lines at 0

@@ -7,8 +7,9 @@ ghost use Rattle.rv_compute.specs.Computed.{IsComputed, IsComputedWithin, Gives}
 ghost use Rattle.rv_compute.specs.inside.Held.{line_count};
 ghost use Rattle.rv_compute.specs.declared.circuit.ComputeFault.TheVariants.{Mem};
 
+use crate::found::best_circuit;
+use crate::options::ComputeOptions;
 use crate::own::on_own_lines;
-use crate::run::certified;
 use rv_blif::{Logic, Node};
 use rv_gate::{Circuit, MOST_GATES, MOST_LINES};
 use rv_schedule::{best_plan, net_of};
@@ -67,18 +68,6 @@ fn gates_fit(logic: &Logic) -> bool
     gates.saturating_add(u64::from(logic.output_count())) <= most
 }
 
-// The circuit that was found, if there is one.
-fn found(alloc: Global, logic: &Logic, extra: u8) -> Result<Option<Circuit>, AllocError>
-    requires { line_count logic.now extra ≤ MOST_LINES }
-    ensures { IfOk result (λ o. IfSome o (IsComputedWithin logic.now (line_count logic.now extra))) }
-{
-    let net = net_of(alloc, logic)?;
-    match best_plan(alloc, &net, extra)? {
-        Some(plan) => certified(alloc, logic, &net, &plan),
-        None => Ok(None),
-    }
-}
-
 // How many work lines the best order takes that is found on more than so many.
 fn wanted(alloc: Global, logic: &Logic, extra: u8) -> Result<Option<u8>, AllocError> {
     let net = net_of(alloc, logic)?;
@@ -90,12 +79,22 @@ fn wanted(alloc: Global, logic: &Logic, extra: u8) -> Result<Option<u8>, AllocEr
     Ok(None)
 }
 
-// How many lines a network takes that has no circuit on so many: those of the best order, else one for each node.
+// The lesser one.
+fn fewer(one: Option<u8>, other: Option<u8>) -> Option<u8> {
+    match (one, other) {
+        (Some(one), Some(other)) => Some(one.min(other)),
+        (None, other) => other,
+        (one, None) => one,
+    }
+}
+
+// How many lines a network takes that has no circuit on so many: those of the best order or plan, else one for each node.
 fn too_many_lines(
     alloc: Global,
     logic: &Logic,
     most_lines: u8,
     lines: u32,
+    least: Option<u8>,
 ) -> Result<u32, AllocError>
     requires few { lines ≤ most_lines }
     requires lines { lines ≡ length logic.now.inputs + length logic.now.outputs }
@@ -107,7 +106,7 @@ fn too_many_lines(
     if nodes > MOST_NODES {
         return Ok(all);
     }
-    match wanted(alloc, logic, most_lines - lines as u8)? {
+    match fewer(least, wanted(alloc, logic, most_lines - lines as u8)?) {
         Some(work) => {
             let found = lines + u32::from(work);
             if found > u32::from(most_lines) && found <= all {
@@ -129,28 +128,39 @@ fn too_many_lines(
 ///
 /// Where no order is found that fits, the lines of the best one are told, or one for each input, output and node. Where
 /// each of these can have a line, and the gates for their words are few enough, there is a circuit.
-pub fn compute(alloc: Global, logic: &Logic, most_lines: u8) -> Result<Circuit, ComputeFault>
-    requires { most_lines ≤ MOST_LINES }
+pub fn compute(
+    alloc: Global,
+    logic: &Logic,
+    options: ComputeOptions,
+) -> Result<Circuit, ComputeFault>
+    requires { options.lines ≤ MOST_LINES }
     ensures computed { IfOk result (IsComputed logic.now) }
     ensures gives { IfOk result (Gives logic.now) }
-    ensures lines { IfOk result (λ c. length c.names ≤ most_lines) }
+    ensures lines { IfOk result (λ c. length c.names ≤ options.lines) }
     ensures too_many_lines { (found : ℕ) → result ≡ Err (ComputeFault.TooManyLines found)
-        → (most_lines < found) × (found ≤ line_bound logic.now) }
+        → (options.lines < found) × (found ≤ line_bound logic.now) }
     ensures too_many_gates { result ≡ Err ComputeFault.TooManyGates → MOST_GATES < gate_bound logic.now }
 {
     let lines = logic.input_count() + logic.output_count();
-    if lines > u32::from(most_lines) {
+    if lines > u32::from(options.lines) {
         return Err(ComputeFault::TooManyLines(lines));
     }
     let nodes = logic.nodes().len();
+    let mut least = None;
     if nodes <= MOST_NODES {
-        let extra = most_lines - lines as u8;
-        if let Some(circuit) = found(alloc, logic, extra)? {
+        let extra = options.lines - lines as u8;
+        if let Some(circuit) = best_circuit(alloc, logic, extra, options, &mut least)? {
             return Ok(circuit);
         }
     }
-    if lines + nodes as u32 > u32::from(most_lines) {
-        return Err(ComputeFault::TooManyLines(too_many_lines(alloc, logic, most_lines, lines)?));
+    if lines + nodes as u32 > u32::from(options.lines) {
+        return Err(ComputeFault::TooManyLines(too_many_lines(
+            alloc,
+            logic,
+            options.lines,
+            lines,
+            least,
+        )?));
     }
     if !gates_fit(logic) {
         return Err(ComputeFault::TooManyGates);

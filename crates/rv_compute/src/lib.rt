@@ -8,13 +8,19 @@
 mod block;
 mod circuit;
 mod controls;
+mod cost;
+mod found;
 mod held;
 mod lines;
+mod options;
 mod own;
 mod place;
+mod planned;
 mod run;
 mod start;
 mod step;
 mod sum;
+mod turns;
 
 pub use circuit::{ComputeFault, compute};
+pub use options::ComputeOptions;

@@ -2,6 +2,7 @@
 ghost use Rattle.std.specs.Prelude.{◌≡◌, ◌≤◌, length, IfOk, IfSome, IsTrue};
 ghost use Rattle.rv_gate.specs.declared.circuit.TheConstants.{MOST_GATES};
 ghost use Rattle.rv_gate.specs.declared.word.TheConstants.{MOST_LINES};
+ghost use Rattle.rv_forms.specs.Computing.{Computes};
 ghost use Rattle.rv_compute.specs.Computed.{IsComputedWithin};
 ghost use Rattle.rv_compute.specs.inside.Held.{Stands, line_count};
 ghost use Rattle.rv_compute.specs.inside.Blocks.{AreGates};
@@ -15,8 +16,8 @@ use rv_gate::{Circuit, Gate, MOST_GATES, MOST_LINES};
 use rv_schedule::{Net, Plan, Step};
 use std::alloc::{AllocError, Global};
 
-// Whether each gate fits so many lines.
-fn all_fit(gates: &[Gate], lines: u8) -> bool
+/// Whether each gate fits so many lines.
+pub(crate) fn all_fit(gates: &[Gate], lines: u8) -> bool
     ensures { IsTrue result → AreGates lines gates.now }
 {
     for gate in gates {
@@ -88,6 +89,24 @@ fn run_steps(
     Ok(Some(work))
 }
 
+/// The circuit of gates that compute a network.
+pub(crate) fn circuit_with(
+    alloc: Global,
+    logic: &Logic,
+    extra: u8,
+    gates: Vec<Gate>,
+) -> Result<Circuit, AllocError>
+    requires lines { line_count logic.now extra ≤ MOST_LINES }
+    requires few { length gates.items ≤ MOST_GATES }
+    requires fit { AreGates (line_count logic.now extra) gates.items }
+    requires computes { Computes logic.now extra gates.items }
+    ensures { IfOk result (IsComputedWithin logic.now (line_count logic.now extra)) }
+{
+    let mut circuit = logic_lines(alloc, logic, extra)?;
+    circuit.set_gates(gates);
+    Ok(circuit)
+}
+
 /// The circuit of gates that end in what is due.
 pub(crate) fn circuit_of(
     alloc: Global,
@@ -100,9 +119,7 @@ pub(crate) fn circuit_of(
     requires ended { Ended logic.now extra gates.items }
     ensures { IfOk result (IsComputedWithin logic.now (line_count logic.now extra)) }
 {
-    let mut circuit = logic_lines(alloc, logic, extra)?;
-    circuit.set_gates(gates);
-    Ok(circuit)
+    circuit_with(alloc, logic, extra, gates)
 }
 
 // The circuit, if each line holds what is due.

@@ -15,4 +15,4 @@ mod search;
 pub use net::{Net, net_of};
 pub use pass::Pass;
 pub use plan::{Plan, Step};
-pub use search::best_plan;
+pub use search::{best_plan, fewest_plan};

@@ -60,3 +60,26 @@ pub fn best_plan(alloc: Global, net: &Net, extra: u8) -> Result<Option<Plan>, Al
     }
     Ok(within(best, extra))
 }
+
+// The cheapest plan that is found on fewer work lines than another has.
+fn on_fewer(alloc: Global, net: &Net, plan: &Option<Plan>) -> Result<Option<Plan>, AllocError> {
+    match plan {
+        Some(plan) if plan.extra > 0 => best_plan(alloc, net, plan.extra - 1),
+        _ => Ok(None),
+    }
+}
+
+/// The cheapest plan that is found on as few work lines as any is, and on at most so many.
+pub fn fewest_plan(alloc: Global, net: &Net, extra: u8) -> Result<Option<Plan>, AllocError>
+    ensures { IfOk result (λ o. IfSome o (λ plan. plan.extra ≤ extra)) }
+{
+    let mut best = best_plan(alloc, net, extra)?;
+    for _ in 0..extra {
+        let next = on_fewer(alloc, net, &best)?;
+        if next.is_none() {
+            break;
+        }
+        best = next;
+    }
+    Ok(within(best, extra))
+}

@@ -6,29 +6,30 @@ use Rattle.rv_gate.specs.Gate.{FitsIn, IsGate}
 use Rattle.rv_gate.specs.Circuit.{Cascade}
 use Rattle.rv_gate.specs.declared.gate.Shape.{Shape}
 use Rattle.rv_blif.specs.Logic.{Logic}
+use Rattle.rv_forms.specs.Computing.{Computes}
 use Rattle.rv_compute.specs.Lines.{logic_lines}
 use Rattle.rv_compute.specs.Computed.{IsComputedWithin}
-use Rattle.rv_compute.specs.inside.Held.{line_count, Stands, IsDone}
+use Rattle.rv_compute.specs.inside.Held.{line_count}
 use Rattle.rv_compute.specs.inside.Blocks.{AreGates}
 use Rattle.rv_compute.proofs.Marks.{length-line_names}
-use Rattle.rv_compute.proofs.inside.Ends.{ends}
 use Rattle.rv_compute.proofs.inside.Standing.{by_default}
 
 abbrev with_gates : Cascade → List Shape → Cascade
 with_gates c gates = record c { gates = gates }
 
-pub computed : (logic : Logic) (extra : ℕ) (c base : Cascade) (held : List (Option ℕ)) (gates : List Shape)
-    → base ≡ logic_lines logic extra → c ≡ with_gates base gates
-    → Stands logic extra held gates → IsDone logic held → IsComputedWithin logic (line_count logic extra) c
-computed logic extra c base held gates eb ec stands done =
+pub computed : (logic : Logic) (extra : ℕ) (c base : Cascade) (gates : List Shape)
+    → base ≡ logic_lines logic extra → c ≡ with_gates base gates → Computes logic extra gates
+    → IsComputedWithin logic (line_count logic extra) c
+computed logic extra c base gates eb ec computes =
     let is : c ≡ with_gates (logic_lines logic extra) gates = ec ∙ ap (λ t. with_gates t gates) eb in
     let same : c.gates ≡ gates = ap (λ (t : Cascade). t.gates) is in
-    let P : List Shape → Type 0 = λ g. Stands logic extra held g in
+    let P : List Shape → Type 0 = λ g. Computes logic extra g in
+    let all : Computes logic extra c.gates = subst P (sym same) computes in
     record {
       computed = record {
         work = extra;
         lines = is ∙ ap (with_gates (logic_lines logic extra)) (sym same);
-        adds = ends logic extra held c.gates (subst P (sym same) stands) done;
+        adds = all.adds;
       };
       few =
           let e : length c.names ≡ line_count logic extra =

@@ -11,7 +11,8 @@ use Rattle.rv_gate.specs.declared.gate.Shape.{Shape}
 use Rattle.rv_gate.proofs.Bits.{xor_false, false_xor}
 use Rattle.rv_gate.proofs.inside.GateLemmas.{length-run}
 use Rattle.rv_blif.specs.Logic.{Logic, Output, values, outputs_of}
-use Rattle.rv_compute.specs.Computed.{xor_each}
+use Rattle.rv_forms.specs.Followed.{xor_each}
+use Rattle.rv_forms.specs.Computing.{Computes}
 use Rattle.rv_compute.specs.inside.Held.{held_value, held_at, put_in, line_count, Stands, IsDone, due}
 use Rattle.rv_compute.proofs.inside.Signals.{input_bit}
 use Rattle.rv_compute.proofs.inside.Standing.{base_free, length-put_in}
@@ -179,3 +180,7 @@ ends logic extra held gates stands done x y lx ly =
     ∙ ap (λ h. xor (bit_of (put_in extra (replicate (length x) false) y) line) (held_value (values logic x) h))
     (done line (let e = stands.count in omega arith))
     ∙ end_bit logic extra x y line lx ly within)
+
+pub ends_computing : (logic : Logic) (extra : ℕ) (held : List (Option ℕ)) (gates : List Shape)
+    → Stands logic extra held gates → IsDone logic held → Computes logic extra gates
+ends_computing logic extra held gates stands done = record { adds = ends logic extra held gates stands done }

@@ -1,0 +1,33 @@
+// Which of two circuits is better.
+use crate::turns::turns_of;
+use rv_gate::{Circuit, Gate};
+use rv_price::{Goal, price};
+use std::alloc::{AllocError, Global};
+
+/// What gates cost: what is to be small comes first.
+pub(crate) type Cost = (u64, u64, usize);
+
+pub(crate) fn cost_of(
+    alloc: Global,
+    goal: Goal,
+    lines: u8,
+    gates: &[Gate],
+) -> Result<Cost, AllocError> {
+    let count = u64::from(lines);
+    Ok(match goal {
+        Goal::Lines => (count, turns_of(alloc, gates)?, gates.len()),
+        Goal::T | Goal::Cx => (turns_of(alloc, gates)?, count, gates.len()),
+        Goal::Quantum | Goal::Gates => (price(goal, lines, gates), count, gates.len()),
+    })
+}
+
+/// Whether a circuit costs less than another.
+pub(crate) fn is_cheaper(
+    alloc: Global,
+    goal: Goal,
+    one: &Circuit,
+    other: &Circuit,
+) -> Result<bool, AllocError> {
+    let cost = cost_of(alloc, goal, one.line_count(), one.gates())?;
+    Ok(cost < cost_of(alloc, goal, other.line_count(), other.gates())?)
+}

@@ -1,0 +1,76 @@
+// The best circuit that is found.
+ghost use Rattle.std.specs.Prelude.{◌≤◌, IfOk, IfSome};
+ghost use Rattle.rv_gate.specs.declared.word.TheConstants.{MOST_LINES};
+ghost use Rattle.rv_compute.specs.Computed.{IsComputedWithin};
+ghost use Rattle.rv_compute.specs.inside.Held.{line_count};
+
+use crate::cost::is_cheaper;
+use crate::options::ComputeOptions;
+use crate::planned::planned;
+use crate::run::certified;
+use rv_blif::Logic;
+use rv_gate::{Circuit, MOST_LINES};
+use rv_price::Goal;
+use rv_schedule::{best_plan, fewest_plan, net_of};
+use std::alloc::{AllocError, Global};
+
+/// A circuit, if one was found, and the fewest work lines that were met.
+#[derive(Drop)]
+pub(crate) struct Found {
+    pub(crate) circuit: Option<Circuit>,
+    pub(crate) least: Option<u8>,
+}
+
+// The circuit of the best order of nodes, if there is one.
+fn ordered(
+    alloc: Global,
+    logic: &Logic,
+    extra: u8,
+    goal: Goal,
+) -> Result<Option<Circuit>, AllocError>
+    requires { line_count logic.now extra ≤ MOST_LINES }
+    ensures { IfOk result (λ o. IfSome o (IsComputedWithin logic.now (line_count logic.now extra))) }
+{
+    let net = net_of(alloc, logic)?;
+    let plan = match goal {
+        Goal::Lines => fewest_plan(alloc, &net, extra)?,
+        _ => best_plan(alloc, &net, extra)?,
+    };
+    match plan {
+        Some(plan) => certified(alloc, logic, &net, &plan),
+        None => Ok(None),
+    }
+}
+
+/// The best circuit that is found on at most so many work lines, if there is one. Notes the fewest work lines of a plan.
+pub(crate) fn best_circuit(
+    alloc: Global,
+    logic: &Logic,
+    extra: u8,
+    options: ComputeOptions,
+    least: &mut Option<u8>,
+) -> Result<Option<Circuit>, AllocError>
+    requires { line_count logic.now extra ≤ MOST_LINES }
+    ensures { IfOk result (λ o. IfSome o (IsComputedWithin logic.now (line_count logic.now extra))) }
+{
+    let one = ordered(alloc, logic, extra, options.goal)?;
+    if options.effort == 0 {
+        return Ok(one);
+    }
+    let Found {
+        circuit: other,
+        least: met,
+    } = planned(alloc, logic, extra, options)?;
+    *least = met;
+    Ok(match (one, other) {
+        (Some(one), Some(other)) => {
+            if is_cheaper(alloc, options.goal, &other, &one)? {
+                Some(other)
+            } else {
+                Some(one)
+            }
+        }
+        (None, other) => other,
+        (one, None) => one,
+    })
+}
