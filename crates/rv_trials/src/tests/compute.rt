@@ -119,7 +119,7 @@ fn a_circuit_with_work_lines_gives_the_network(rt: HostRuntime) {
         ".names n m c s\n11- 1\n--1 1\n.names n m t\n1- 1\n-1 1\n.end\n"
     );
     let alloc = rt.alloc();
-    let circuit = output_of(&rt, alloc, "compute", NETWORK.as_bytes());
+    let circuit = output_of(&rt, alloc, "compute --effort 1", NETWORK.as_bytes());
     let first = ("c.real", circuit.bytes());
     let second = ("n.blif", NETWORK.as_bytes());
     let words = "compare --from blif c.real n.blif";

@@ -17,10 +17,18 @@ fn expect_realized(rt: &impl Abort, alloc: Global, cases: &[(&str, &str, &str)])
 #[test]
 fn what_is_found_gives_what_is_asked(rt: HostRuntime) {
     const CASES: [(&str, &str, &str); 4] = [
-        ("realize --lines 3", "pla", CONJUNCTION),
-        ("realize --goal lines --seed 5", "pla", CONJUNCTION),
-        ("realize --from perm --lines 3", "perm", CYCLES),
-        ("realize --from perm --goal cx", "perm", "0 2 1 3"),
+        ("realize --effort 1 --lines 3", "pla", CONJUNCTION),
+        (
+            "realize --effort 1 --goal lines --seed 5",
+            "pla",
+            CONJUNCTION,
+        ),
+        ("realize --effort 1 --from perm --lines 3", "perm", CYCLES),
+        (
+            "realize --effort 0 --from perm --goal cx",
+            "perm",
+            "0 2 1 3",
+        ),
     ];
     expect_realized(&rt, rt.alloc(), &CASES);
 }
@@ -36,7 +44,7 @@ fn a_permutation_keeps_its_lines_and_marks(rt: HostRuntime) {
             written!(1, "x0", "0", "1", "t1 x0\n"),
         ),
     ];
-    let words = "realize --from perm --goal gates p.txt";
+    let words = "realize --effort 1 --from perm --goal gates p.txt";
     expect_texts(&rt, rt.alloc(), words, "p.txt", &CASES);
 }
 
@@ -45,13 +53,13 @@ fn a_permutation_keeps_its_lines_and_marks(rt: HostRuntime) {
 fn what_is_not_realized_is_refused(rt: HostRuntime) {
     const CASES: [(&str, &str, u8, &str); 10] = [
         (
-            "realize --lines 2",
+            "realize --effort 1 --lines 2",
             CONJUNCTION,
             5,
             "-: 3 lines are more than 2",
         ),
         (
-            "realize --lines 24",
+            "realize --effort 1 --lines 24",
             ".i 9\n.o 16\n.e\n",
             5,
             "-: 25 lines are more than 24",

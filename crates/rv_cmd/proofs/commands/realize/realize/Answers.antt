@@ -14,7 +14,7 @@ returns-in-Perm g c =
     let names = names_read c.args.settings.now in
     rw c.in-Perm.is
     (makes-at _ _ names (g.F.Files.view c.args.files.now) (g.F.Files.view c.in_place.new.files) c.in_place.result
-    (ap (λ name. name ∷ []) c.name_of.ensures ∙ names-one names c.requires.input) c.in_place.ensures)
+    (ap (λ name. name ∷ []) c.name_of-name.ensures ∙ names-one names c.requires.input) c.in_place.ensures)
 
 pub returns-in_default : goal.returns-in_default
 returns-in_default g c =
@@ -23,4 +23,4 @@ returns-in_default g c =
     let By : ReadsFirst → Type 0 = λ row. Makes row names (g.F.Files.view c.args.files.now) (g.F.Files.view c.realized.new.files) c.realized.result in
     subst By (sym (of-table s.origin s.lines c.in_default.not-Perm))
     (makes-at _ _ names (g.F.Files.view c.args.files.now) (g.F.Files.view c.realized.new.files) c.realized.result
-    (ap (λ name. name ∷ []) c.name_of.ensures ∙ names-one names c.requires.input) c.realized.ensures)
+    (ap (λ name. name ∷ []) c.name_of-name.ensures ∙ names-one names c.requires.input) c.realized.ensures)
