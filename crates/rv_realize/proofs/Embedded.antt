@@ -41,7 +41,7 @@ realized_on pla m most gates c is embedding computes few = record {
 }
 
 -- how many lines a fault tells
-pub lines_told : {A : Type 0} → Result A RealizeFault → ℕ
+abbrev pub lines_told : {A : Type 0} → Result A RealizeFault → ℕ
 lines_told (Err (TooManyLines n)) = n
 lines_told _ = 0
 
