@@ -65,7 +65,9 @@ pub cascade_realized : (pla : TwoLevel) (most : ℕ) (list : Esop) (c : Cascade)
     → IsRight pla list.cubes
     → ((x v : List Bool) → length x ≡ list.inputs → length v ≡ list.outputs → run c.gates (x ++ v) ≡ x ++ xor_set v (esop_value list.cubes x))
     → pla.inputs + pla.outputs ≤ most → IsRealized pla most c
-cascade_realized pla most list c refl inputs outputs right adds few = record {
-  realizes = rw (inputs, outputs) (cascade_realizes pla list (cascade_of list).gates inputs outputs right adds);
-  lines = omega (arith, length-append (numbered 120 list.inputs) (numbered 121 list.outputs), length-numbered 120 list.inputs, length-numbered 121 list.outputs, inputs, outputs, few);
+cascade_realized pla most list c is inputs outputs right adds few = record {
+  realizes =
+      rw (ap (λ (k : Cascade). k.constants) is, ap (λ (k : Cascade). k.garbage) is, inputs, outputs)
+      (cascade_realizes pla list c.gates inputs outputs right adds);
+  lines = omega (arith, ap (λ (k : Cascade). length k.names) is, length-append (numbered 120 list.inputs) (numbered 121 list.outputs), length-numbered 120 list.inputs, length-numbered 121 list.outputs, inputs, outputs, few);
 }

@@ -1,5 +1,6 @@
 -- Gates that compute the permutation of an embedding give what the table asks.
-use Rattle.std.proofs.Common.{◌≡◌, ◌∙◌, ℕ, ◌<◌, ◌≤◌, List, Bool, length, subst, sym, refl, arith}
+use Rattle.std.proofs.Common.{◌≡◌, ◌∙◌, ℕ, ◌<◌, ◌≤◌, List, Bool, length, subst, sym, ap, arith}
+use Rattle.std.specs.Prelude.{Result, Err}
 use Rattle.rv_embed.specs.Embedding.{least_lines}
 use Rattle.rv_embed.specs.Least.{IsEmbedding, NoCircuitHasFewer}
 use Rattle.rv_embed.specs.Realizes.{Meets, Realizes}
@@ -14,6 +15,8 @@ use Rattle.rv_perm.specs.Marked.{Marked}
 use Rattle.rv_perm.specs.Perm.{Computes}
 use Rattle.rv_pla.specs.FreeEntries.{HasNoFree}
 use Rattle.rv_pla.specs.Pla.{TwoLevel}
+use Rattle.rv_realize.specs.declared.options.RealizeFault.{RealizeFault}
+use Rattle.rv_realize.specs.declared.options.RealizeFault.TheVariants.{TooManyLines}
 use Rattle.rv_realize.specs.Realized.{IsEmbeddable, IsRealized, IsTooFew}
 
 computed_realizes : (pla : TwoLevel) (m : Marked) (gates : List Shape) → IsEmbedding pla m → Computes m.table.lines gates m.table.images
@@ -30,10 +33,17 @@ computed_realizes pla m gates embedding computes = record {
 
 pub realized_on : (pla : TwoLevel) (m : Marked) (most : ℕ) (gates : List Shape) (c : Cascade) → c ≡ circuit_on m gates → IsEmbedding pla m
     → Computes m.table.lines c.gates m.table.images → m.table.lines ≤ most → IsRealized pla most c
-realized_on pla m most gates c refl embedding computes few = record {
-  realizes = computed_realizes pla m gates embedding computes;
-  lines = rw (length-numbered 120 m.table.lines) few;
+realized_on pla m most gates c is embedding computes few = record {
+  realizes =
+      rw (ap (λ (k : Cascade). k.constants) is, ap (λ (k : Cascade). k.garbage) is)
+      (computed_realizes pla m c.gates embedding computes);
+  lines = omega (arith, ap (λ (k : Cascade). length k.names) is, length-numbered 120 m.table.lines, few);
 }
+
+-- how many lines a fault tells
+abbrev pub lines_told : {A : Type 0} → Result A RealizeFault → ℕ
+lines_told (Err (TooManyLines n)) = n
+lines_told _ = 0
 
 pub too_few : (pla : TwoLevel) (m : Marked) (most n : ℕ) → n ≡ m.table.lines → m.table.lines ≡ least_lines pla → IsEmbeddable pla
     → (HasNoFree pla → NoCircuitHasFewer pla m.table.lines) → most < n → IsTooFew pla most n

@@ -66,9 +66,17 @@ impl Pool {
     }
 
     // What is made of a circuit by its marks, or on all its lines.
-    fn shorter(&self, alloc: Global, circuit: &Circuit, marked: bool) -> Result<Circuit, AllocError> {
+    fn shorter(
+        &self,
+        alloc: Global,
+        circuit: &Circuit,
+        marked: bool,
+    ) -> Result<Circuit, AllocError> {
         let RealizeOptions {
-            goal, effort, seed, ..
+            goal,
+            effort,
+            seed,
+            ..
         } = self.options;
         if marked {
             resynth_by_marks(alloc, circuit, short_goal(goal), effort, seed)

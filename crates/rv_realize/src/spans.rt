@@ -25,6 +25,9 @@ fn push_name(alloc: Global, names: &mut Names, kind: u8, number: usize) -> Resul
         _ => b'w',
     };
     let all = Names::numbered(alloc, prefix, number + 1)?;
+    if number >= all.len() {
+        return Err(AllocError);
+    }
     match names.push(all.name(number)) {
         Ok(()) => Ok(()),
         Err(_) => Err(AllocError),
@@ -92,11 +95,7 @@ fn mark(
     Ok(())
 }
 
-fn push_all(
-    circuit: &mut Circuit,
-    placing: &Placing,
-    gates: &[Gate],
-) -> Result<bool, AllocError> {
+fn push_all(circuit: &mut Circuit, placing: &Placing, gates: &[Gate]) -> Result<bool, AllocError> {
     for gate in gates {
         let Some(own) = placing.placed(*gate) else {
             return Ok(false);

@@ -42,7 +42,9 @@ fn add_spans(
     pool: &mut Pool,
 ) -> Result<(), AllocError> {
     let task = Task::new(alloc, pla)?;
-    let most = options.lines.min(pla.inputs().saturating_add(pla.outputs()));
+    let most = options
+        .lines
+        .min(pla.inputs().saturating_add(pla.outputs()));
     let mut share = SHARE;
     for fewer in 0..most.saturating_sub(least(pla)).saturating_add(1) {
         let search = Search {
@@ -72,10 +74,7 @@ fn cube_goal(goal: Goal) -> CubeGoal {
     }
 }
 
-fn add_cascade(
-    pool: &mut Pool,
-    cascade: Result<Circuit, EsopFault>,
-) -> Result<(), AllocError> {
+fn add_cascade(pool: &mut Pool, cascade: Result<Circuit, EsopFault>) -> Result<(), AllocError> {
     match cascade {
         Ok(circuit) => pool.add(circuit),
         Err(EsopFault::TooManyGates(_)) => Ok(()),
