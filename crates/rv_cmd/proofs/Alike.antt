@@ -24,6 +24,7 @@ use Rattle.rv_cmd.specs.Commands.Cost.{cost_row}
 use Rattle.rv_cmd.specs.Commands.Draw.{draw_row}
 use Rattle.rv_cmd.specs.Commands.Esop.{esop_row}
 use Rattle.rv_cmd.specs.Commands.Flow.{flow_row, flow_synthesis}
+use Rattle.rv_cmd.specs.Commands.Realize.{realize_row}
 use Rattle.rv_cmd.specs.Commands.Simulate.{answered_by, simulated, words_end}
 use Rattle.rv_cmd.specs.Commands.Templates.{templates_row}
 use Rattle.rv_cmd.specs.Limits.{LimitedText, Report, first_refused, found_within, report_unless, within}
@@ -86,6 +87,10 @@ flow_alike : (origin : Form) (method : Synthesis) (simplify : Bool) (blocks : Bl
 flow_alike form.Perm method simplify blocks aux = tt
 flow_alike _ method simplify blocks aux = tt
 
+realize_alike : (origin : Form) (most : ℕ) → NeverDiffers (realize_row origin most)
+realize_alike form.Perm most = tt
+realize_alike _ most = tt
+
 -- ---- `simulate`
 
 words_alike : (wrong : Option ℕ) (text : List ℕ) → IsAlike (words_end wrong text)
@@ -128,6 +133,7 @@ rows_alike command.Cost settings other = cost_alike settings.origin
 rows_alike command.Draw settings other = draw_alike settings.origin settings.picture settings.wrap
 rows_alike command.Esop settings other = esop_alike settings.to settings.goal
 rows_alike command.Flow settings other = flow_alike settings.origin (flow_synthesis settings.method) settings.simplify settings.blocks settings.aux
+rows_alike command.Realize settings other = realize_alike settings.origin settings.lines
 rows_alike _ settings other = tt
 
 row-alike : (row : Row) → IsAlikeRow row → (found : List ℕ) (contents : Contents) → IsAlike (outcome row found contents).end

@@ -1,5 +1,5 @@
 -- What `realize` writes: the text of any circuit that is found; or why there is none.
-use Rattle.std.proofs.Common.{◌≡◌, ℕ, ◌<◌, ◌≤◌, [], ◌∷◌, length, List, Err, refl, ap, sym, subst, arith}
+use Rattle.std.proofs.Common.{◌≡◌, ℕ, ◌<◌, ◌≤◌, [], ◌∷◌, List, Err, refl, ap, sym, subst, arith}
 use Rattle.rv_io.specs.Files.{FilesView}
 use Rattle.rv_gate.specs.Circuit.{Cascade, IsCascade}
 use Rattle.rv_gate.specs.declared.circuit.TheConstants.{MOST_GATES}
