@@ -6,15 +6,15 @@ use rv_price::Goal;
 use rv_resynth::{Goal as ShortGoal, resynth, resynth_by_marks};
 use std::alloc::{AllocError, Global};
 
-// So many of the best circuits are made shorter.
-const BEST: usize = 3;
+// So many of the best circuits are made shorter, with a part of the effort each.
+const BEST: usize = 4;
 
-// More lines or gates than these take too long by marks, and more gates on all lines.
+const PART: u16 = 5;
+
+// More lines than these take too long by marks, and more gates by any way.
 const MOST_MARKED_LINES: u8 = 8;
 
-const MOST_MARKED_GATES: usize = 1 << 10;
-
-const MOST_GATES: usize = 1 << 12;
+const MOST_GATES: usize = 1 << 10;
 
 #[derive(Drop)]
 pub(crate) struct Pool {
@@ -27,16 +27,6 @@ fn short_goal(goal: Goal) -> ShortGoal {
         Goal::Quantum | Goal::Cx => ShortGoal::Quantum,
         Goal::Gates => ShortGoal::Gates,
         Goal::Lines | Goal::T => ShortGoal::T,
-    }
-}
-
-// Whether there are few gates enough, and by marks few lines.
-fn can_shorten(circuit: &Circuit, marked: bool) -> bool {
-    let gates = circuit.gates().len();
-    if marked {
-        circuit.line_count() <= MOST_MARKED_LINES && gates <= MOST_MARKED_GATES
-    } else {
-        gates <= MOST_GATES
     }
 }
 
@@ -65,7 +55,7 @@ impl Pool {
         Ok(())
     }
 
-    // What is made of a circuit by its marks, or on all its lines.
+    // What is made of a circuit by its marks, or by what it does to every word.
     fn shorter(
         &self,
         alloc: Global,
@@ -78,31 +68,28 @@ impl Pool {
             seed,
             ..
         } = self.options;
-        if marked {
-            resynth_by_marks(alloc, circuit, short_goal(goal), effort, seed)
+        let (goal, effort) = (short_goal(goal), (effort / PART).max(1));
+        if marked && circuit.line_count() <= MOST_MARKED_LINES {
+            resynth_by_marks(alloc, circuit, goal, effort, seed)
         } else {
-            resynth(alloc, circuit, short_goal(goal), effort, seed)
+            resynth(alloc, circuit, goal, effort, seed)
         }
     }
 
-    // What is made of the circuits that have few gates enough, and of a table's by their marks.
+    // What is made of the best circuits, if they have few gates enough.
     fn shortened(&self, alloc: Global, marked: bool) -> Result<Vec<Circuit>, AllocError> {
         let mut more = Vec::new(alloc);
         for circuit in self.circuits.iter().take(BEST) {
-            if can_shorten(circuit, marked) {
+            if circuit.gates().len() <= MOST_GATES {
                 more.push(self.shorter(alloc, circuit, marked)?)?;
             }
         }
         Ok(more)
     }
 
-    /// Makes the best of the circuits shorter, of a table's by their marks too.
+    /// Makes the best of the circuits shorter: a table's by their marks, where they have few lines.
     pub(crate) fn shorten(&mut self, alloc: Global, marked: bool) -> Result<(), AllocError> {
-        let mut more = self.shortened(alloc, false)?;
-        if marked {
-            more.append(&mut self.shortened(alloc, true)?)?;
-        }
-        for circuit in more {
+        for circuit in self.shortened(alloc, marked)? {
             self.add(circuit)?;
         }
         Ok(())

@@ -10,7 +10,8 @@ use crate::first::first_circuit;
 use crate::ways::circuits_for;
 use crate::{RealizeFault, RealizeOptions};
 use rv_gate::{Circuit, MOST_LINES};
-use rv_pla::Pla;
+use rv_perm::MOST_PERM_LINES;
+use rv_pla::{Entry, Pla};
 use std::alloc::Global;
 
 // The best of a circuit that is right and those that are found.
@@ -31,6 +32,26 @@ fn improved(
     }
 }
 
+// Whether an entry may be 0 or 1.
+fn has_free(pla: &Pla) -> bool {
+    for input in 0..1u32 << pla.inputs() {
+        for output in 0..pla.outputs() {
+            if pla.value(input, output).is_dont_care() {
+                return true;
+            }
+        }
+    }
+    false
+}
+
+// Whether there is no circuit on fewer lines than a fault tells, so that none is looked for.
+fn is_final(pla: &Pla, fault: RealizeFault) -> bool {
+    match fault {
+        RealizeFault::TooManyLines(lines) => lines <= MOST_PERM_LINES && !has_free(pla),
+        RealizeFault::TooManyGates | RealizeFault::Mem => false,
+    }
+}
+
 // The best of the circuits that are found, or a fault if none is right.
 fn found(
     alloc: Global,
@@ -41,6 +62,9 @@ fn found(
     ensures realized { IfOk result (IsRealized pla.now options.lines) }
     ensures unmade { IfErr result (λ why. (why ≡ fault) ⊎ (why ≡ Mem)) }
 {
+    if is_final(pla, fault) {
+        return Err(fault);
+    }
     let found = circuits_for(alloc, pla, None, options)?;
     match best_of(None, found, pla, options) {
         Some(circuit) => Ok(circuit),

@@ -34,7 +34,15 @@ fn part(effort: u16, share: u16) -> u16 {
     u16::try_from(whole / 64).unwrap_or(effort).max(1)
 }
 
-// By spans, on as many lines as there are, and on fewer.
+// The lines of a search: by goal `lines` from the fewest on, and else from as many as there are.
+fn lines_of(goal: Goal, least: u8, most: u8, turn: u8) -> u8 {
+    match goal {
+        Goal::Lines => least.saturating_add(turn).min(most),
+        _ => most.saturating_sub(turn),
+    }
+}
+
+// By spans, on one number of lines after another.
 fn add_spans(
     alloc: Global,
     pla: &Pla,
@@ -46,9 +54,9 @@ fn add_spans(
         .lines
         .min(pla.inputs().saturating_add(pla.outputs()));
     let mut share = SHARE;
-    for fewer in 0..most.saturating_sub(least(pla)).saturating_add(1) {
+    for turn in 0..most.saturating_sub(least(pla)).saturating_add(1) {
         let search = Search {
-            lines: most.saturating_sub(fewer),
+            lines: lines_of(options.goal, least(pla), most, turn),
             effort: part(options.effort, share),
             seed: options.seed,
         };
@@ -56,10 +64,11 @@ fn add_spans(
         if found.is_some() || search.lines <= MOST_SPANNED {
             share /= 2;
         }
+        let is_last = options.goal == Goal::Lines && found.is_some();
         if let Some(circuit) = found {
             pool.add(circuit)?;
         }
-        if share == 0 {
+        if share == 0 || is_last {
             return Ok(());
         }
     }
