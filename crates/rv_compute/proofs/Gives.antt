@@ -8,6 +8,8 @@ use Rattle.rv_gate.specs.declared.gate.Shape.{Shape}
 use Rattle.rv_gate.specs.Marks.{with_constants, without_garbage}
 use Rattle.rv_gate.proofs.Marks.{without_garbage-append, without_garbage-outputs, without_garbage-all, with_constants-filled}
 use Rattle.rv_blif.specs.Logic.{Logic, outputs_of}
+use Rattle.rv_compare.specs.Compare.{LogicAnswer, asked}
+use Rattle.rv_compare.specs.declared.comparison.Comparison.TheVariants.{Same}
 use Rattle.rv_forms.specs.Computing.{Computes}
 use Rattle.rv_forms.specs.Followed.{xor_each, IsFollowed}
 use Rattle.rv_forms.specs.Forms.{form_value, forms_at, with_terms}
@@ -99,3 +101,17 @@ gives_found logic lines found c is h =
     let P : Option Cascade → Type 0 = λ o. IfSome o (IsComputedWithin logic lines) in
     let within : IsComputedWithin logic lines c = subst P is h in
     gives logic c within.computed
+
+-- a circuit that was compared with the network, and is the same, gives its outputs
+pub gives_same : (logic : Logic) (c : Cascade) → LogicAnswer (asked false c) logic Same → Gives logic c
+gives_same logic c answer x lx = answer.2 x (lx ∙ sym answer.0)
+
+-- the same, of gates and inputs by other names
+pub computes_compared : (logic : Logic) (inputs work : ℕ) (terms : List Term) (outs : List Form)
+    (gates ran : List Shape) (c : Cascade) → inputs ≡ length logic.inputs → ran ≡ gates
+    → length outs ≡ length logic.outputs → IsWith logic work gates c → IsFollowed inputs terms outs work ran
+    → Gives logic c → Computes logic work gates
+computes_compared logic inputs work terms outs gates ran c ei eg lo is followed given =
+    let P : List Shape → Type 0 = λ g. IsFollowed (length logic.inputs) terms outs work g in
+    let of_inputs = subst (λ (n : ℕ). IsFollowed n terms outs work ran) ei followed in
+    computes_given logic work terms outs gates c is lo (subst P eg of_inputs) given
