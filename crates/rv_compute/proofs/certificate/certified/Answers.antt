@@ -1,4 +1,4 @@
-use Rattle.std.proofs.Common.{◌+◌, length, ap, ◌∙◌, arith}
+use Rattle.std.proofs.Common.{ap, ◌∙◌, arith}
 use Rattle.rv_compute.specs.Lines.{logic_lines}
 use Rattle.rv_compute.specs.inside.Computing.{with_gates}
 use Rattle.rv_compute.specs.inside.Held.{line_count}
