@@ -14,6 +14,9 @@ use rv_planner::{Options, Plan, Plans, fewer_plans, plans};
 use rv_price::Goal;
 use std::alloc::{AllocError, Global};
 
+// So many of the best plans of a kind are tried.
+const MOST_TRIED: usize = 3;
+
 // A plan by its place, and what it costs.
 #[derive(Clone, Copy)]
 struct Choice {
@@ -29,7 +32,7 @@ fn planner_options(options: ComputeOptions) -> Options {
     }
 }
 
-// The plans that fit, the best one first.
+// The best plans that fit, the best one first.
 fn choices(
     alloc: Global,
     plans: &[Plan],
@@ -46,6 +49,7 @@ fn choices(
         }
     }
     choices.sort_by_key(|choice| choice.cost)?;
+    choices.truncate(MOST_TRIED);
     Ok(choices)
 }
 
