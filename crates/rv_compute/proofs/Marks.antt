@@ -1,15 +1,13 @@
 -- Marks that are set on one line after another, and the names of the lines.
-use Rattle.std.proofs.Common.{◌≡◌, ℕ, zero, suc, ◌+◌, ◌-◌, ◌<◌, cond, List, [], ◌∷◌, ◌++◌, length, map, replicate, set, take, get_or, refl, sym, ◌∙◌, ap, arith, append_assoc, length-append, Bool}
+use Rattle.std.proofs.Common.{◌≡◌, ℕ, suc, ◌+◌, ◌<◌, cond, List, [], ◌∷◌, ◌++◌, length, map, set, take, get_or, ◌∙◌, ap, arith, length-append, Bool}
 use Rattle.std.specs.Prelude.{slice_get, Some}
-use Rattle.std.proofs.Math.Seq.{set-append_seam}
 use Rattle.std.proofs.lemmas.Bool.{false_from_ne_true}
-use Rattle.std.proofs.lemmas.List.{take_more, map_more, length-map, length-take-le, length-replicate, set-append_left, set-append_right, replicate-append-replicate}
-use Rattle.std.proofs.lemmas.List.FromFn.{get_or-map-range_with_len}
+use Rattle.std.proofs.lemmas.List.{take_more, map_more, length-map, length-take-le}
 use Rattle.std.proofs.lemmas.Option.{get_or_from_slice_get, slice_get_within}
 use Rattle.rv_gate.specs.Circuit.{Cascade, IsLabel}
 use Rattle.rv_gate.specs.declared.circuit.Mark.{Mark}
-use Rattle.rv_gate.specs.Names.{numbered, numbered_name}
-use Rattle.rv_gate.proofs.NameLemmas.{length-numbered, numbered-more}
+use Rattle.rv_gate.specs.Names.{numbered}
+use Rattle.rv_gate.proofs.NameLemmas.{length-numbered}
 use Rattle.rv_compute.specs.Lines.{line_names, with_label, with_labels}
 
 abbrev pub with_constants : Cascade → List Mark → Cascade

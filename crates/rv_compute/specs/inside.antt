@@ -3,3 +3,4 @@ pub mod Places
 pub mod Blocks
 pub mod Held
 pub mod Own
+pub mod Computing

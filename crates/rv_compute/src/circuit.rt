@@ -7,7 +7,7 @@ ghost use Rattle.rv_compute.specs.Computed.{IsComputed, IsComputedWithin, Gives}
 ghost use Rattle.rv_compute.specs.inside.Held.{line_count};
 ghost use Rattle.rv_compute.specs.declared.circuit.ComputeFault.TheVariants.{Mem};
 
-use crate::found::best_circuit;
+use crate::found::{best_circuit, fewer};
 use crate::options::ComputeOptions;
 use crate::own::on_own_lines;
 use rv_blif::{Logic, Node};
@@ -77,15 +77,6 @@ fn wanted(alloc: Global, logic: &Logic, extra: u8) -> Result<Option<u8>, AllocEr
         }
     }
     Ok(None)
-}
-
-// The lesser one.
-fn fewer(one: Option<u8>, other: Option<u8>) -> Option<u8> {
-    match (one, other) {
-        (Some(one), Some(other)) => Some(one.min(other)),
-        (None, other) => other,
-        (one, None) => one,
-    }
 }
 
 // How many lines a network takes that has no circuit on so many: those of the best order or plan, else one for each node.

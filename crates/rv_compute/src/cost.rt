@@ -21,8 +21,8 @@ pub(crate) fn cost_of(
     })
 }
 
-/// Whether a circuit costs less than another.
-pub(crate) fn is_cheaper(
+// Whether a circuit costs less than another.
+fn is_cheaper(
     alloc: Global,
     goal: Goal,
     one: &Circuit,
@@ -30,4 +30,17 @@ pub(crate) fn is_cheaper(
 ) -> Result<bool, AllocError> {
     let cost = cost_of(alloc, goal, one.line_count(), one.gates())?;
     Ok(cost < cost_of(alloc, goal, other.line_count(), other.gates())?)
+}
+
+/// Whether there is a circuit, and it costs less than another, if there is one.
+pub(crate) fn is_better(
+    alloc: Global,
+    goal: Goal,
+    one: &Option<Circuit>,
+    other: &Option<Circuit>,
+) -> Result<bool, AllocError> {
+    match (one, other) {
+        (Some(one), Some(other)) => is_cheaper(alloc, goal, one, other),
+        (one, _) => Ok(one.is_some()),
+    }
 }

@@ -4,7 +4,7 @@ ghost use Rattle.rv_gate.specs.declared.word.TheConstants.{MOST_LINES};
 ghost use Rattle.rv_compute.specs.Computed.{IsComputedWithin};
 ghost use Rattle.rv_compute.specs.inside.Held.{line_count};
 
-use crate::cost::is_cheaper;
+use crate::cost::is_better;
 use crate::options::ComputeOptions;
 use crate::planned::planned;
 use crate::run::certified;
@@ -19,6 +19,15 @@ use std::alloc::{AllocError, Global};
 pub(crate) struct Found {
     pub(crate) circuit: Option<Circuit>,
     pub(crate) least: Option<u8>,
+}
+
+/// The lesser one.
+pub(crate) fn fewer(one: Option<u8>, other: Option<u8>) -> Option<u8> {
+    match (one, other) {
+        (Some(one), Some(other)) => Some(one.min(other)),
+        (None, other) => other,
+        (one, None) => one,
+    }
 }
 
 // The circuit of the best order of nodes, if there is one.
@@ -62,15 +71,6 @@ pub(crate) fn best_circuit(
         least: met,
     } = planned(alloc, logic, extra, options)?;
     *least = met;
-    Ok(match (one, other) {
-        (Some(one), Some(other)) => {
-            if is_cheaper(alloc, options.goal, &other, &one)? {
-                Some(other)
-            } else {
-                Some(one)
-            }
-        }
-        (None, other) => other,
-        (one, None) => one,
-    })
+    let is_other = is_better(alloc, options.goal, &other, &one)?;
+    Ok(if is_other { other } else { one })
 }

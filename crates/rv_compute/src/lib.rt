@@ -6,6 +6,7 @@
 #![tactic(auto)]
 
 mod block;
+mod certificate;
 mod circuit;
 mod controls;
 mod cost;

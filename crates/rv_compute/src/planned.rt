@@ -4,16 +4,18 @@ ghost use Rattle.rv_gate.specs.declared.word.TheConstants.{MOST_LINES};
 ghost use Rattle.rv_compute.specs.Computed.{IsComputedWithin};
 ghost use Rattle.rv_compute.specs.inside.Held.{line_count};
 
-use crate::cost::{Cost, cost_of};
-use crate::found::Found;
+use crate::certificate::certified;
+use crate::cost::{Cost, cost_of, is_better};
+use crate::found::{Found, fewer};
 use crate::options::ComputeOptions;
-use crate::run::{all_fit, circuit_with};
 use rv_blif::Logic;
-use rv_forms::computes;
-use rv_gate::{Circuit, MOST_GATES, MOST_LINES};
-use rv_planner::{Options, Plan, Plans, plans};
+use rv_gate::{Circuit, MOST_LINES};
+use rv_planner::{Options, Plan, Plans, fewer_plans, plans};
 use rv_price::Goal;
 use std::alloc::{AllocError, Global};
+
+// So many of the best plans of a kind are tried.
+const MOST_TRIED: usize = 3;
 
 // A plan by its place, and what it costs.
 #[derive(Clone, Copy)]
@@ -30,7 +32,7 @@ fn planner_options(options: ComputeOptions) -> Options {
     }
 }
 
-// The plans that fit, the best one first.
+// The best plans that fit, the best one first.
 fn choices(
     alloc: Global,
     plans: &[Plan],
@@ -47,43 +49,8 @@ fn choices(
         }
     }
     choices.sort_by_key(|choice| choice.cost)?;
+    choices.truncate(MOST_TRIED);
     Ok(choices)
-}
-
-// The circuit of a plan, if its gates compute the network.
-fn certified(
-    alloc: Global,
-    logic: &Logic,
-    extra: u8,
-    plans: &Plans,
-    plan: &Plan,
-) -> Result<Option<Circuit>, AllocError>
-    requires { line_count logic.now extra ≤ MOST_LINES }
-    ensures { IfOk result (λ o. IfSome o (IsComputedWithin logic.now (line_count logic.now extra))) }
-{
-    if plan.work > extra || plan.gates.len() > MOST_GATES {
-        return Ok(None);
-    }
-    let lines = logic.input_count() as u8 + logic.output_count() as u8 + plan.work;
-    if !all_fit(&plan.gates, lines) {
-        return Ok(None);
-    }
-    let (terms, recipes, outs) = (&plans.terms, &plans.recipes, &plans.outs);
-    if !computes(
-        alloc,
-        logic,
-        plan.work,
-        terms,
-        recipes,
-        outs,
-        &plan.gates,
-        &plan.numbers,
-    )? {
-        return Ok(None);
-    }
-    let gates = Vec::from_slice(alloc, &plan.gates)?;
-    let circuit = circuit_with(alloc, logic, plan.work, gates)?;
-    Ok(Some(circuit))
 }
 
 // The first circuit of some plans.
@@ -108,6 +75,25 @@ fn first_certified(
     Ok(None)
 }
 
+// The best circuit of plans, and the fewest work lines of one.
+fn best_of(
+    alloc: Global,
+    logic: &Logic,
+    extra: u8,
+    plans: &Plans,
+    goal: Goal,
+) -> Result<Found, AllocError>
+    requires { line_count logic.now extra ≤ MOST_LINES }
+    ensures { IfOk result (λ found.
+        IfSome found.circuit (IsComputedWithin logic.now (line_count logic.now extra))) }
+{
+    let least = plans.plans.first().map(|plan| plan.work);
+    let lines = logic.input_count() as u8 + logic.output_count() as u8;
+    let choices = choices(alloc, &plans.plans, lines, extra, goal)?;
+    let circuit = first_certified(alloc, logic, extra, plans, &choices)?;
+    Ok(Found { circuit, least })
+}
+
 /// The best circuit of a plan on at most so many work lines, and the fewest work lines of a plan.
 pub(crate) fn planned(
     alloc: Global,
@@ -119,10 +105,20 @@ pub(crate) fn planned(
     ensures { IfOk result (λ found.
         IfSome found.circuit (IsComputedWithin logic.now (line_count logic.now extra))) }
 {
-    let plans = plans(alloc, logic, planner_options(options))?;
-    let least = plans.plans.first().map(|plan| plan.work);
-    let lines = logic.input_count() as u8 + logic.output_count() as u8;
-    let choices = choices(alloc, &plans.plans, lines, extra, options.goal)?;
-    let circuit = first_certified(alloc, logic, extra, &plans, &choices)?;
-    Ok(Found { circuit, least })
+    let search = planner_options(options);
+    let few = fewer_plans(alloc, logic, search)?;
+    let Found {
+        circuit: one,
+        least: met,
+    } = best_of(alloc, logic, extra, &few, options.goal)?;
+    let all = plans(alloc, logic, search)?;
+    let Found {
+        circuit: other,
+        least,
+    } = best_of(alloc, logic, extra, &all, options.goal)?;
+    let is_other = is_better(alloc, options.goal, &other, &one)?;
+    Ok(Found {
+        circuit: if is_other { other } else { one },
+        least: fewer(met, least),
+    })
 }

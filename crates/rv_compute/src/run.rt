@@ -2,9 +2,9 @@
 ghost use Rattle.std.specs.Prelude.{◌≡◌, ◌≤◌, length, IfOk, IfSome, IsTrue};
 ghost use Rattle.rv_gate.specs.declared.circuit.TheConstants.{MOST_GATES};
 ghost use Rattle.rv_gate.specs.declared.word.TheConstants.{MOST_LINES};
-ghost use Rattle.rv_forms.specs.Computing.{Computes};
 ghost use Rattle.rv_compute.specs.Computed.{IsComputedWithin};
 ghost use Rattle.rv_compute.specs.inside.Held.{Stands, line_count};
+ghost use Rattle.rv_compute.specs.inside.Computing.{IsWith};
 ghost use Rattle.rv_compute.specs.inside.Blocks.{AreGates};
 ghost use Rattle.rv_compute.specs.inside.Own.{Ended};
 
@@ -89,7 +89,7 @@ fn run_steps(
     Ok(Some(work))
 }
 
-/// The circuit of gates that compute a network.
+/// The circuit of a network's lines with gates.
 pub(crate) fn circuit_with(
     alloc: Global,
     logic: &Logic,
@@ -99,8 +99,7 @@ pub(crate) fn circuit_with(
     requires lines { line_count logic.now extra ≤ MOST_LINES }
     requires few { length gates.items ≤ MOST_GATES }
     requires fit { AreGates (line_count logic.now extra) gates.items }
-    requires computes { Computes logic.now extra gates.items }
-    ensures { IfOk result (IsComputedWithin logic.now (line_count logic.now extra)) }
+    ensures { IfOk result (IsWith logic.now extra gates.items) }
 {
     let mut circuit = logic_lines(alloc, logic, extra)?;
     circuit.set_gates(gates);
@@ -119,7 +118,8 @@ pub(crate) fn circuit_of(
     requires ended { Ended logic.now extra gates.items }
     ensures { IfOk result (IsComputedWithin logic.now (line_count logic.now extra)) }
 {
-    circuit_with(alloc, logic, extra, gates)
+    let circuit = circuit_with(alloc, logic, extra, gates)?;
+    Ok(circuit)
 }
 
 // The circuit, if each line holds what is due.

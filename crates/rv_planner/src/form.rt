@@ -89,6 +89,15 @@ impl Form {
         form
     }
 
+    /// The columns that another form doesn't have, and the constant.
+    pub(crate) fn without(self, other: &Form) -> Form {
+        let mut form = self;
+        for place in 0..WORDS {
+            form.words[place] &= !other.words[place];
+        }
+        form
+    }
+
     /// The columns of either.
     pub(crate) fn either(self, other: Form) -> Form {
         let mut form = self;

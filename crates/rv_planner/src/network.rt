@@ -1,11 +1,29 @@
 // A logic network by products.
 use crate::chains::Chains;
 use crate::cover::push_node;
+use crate::fewer::fewer;
 use crate::form::Form;
 use crate::net::Net;
-use crate::signs::best_signs;
+use crate::signs::{best_signs, signed};
 use rv_blif::Logic;
 use std::alloc::{AllocError, Global};
+
+/// The outputs of a logic network by fewer products, as far as they are found.
+pub(crate) fn fewer_of(
+    alloc: Global,
+    logic: &Logic,
+    seed: u16,
+    effort: u32,
+) -> Result<Net, AllocError> {
+    let mut chains = Chains::new(alloc)?;
+    let plain = signed_net_of(alloc, logic, &mut chains, &[])?;
+    if plain.is_full {
+        return Ok(plain);
+    }
+    let few = fewer(alloc, &plain, seed, effort)?;
+    let signs = best_signs(alloc, &few)?;
+    signed(alloc, &few, &signs)
+}
 
 /// The products of a logic network.
 pub(crate) fn net_of(alloc: Global, logic: &Logic) -> Result<Net, AllocError> {

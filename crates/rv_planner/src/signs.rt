@@ -24,8 +24,8 @@ fn weight_of(net: &Net, needed: &Form) -> u32 {
     weight
 }
 
-// A form in which each product is a form.
-fn substituted(forms: &[Form], form: Form) -> Form {
+/// A form in which each product is a form.
+pub(crate) fn substituted(forms: &[Form], form: Form) -> Form {
     let mut sum = form.inputs_of();
     let mut rest = form.products();
     for _ in 0..MOST_PRODUCTS {
@@ -38,8 +38,8 @@ fn substituted(forms: &[Form], form: Form) -> Form {
     sum
 }
 
-// The same products with these signs.
-fn signed(alloc: Global, net: &Net, signs: &[u8]) -> Result<Net, AllocError> {
+/// The same products with these signs.
+pub(crate) fn signed(alloc: Global, net: &Net, signs: &[u8]) -> Result<Net, AllocError> {
     let mut made = Net::new(alloc, net.inputs);
     made.set_signs(signs)?;
     let mut forms = Vec::new(alloc);

@@ -1,7 +1,7 @@
 -- The circuit that was made is one of the network.
 use Rattle.std.proofs.Common.{◌≡◌, ℕ, ◌+◌, ◌<◌, ◌≤◌, List, length, get_or, sym, subst, ◌∙◌, ap, inl, inr, arith}
 use Rattle.std.proofs.lemmas.Bool.{cases_lt}
-use Rattle.std.specs.Prelude.{Option, All}
+use Rattle.std.specs.Prelude.{All}
 use Rattle.rv_gate.specs.Gate.{FitsIn, IsGate}
 use Rattle.rv_gate.specs.Circuit.{Cascade}
 use Rattle.rv_gate.specs.declared.gate.Shape.{Shape}
@@ -9,19 +9,15 @@ use Rattle.rv_blif.specs.Logic.{Logic}
 use Rattle.rv_forms.specs.Computing.{Computes}
 use Rattle.rv_compute.specs.Lines.{logic_lines}
 use Rattle.rv_compute.specs.Computed.{IsComputedWithin}
+use Rattle.rv_compute.specs.inside.Computing.{IsWith, with_gates}
 use Rattle.rv_compute.specs.inside.Held.{line_count}
 use Rattle.rv_compute.specs.inside.Blocks.{AreGates}
 use Rattle.rv_compute.proofs.Marks.{length-line_names}
 use Rattle.rv_compute.proofs.inside.Standing.{by_default}
 
-abbrev with_gates : Cascade → List Shape → Cascade
-with_gates c gates = record c { gates = gates }
-
-pub computed : (logic : Logic) (extra : ℕ) (c base : Cascade) (gates : List Shape)
-    → base ≡ logic_lines logic extra → c ≡ with_gates base gates → Computes logic extra gates
-    → IsComputedWithin logic (line_count logic extra) c
-computed logic extra c base gates eb ec computes =
-    let is : c ≡ with_gates (logic_lines logic extra) gates = ec ∙ ap (λ t. with_gates t gates) eb in
+pub computed : (logic : Logic) (extra : ℕ) (c : Cascade) (gates : List Shape) → IsWith logic extra gates c
+    → Computes logic extra gates → IsComputedWithin logic (line_count logic extra) c
+computed logic extra c gates is computes =
     let same : c.gates ≡ gates = ap (λ (t : Cascade). t.gates) is in
     let P : List Shape → Type 0 = λ g. Computes logic extra g in
     let all : Computes logic extra c.gates = subst P (sym same) computes in
@@ -37,6 +33,11 @@ computed logic extra c base gates eb ec computes =
           ∙ length-line_names (length logic.inputs) (length logic.outputs) extra in
           omega arith;
     }
+
+-- with more lines allowed
+pub within_more : (logic : Logic) (few many : ℕ) (c : Cascade) → few ≤ many → IsComputedWithin logic few c
+    → IsComputedWithin logic many c
+within_more logic few many c le h = record { computed = h.computed; few = (let e = h.few in omega arith) }
 
 pub valid_gates : (lines : ℕ) (gates : List Shape) → AreGates lines gates → All IsGate gates
 valid_gates lines gates are k d lt = (are k d lt).0

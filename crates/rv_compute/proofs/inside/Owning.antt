@@ -7,7 +7,7 @@ use Rattle.std.proofs.lemmas.Bool.{cases_eq, cases_lt, lt-ltb, le-ltb}
 use Rattle.std.proofs.lemmas.List.{get_or-map, length-map, take_all}
 use Rattle.std.proofs.lemmas.List.FromFn.{length-range_with_len, get_or-map-range_with_len}
 use Rattle.std.proofs.lemmas.List.Sums.{sum_by_more, sum_by-cons}
-use Rattle.std.proofs.lemmas.Option.{get_or_from_slice_get, slice_get_past}
+use Rattle.std.proofs.lemmas.Option.{get_or_from_slice_get}
 use Rattle.rv_gate.specs.declared.gate.Shape.{Shape}
 use Rattle.rv_blif.specs.Logic.{Logic, Node, Output, IsLogic, signal_count}
 use Rattle.rv_blif.specs.declared.product.Product.{Product}
@@ -18,7 +18,7 @@ use Rattle.rv_compute.specs.Bounds.{line_bound, node_bound, gate_bound}
 use Rattle.rv_compute.specs.inside.Places.{place_at, IsBeside, AreBeside, AreThere}
 use Rattle.rv_compute.specs.inside.Blocks.{Adds}
 use Rattle.rv_compute.specs.inside.Held.{held_at, due, Stands, IsFree, IsChange, IsPlaceFor, ArePlacesFor}
-use Rattle.rv_compute.specs.inside.Own.{own_line, own_place, own_places, word_bound, AddsNode, AddsOutput, Own, OwnBack, Ended}
+use Rattle.rv_compute.specs.inside.Own.{own_line, own_place, own_places, word_bound, AddsNode, AddsOutput, Own, OwnBack}
 use Rattle.rv_compute.proofs.inside.Adding.{few_append}
 use Rattle.rv_compute.proofs.inside.Signals.{place_line, read_first}
 use Rattle.rv_compute.proofs.inside.Standing.{place_within, stands_put, change_add, change_back, change_copy}

@@ -14,7 +14,7 @@ use Rattle.rv_compute.specs.declared.place.Place.{Place}
 use Rattle.rv_compute.specs.inside.Places.{place_at, AreRead}
 use Rattle.rv_compute.specs.inside.Sums.{sum_of, cover_value, IsSum, IsStart, PassesOn}
 use Rattle.rv_compute.specs.inside.Blocks.{Adds}
-use Rattle.rv_compute.specs.inside.Held.{held_value, held_at, put_in, line_count, Stands, IsFree, Tells, ArePlacesFor, IsChange, IsExchanged, IsPut, IsPutFor, IsSource}
+use Rattle.rv_compute.specs.inside.Held.{held_value, held_at, put_in, line_count, Stands, IsFree, Tells, ArePlacesFor, IsChange, IsExchanged, IsPutFor, IsSource}
 use Rattle.rv_compute.proofs.inside.Signals.{node_bit, start_bit, source_is}
 
 xor_self : (a b : Bool) → xor (xor a b) b ≡ a

@@ -1,7 +1,7 @@
 use Rattle.std.proofs.Common.{◌≡◌, length, ap, sym, ◌∙◌}
 use Rattle.rv_gate.specs.Circuit.{Cascade}
 use Rattle.rv_compute.specs.inside.Held.{line_count}
-use Rattle.rv_compute.proofs.inside.Computed.{computed, valid_gates, fit_gates}
+use Rattle.rv_compute.proofs.inside.Computed.{valid_gates, fit_gates}
 use Rattle.rv_compute.proofs.Marks.{length-line_names}
 use Rattle.rv_compute.proofs.run.circuit_with.Goals as goal
 
@@ -17,8 +17,3 @@ set_gates-requires-clause-fits c =
     ∙ length-line_names (length logic.inputs) (length logic.outputs) c.args.extra in
     fit_gates (line_count logic c.args.extra) (length c.in_ok-circuit.circuit.names) c.args.gates.items (sym lines)
     c.requires.fit
-
-pub returns : goal.returns
-returns c =
-    computed c.args.logic.now c.args.extra c.set_gates.new.self c.in_ok-circuit.circuit c.args.gates.items
-    c.in_ok-circuit.ensures c.set_gates.ensures c.requires.computes
