@@ -7,18 +7,13 @@ use std::alloc::Global;
 use std::process::Abort;
 
 mod costs;
-mod cubes;
 mod faults;
 mod files;
-mod gates;
 mod links;
-mod made;
 mod networks;
-mod permutations;
 mod plas;
 mod real_texts;
 mod simulation;
-mod templates;
 mod tokens;
 
 // It is so, by what is named. One small function, since what an assertion prints is dear to prove.
@@ -34,11 +29,6 @@ fn read<R: TextReader>(rt: &impl Abort, alloc: Global, text: &[u8]) -> Result<R:
         return Err(fault);
     }
     reader.finish()
-}
-
-// The first fault of a text.
-fn fault_of<R: TextReader>(rt: &impl Abort, alloc: Global, text: &[u8]) -> Option<R::Fault> {
-    read::<R>(rt, alloc, text).err()
 }
 
 // Adds a gate that is to fit.
