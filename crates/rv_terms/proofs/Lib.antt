@@ -1,0 +1,5 @@
+pub mod Products
+pub mod Parities
+pub mod Puts
+pub mod Totals
+pub mod Powers
