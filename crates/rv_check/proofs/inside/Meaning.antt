@@ -88,7 +88,7 @@ agrees_unless gates net number unbroken = grind (arith, word_of, amplitudes_diff
 differs_where : (gates : List Shape) (net : Network) (number : ℕ) → Breaks gates net number → difference_at gates net number ≡ Some number
 differs_where gates net number breaks = grind (arith, word_of, no_break)
 
-denotes_from_none : (gates : List Shape) (net : Network) → first_difference gates net ≡ None → Denotes net.lines net.ops (run gates)
+pub denotes_from_none : (gates : List Shape) (net : Network) → first_difference gates net ≡ None → Denotes net.lines net.ops (run gates)
 unfolding first_difference Denotes
 denotes_from_none gates net none x y lx ly =
     let word : word_of net.lines (number_of x) ≡ x = ap (λ n. word_of n (number_of x)) (sym lx) ∙ word_of-number_of x in
@@ -96,7 +96,7 @@ denotes_from_none gates net none x y lx ly =
     let at = none_at (difference_at gates net) 0 (2 ^ net.lines) (number_of x) none (omega arith) (omega arith) in
     amplitudes_agree net.ops x (run gates x) (subst (λ w. agrees net.ops w (run gates w) ≡ true) word (none_true _ (number_of x) at)) y (ly ∙ sym lx)
 
-none_from_denotes : (gates : List Shape) (net : Network) → Denotes net.lines net.ops (run gates) → first_difference gates net ≡ None
+pub none_from_denotes : (gates : List Shape) (net : Network) → Denotes net.lines net.ops (run gates) → first_difference gates net ≡ None
 unfolding first_difference Denotes
 none_from_denotes gates net denotes = grind (arith, none_first, difference_at, agrees_unless, word_of, length-word_of)
 

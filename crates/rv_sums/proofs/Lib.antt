@@ -1,0 +1,5 @@
+pub mod Findings
+pub mod Turns
+pub mod Sums
+pub mod Paths
+pub mod inside

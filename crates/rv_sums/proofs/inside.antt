@@ -1,0 +1,6 @@
+pub mod States
+pub mod Moves
+pub mod Shorter
+pub mod Gates
+pub mod Ends
+pub mod Words

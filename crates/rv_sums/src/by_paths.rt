@@ -1,0 +1,131 @@
+ghost use Rattle.std.specs.Prelude.{◌≡◌, length, IfOk, IfSome, IsTrue};
+ghost use Rattle.rv_gate.specs.Gate.{run};
+ghost use Rattle.rv_net.specs.Denotes.{Denotes};
+ghost use Rattle.rv_sums.specs.Finding.{IsRight, IsUndecided};
+ghost use Rattle.rv_sums.specs.declared.finding.Finding.TheVariants.{Differs};
+
+use crate::Finding;
+use crate::differs::differs;
+use crate::fault::PathFault;
+use crate::same::{flips, is_same};
+use crate::suspects::suspects;
+use rv_gate::{Circuit, MOST_LINES, Word};
+use rv_net::Net;
+use std::alloc::{AllocError, Global};
+
+/// The most terms of a sum that is followed.
+pub const MOST_TERMS: usize = 100_000;
+
+/// The most steps of a check: a step is a term that is touched.
+pub const MOST_STEPS: u64 = 4_000_000_000;
+
+/// How many words are tried by themselves.
+const MOST_WORDS: u8 = 24;
+
+// What a fault finds.
+fn finding_of(fault: PathFault) -> Result<Finding, AllocError>
+    ensures { IfOk result IsUndecided }
+{
+    match fault {
+        PathFault::Terms => Ok(Finding::Terms),
+        PathFault::Steps => Ok(Finding::Steps),
+        PathFault::Paths => Ok(Finding::Paths(64)),
+        PathFault::Mem => Err(AllocError),
+    }
+}
+
+// Whether the sum over all words is that of each word to itself.
+fn are_same(alloc: Global, circuit: &Circuit, net: &Net) -> Result<bool, PathFault>
+    requires { length circuit.now.names ≡ net.now.lines }
+    ensures { IfOk result (λ same. IsTrue same → Denotes net.now.lines net.now.ops (run circuit.now.gates)) }
+{
+    let flips = flips(alloc, circuit)?;
+    let lines = net.lines();
+    let same = is_same(alloc, lines, net.ops(), &flips)?;
+    Ok(same)
+}
+
+// Whether the network differs at the word with this number, as the sum from this word shows.
+fn differs_at(alloc: Global, circuit: &Circuit, net: &Net, number: u64) -> Result<bool, AllocError>
+    requires { length circuit.now.names ≡ net.now.lines }
+    ensures { IfOk result (λ differs. IsTrue differs → IsRight circuit.now net.now (Differs number)) }
+{
+    let lines = net.lines();
+    let Some(word) = Word::new(lines, number) else {
+        return Ok(false);
+    };
+    let image = circuit.run(word);
+    match differs(alloc, word, image, net.ops()) {
+        Ok(differs) => Ok(differs),
+        Err(PathFault::Mem) => Err(AllocError),
+        Err(_) => Ok(false),
+    }
+}
+
+// Tries some words: none 1, all 1, and others.
+fn try_words(alloc: Global, circuit: &Circuit, net: &Net) -> Result<Option<u64>, AllocError>
+    requires { length circuit.now.names ≡ net.now.lines }
+    ensures { IfOk result (λ o. IfSome o (λ number. IsRight circuit.now net.now (Differs number))) }
+{
+    let all = u64::MAX >> (MOST_LINES - net.lines());
+    let mut number: u64 = 0;
+    let mut random: u64 = 0x9e37_79b9_7f4a_7c15;
+    'words: for _ in 0..MOST_WORDS {
+        let found = differs_at(alloc, circuit, net, number)?;
+        if found {
+            return Ok(Some(number));
+        }
+        number = if number == 0 { all } else { random & all };
+        random = random
+            .wrapping_mul(6_364_136_223_846_793_005)
+            .wrapping_add(1_442_695_040_888_963_407);
+    }
+    Ok(None)
+}
+
+// Tries the words at which what is left of the sum shows that they may differ.
+fn try_suspects(alloc: Global, circuit: &Circuit, net: &Net) -> Result<Option<u64>, PathFault>
+    requires { length circuit.now.names ≡ net.now.lines }
+    ensures { IfOk result (λ o. IfSome o (λ number. IsRight circuit.now net.now (Differs number))) }
+{
+    let flips = flips(alloc, circuit)?;
+    let lines = net.lines();
+    let suspects = suspects(alloc, lines, net.ops(), &flips)?;
+    for number in &suspects {
+        let found = differs_at(alloc, circuit, net, *number)?;
+        if found {
+            return Ok(Some(*number));
+        }
+    }
+    Ok(None)
+}
+
+// What is found where the sum over all words is another one.
+fn other_sum(alloc: Global, circuit: &Circuit, net: &Net) -> Result<Finding, AllocError>
+    requires { length circuit.now.names ≡ net.now.lines }
+    ensures { IfOk result (IsRight circuit.now net.now) }
+{
+    match try_suspects(alloc, circuit, net) {
+        Ok(Some(number)) => Ok(Finding::Differs(number)),
+        Ok(None) => Ok(Finding::Paths(0)),
+        Err(fault) => finding_of(fault),
+    }
+}
+
+/// Checks whether a network denotes a circuit's run, exactly, by a sum over paths. The marks of the circuit aren't
+/// looked at.
+///
+/// First some words are tried by themselves, then the sum over all words, and then words that it leads to.
+pub fn check_by_paths(alloc: Global, circuit: &Circuit, net: &Net) -> Result<Finding, AllocError>
+    requires { length circuit.now.names ≡ net.now.lines }
+    ensures { IfOk result (IsRight circuit.now net.now) }
+{
+    if let Some(number) = try_words(alloc, circuit, net)? {
+        return Ok(Finding::Differs(number));
+    }
+    match are_same(alloc, circuit, net) {
+        Ok(true) => Ok(Finding::Same),
+        Ok(false) => other_sum(alloc, circuit, net),
+        Err(fault) => finding_of(fault),
+    }
+}

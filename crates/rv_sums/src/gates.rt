@@ -1,0 +1,95 @@
+// Flips of the circuit, taken into the sums: they are over the circuit's word after them.
+ghost use Rattle.std.specs.Prelude.{◌≡◌, ◌<◌, ◌≤◌, ◌∷◌, ◌&&◌, List, Bool, [], length, IfOk, IsFalse};
+ghost use Rattle.rv_gate.specs.Gate.{IsFlipOn, holds, same};
+ghost use Rattle.rv_gate.specs.Word.{bit_of, has};
+ghost use Rattle.rv_gate.specs.declared.gate.Shape.TheVariants.{Flip};
+ghost use Rattle.rv_gate.specs.declared.word.TheConstants.{MOST_LINES};
+ghost use Rattle.rv_terms.specs.Products.{odd};
+ghost use Rattle.rv_sums.specs.inside.State.{AreTurned, Leads};
+
+use crate::fault::PathFault;
+use crate::path_sum::{PathSum, always};
+use rv_gate::{Gate, LineSet, MOST_LINES, Shape, has};
+use rv_terms::{Product, Sum};
+use std::alloc::Global;
+
+// A sum where a line has the wanted bit, else 0.
+fn under(alloc: Global, sum: &Sum, line: u8, wanted: bool) -> Result<Sum, PathFault>
+    requires { line < MOST_LINES }
+    ensures { IfOk result (λ made. (x v : List Bool)
+        → odd made x v ≡ (same (bit_of x line) wanted && odd sum.now x v)) }
+{
+    let product = Product::of_line(line);
+    if wanted {
+        let made = sum.scaled(alloc, product)?;
+        return Ok(made);
+    }
+    let mut factor = always(alloc)?;
+    factor.add(product)?;
+    let made = factor.times(alloc, sum)?;
+    Ok(made)
+}
+
+// Where controls hold.
+fn holding(alloc: Global, lines: u8, care: LineSet, want: LineSet) -> Result<Sum, PathFault>
+    requires { lines ≤ MOST_LINES }
+    ensures { IfOk result (λ sum. (x v : List Bool) → length x ≡ lines → odd sum x v ≡ holds care want x) }
+{
+    let mut sum = always(alloc)?;
+    for line in 0..lines {
+        if has(care, line) {
+            sum = under(alloc, &sum, line, has(want, line))?;
+        }
+    }
+    Ok(sum)
+}
+
+// Sums in which another one stands for a line.
+fn turn_all(alloc: Global, sums: &[Sum], line: u8, with: &Sum) -> Result<Vec<Sum>, PathFault>
+    requires { line < MOST_LINES }
+    ensures { IfOk result (λ made. AreTurned line with.now sums.now made.items) }
+{
+    let mut made = Vec::new(alloc);
+    for sum in sums {
+        let next = sum.replaced_line(alloc, line, with)?;
+        made.push(next)?;
+    }
+    Ok(made)
+}
+
+impl PathSum {
+    fn put_flip(
+        &mut self,
+        alloc: Global,
+        care: LineSet,
+        want: LineSet,
+        target: u8,
+    ) -> Result<(), PathFault>
+        requires few { length self.old.sums.items ≤ MOST_LINES }
+        requires target { target < length self.old.sums.items }
+        requires free { IsFalse (has care target) }
+        ensures { IfOk result (λ _. Leads [] (Flip care want target ∷ []) self.old self.new) }
+    {
+        let lines = self.sums.len() as u8;
+        let mut with = holding(alloc, lines, care, want)?;
+        let product = Product::of_line(target);
+        with.add(product)?;
+        let sums = turn_all(alloc, &self.sums, target, &with)?;
+        let phases = self.phases.replaced_line(alloc, target, &with)?;
+        self.sums = sums;
+        self.phases = phases;
+        Ok(())
+    }
+
+    // One flip of the circuit more.
+    pub(crate) fn take_flip(&mut self, alloc: Global, gate: Gate) -> Result<(), PathFault>
+        requires few { length self.old.sums.items ≤ MOST_LINES }
+        requires flip { IsFlipOn (length self.old.sums.items) gate }
+        ensures { IfOk result (λ _. Leads [] (gate ∷ []) self.old self.new) }
+    {
+        match gate.shape() {
+            Shape::Flip { care, want, target } => self.put_flip(alloc, care, want, target),
+            Shape::Swap { .. } | Shape::Peres { .. } => unreachable!(),
+        }
+    }
+}

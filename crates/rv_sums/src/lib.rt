@@ -1,0 +1,18 @@
+//! A network checked against a circuit by sums over paths.
+#![tactic(auto)]
+
+mod by_paths;
+mod differs;
+mod fault;
+mod finding;
+mod following;
+mod free;
+mod gates;
+mod moving;
+mod path_sum;
+mod same;
+mod shorter;
+mod suspects;
+
+pub use by_paths::{MOST_STEPS, MOST_TERMS, check_by_paths};
+pub use finding::Finding;
