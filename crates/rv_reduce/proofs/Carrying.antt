@@ -8,7 +8,7 @@ use Rattle.rv_net.specs.Denotes.{Carries, Denotes, amplitude_of_map}
 use Rattle.rv_net.specs.Op.{Network}
 use Rattle.rv_net.specs.declared.op.Op.{Op}
 use Rattle.rv_net.proofs.Cyclotomic.{root2_twice, halved, doubled-nought}
-use Rattle.rv_pairs.specs.Cancelled.{Keeps}
+use Rattle.rv_reduce.specs.ByGoal.{KeepsAmplitudes}
 
 undoubled : (k : ℕ) (u v : Cyclotomic) → doubled k u ≡ doubled k v → u ≡ v
 unfolding doubled
@@ -29,12 +29,12 @@ module _ (ops fewer : List Op) (k : ℕ) (hadamards : count_h ops ≡ count_h fe
       by true = ap (power root2) hadamards ∙ roots (count_h fewer) k
       by false = sym (doubled-nought k)
 
-pub keeps-denotes : (net result : Network) → Keeps net result → (map : List Bool → List Bool) → Denotes net.lines net.ops map → Denotes net.lines result.ops map
+pub keeps-denotes : (net result : Network) → KeepsAmplitudes net result → (map : List Bool → List Bool) → Denotes net.lines net.ops map → Denotes net.lines result.ops map
 unfolding Denotes
 keeps-denotes net result keeps map denotes = λ x y x_len y_len.
     undoubled keeps.pairs _ _ (sym (keeps.amplitudes x y x_len) ∙ denotes x y x_len y_len ∙ mapped net.ops result.ops keeps.pairs keeps.hadamards (map x) y)
 
-pub keeps-carries : (net result : Network) → Keeps net result → (aux : Aux) (n extra : ℕ) (map : List Bool → List Bool) → n + extra ≡ net.lines
+pub keeps-carries : (net result : Network) → KeepsAmplitudes net result → (aux : Aux) (n extra : ℕ) (map : List Bool → List Bool) → n + extra ≡ net.lines
     → Carries aux n extra net.ops map → Carries aux n extra result.ops map
 unfolding Carries
 keeps-carries net result keeps aux n extra map wide carries = λ word held y word_len held_len may y_len.

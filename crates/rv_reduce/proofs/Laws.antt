@@ -5,6 +5,7 @@ use Rattle.rv_net.specs.Op.{Network}
 use Rattle.rv_fold.specs.Folded.{IsFoldingOf}
 use Rattle.rv_pairs.specs.Cancelled.{IsCancellingOf, IsPair, Keeps}
 use Rattle.rv_turns.specs.Joined.{IsJoiningOf}
+use Rattle.rv_reduce.specs.ByGoal.{KeepsAmplitudes}
 use Rattle.rv_reduce.specs.Reduced.{IsReductionOf}
 use Rattle.rv_reduce.proofs.Carrying.{keeps-carries, keeps-denotes}
 use Rattle.rv_net.proofs.Cyclotomic.{doubled-more, doubled-none}
@@ -46,9 +47,19 @@ joining-keeps net result j = record {
   three_lines = j.three_lines;
 }
 
+pub amplitudes-kept : (net result : Network) → Keeps net result → KeepsAmplitudes net result
+amplitudes-kept net result keeps = record {
+  pairs = keeps.pairs;
+  lines = keeps.lines;
+  valid = keeps.valid;
+  amplitudes = keeps.amplitudes;
+  hadamards = keeps.hadamards;
+}
+
 reduction : (net result : Network) → Keeps net result → ¬ IsPair result.ops → IsReductionOf net result
 reduction net result keeps settled =
-    record { keeps = keeps; settled = settled; denotes = keeps-denotes net result keeps; carries = keeps-carries net result keeps }
+    let kept = amplitudes-kept net result keeps in
+    record { keeps = keeps; settled = settled; denotes = keeps-denotes net result kept; carries = keeps-carries net result kept }
 
 pub cancelling-reduces : (net result : Network) → IsCancellingOf net result → IsReductionOf net result
 cancelling-reduces net result c = reduction net result c.keeps c.settled

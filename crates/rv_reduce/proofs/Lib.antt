@@ -1,2 +1,4 @@
 pub mod Carrying
 pub mod Laws
+pub mod ByGoal
+pub mod Standing

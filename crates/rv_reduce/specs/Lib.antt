@@ -1,1 +1,4 @@
 pub mod Reduced
+pub mod Cnots
+pub mod ByGoal
+pub mod StandsFor

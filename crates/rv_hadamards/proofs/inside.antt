@@ -1,0 +1,2 @@
+-- What is proved of the steps of the code.
+pub mod Waiting

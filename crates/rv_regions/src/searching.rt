@@ -1,0 +1,219 @@
+use crate::absorb::absorb;
+use crate::complete::complete;
+use crate::flow::{Flow, flow_of};
+use crate::polish::Polish;
+use crate::table::table_of;
+use crate::todd::Lowering;
+use crate::writing::written;
+use rv_net::Op;
+use std::alloc::{AllocError, Global};
+
+/// What there is to be less of.
+#[derive(Clone, Copy, Debug, PartialEq, Eq)]
+pub enum Goal {
+    /// `T` first, then `Cx`.
+    T,
+    /// `Cx`, with no more `T`.
+    Cx,
+}
+
+// So many operations are looked at together.
+const PIECE: usize = 4096;
+
+// Networks of fewer flips have as many windows as if they had so many.
+const FEW_FLIPS: usize = 256;
+
+// So often a short network is begun at the most.
+const MOST_STARTS: usize = 16;
+
+// So often it is gone on from what was found.
+const MOST_ROUNDS: usize = 4;
+
+fn has_three_lines(op: Op) -> bool {
+    match op {
+        Op::Ccx(_, _, _) | Op::Cswap(_, _, _) => true,
+        _ => false,
+    }
+}
+
+fn is_t(op: Op) -> bool {
+    match op {
+        Op::T(_) | Op::Tdg(_) => true,
+        _ => false,
+    }
+}
+
+fn price(op: Op) -> usize {
+    match op {
+        Op::Cx(_, _) | Op::Cz(_, _) => 1,
+        Op::Swap(_, _) => 3,
+        _ => 0,
+    }
+}
+
+// How many T, and what the operations on two lines cost.
+fn cost(ops: &[Op]) -> (usize, usize) {
+    let (mut turns, mut pairs) = (0usize, 0usize);
+    for op in ops {
+        turns = turns.wrapping_add(usize::from(is_t(*op)));
+        pairs = pairs.wrapping_add(price(*op));
+    }
+    (turns, pairs)
+}
+
+// Whether operations are better than others.
+fn is_better(ops: &[Op], others: &[Op]) -> bool {
+    let (new, old) = (cost(ops), cost(others));
+    new.0 < old.0 || new.0 == old.0 && new.1 < old.1
+}
+
+// Work on so many words for each T and effort, in a network of one piece.
+const WORDS: usize = 1 << 17;
+
+// What a search may take: how often a network is begun, times its operations; how many windows there are for each flip;
+// how many searches for fewer odd terms, and how many words these may work on for each of them.
+#[derive(Clone, Copy)]
+struct Effort {
+    starts: usize,
+    windows: usize,
+    searches: usize,
+    words: usize,
+    seed: u64,
+}
+
+// For a network of so many pieces. Sums that are new to the lines take more windows.
+fn effort_of(goal: Goal, effort: usize, pieces: usize, seed: u64) -> Effort {
+    let is_one = pieces <= 1;
+    match goal {
+        Goal::T => Effort {
+            starts: 1024,
+            windows: effort.saturating_mul(if is_one { 4 } else { 1 }),
+            searches: effort.saturating_mul(2),
+            words: effort.saturating_mul(WORDS) / pieces.max(1),
+            seed,
+        },
+        Goal::Cx => Effort {
+            starts: 4096,
+            windows: effort,
+            searches: 0,
+            words: 0,
+            seed,
+        },
+    }
+}
+
+// The best of several searches for fewer odd terms, as far as the work that is allowed leads.
+fn lower(alloc: Global, flow: &mut Flow, effort: Effort) -> Result<(), AllocError> {
+    let first = flow.terms.clone()?;
+    let mut best = flow.terms.clone()?;
+    let mut least = flow.odd_weight();
+    let mut left = effort.words.saturating_mul(flow.odd_count());
+    for number in 0..effort.searches {
+        if left == 0 {
+            break;
+        }
+        flow.set_terms(&first)?;
+        let seed = effort.seed.wrapping_mul(1009).wrapping_add(number as u64);
+        let mut lowering = Lowering::new(alloc, flow.lines, seed, left)?;
+        lowering.run(alloc, flow)?;
+        left = lowering.left();
+        if flow.odd_weight() < least {
+            least = flow.odd_weight();
+            best = flow.terms.clone()?;
+        }
+    }
+    flow.set_terms(&best)
+}
+
+fn reworked(
+    alloc: Global,
+    lines: usize,
+    ops: &[Op],
+    effort: Effort,
+) -> Result<Option<Vec<Op>>, AllocError> {
+    let (mut flow, plan) = flow_of(alloc, lines, ops)?;
+    lower(alloc, &mut flow, effort)?;
+    let table = table_of(alloc, &flow)?;
+    absorb(alloc, &mut flow, &table, effort.seed)?;
+    let table = table_of(alloc, &flow)?;
+    let plan = complete(alloc, &flow, &table, plan)?;
+    let rounds = plan.len().max(FEW_FLIPS).saturating_mul(effort.windows);
+    let mut polish = Polish::new(alloc, &flow, &table, plan, effort.seed)?;
+    polish.run(&flow, &table, rounds)?;
+    let plan = polish.into_plan();
+    written(alloc, &flow, &table, &plan)
+}
+
+// Goes on in rounds, each from what the one before found.
+fn in_rounds(
+    alloc: Global,
+    lines: usize,
+    ops: &[Op],
+    effort: Effort,
+) -> Result<Vec<Op>, AllocError> {
+    let mut best = ops.to_vec(alloc)?;
+    let mut effort = effort;
+    for _ in 0..MOST_ROUNDS {
+        match reworked(alloc, lines, &best, effort)? {
+            Some(other) if is_better(&other, &best) => best = other,
+            _ => return Ok(best),
+        }
+        effort.searches = 0;
+        effort.seed = effort.seed.wrapping_add(1);
+    }
+    Ok(best)
+}
+
+// The best of some starts: the more, the fewer operations there are.
+fn improved(
+    alloc: Global,
+    lines: usize,
+    ops: &[Op],
+    effort: Effort,
+) -> Result<Vec<Op>, AllocError> {
+    let starts = (effort.starts / ops.len().max(1)).clamp(1, MOST_STARTS);
+    let mut best = ops.to_vec(alloc)?;
+    let mut effort = effort;
+    effort.searches = effort.searches.saturating_add(starts.saturating_sub(1)) / starts.max(1);
+    effort.words = effort.words / starts.max(1);
+    for _ in 0..starts {
+        let found = in_rounds(alloc, lines, ops, effort)?;
+        if is_better(&found, &best) {
+            best = found;
+        }
+        effort.seed = effort.seed.wrapping_add(101);
+    }
+    Ok(best)
+}
+
+fn append(list: &mut Vec<Op>, ops: &[Op]) -> Result<(), AllocError> {
+    for op in ops {
+        list.push(*op)?;
+    }
+    Ok(())
+}
+
+/// A network on so many lines with fewer `T` or `Cx`, if one is found; else these operations.
+///
+/// The effort is about how many windows are searched for each `Cx`; the same arguments find the same network.
+pub fn fewer(
+    alloc: Global,
+    lines: u8,
+    ops: &[Op],
+    goal: Goal,
+    effort: u16,
+    seed: u16,
+) -> Result<Vec<Op>, AllocError> {
+    let mut list = Vec::new(alloc);
+    if lines > 64 || ops.iter().any(|op| has_three_lines(*op)) {
+        append(&mut list, ops)?;
+        return Ok(list);
+    }
+    let pieces = (ops.len() / PIECE).saturating_add(1);
+    let effort = effort_of(goal, usize::from(effort), pieces, u64::from(seed));
+    for piece in ops.chunks(PIECE) {
+        let best = improved(alloc, usize::from(lines), piece, effort)?;
+        append(&mut list, &best)?;
+    }
+    Ok(list)
+}
