@@ -42,7 +42,7 @@ fn sum_columns(alloc: Global, a: &[u32], b: &[u32]) -> Result<Vec<u32>, AllocErr
 }
 
 /// The exclusive or of two forms.
-pub(crate) fn sum(alloc: Global, a: &Form, b: &Form) -> Result<Form, AllocError>
+pub fn sum(alloc: Global, a: &Form, b: &Form) -> Result<Form, AllocError>
     ensures { IfOk result (IsSum a.now b.now) }
 {
     let columns = sum_columns(alloc, &a.columns, &b.columns)?;
@@ -53,7 +53,7 @@ pub(crate) fn sum(alloc: Global, a: &Form, b: &Form) -> Result<Form, AllocError>
 }
 
 /// A form, and a constant.
-pub(crate) fn turned(alloc: Global, form: &Form, turn: bool) -> Result<Form, AllocError>
+pub fn turned(alloc: Global, form: &Form, turn: bool) -> Result<Form, AllocError>
     ensures { IfOk result (IsTurned form.now turn) }
 {
     let columns = Vec::from_slice(alloc, &form.columns)?;
@@ -64,7 +64,7 @@ pub(crate) fn turned(alloc: Global, form: &Form, turn: bool) -> Result<Form, All
 }
 
 /// No column.
-pub(crate) fn constant(alloc: Global, constant: bool) -> Form
+pub fn constant(alloc: Global, constant: bool) -> Form
     ensures columns { result.columns.items ≡ [] }
     ensures constant { result.constant ≡ constant }
 {
@@ -75,7 +75,7 @@ pub(crate) fn constant(alloc: Global, constant: bool) -> Form
 }
 
 /// One column.
-pub(crate) fn column(alloc: Global, column: u32) -> Result<Form, AllocError>
+pub fn column(alloc: Global, column: u32) -> Result<Form, AllocError>
     ensures columns { IfOk result (λ form. form.columns.items ≡ column ∷ []) }
     ensures constant { IfOk result (λ form. form.constant ≡ false) }
 {
@@ -87,14 +87,14 @@ pub(crate) fn column(alloc: Global, column: u32) -> Result<Form, AllocError>
 }
 
 /// Whether two forms have the same columns and constant.
-pub(crate) fn is_same(a: &Form, b: &Form) -> bool
+pub fn is_same(a: &Form, b: &Form) -> bool
     ensures { IsTrue result → AreSame a.now b.now }
 {
     a.constant == b.constant && a.columns[..] == b.columns[..]
 }
 
 /// Whether a form is this constant.
-pub(crate) fn is_constant(form: &Form, constant: bool) -> bool
+pub fn is_constant(form: &Form, constant: bool) -> bool
     ensures { IsTrue result → (bits : List Bool) → form_value bits form.now ≡ constant }
 {
     form.columns.is_empty() && form.constant == constant

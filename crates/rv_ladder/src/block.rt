@@ -114,7 +114,8 @@ fn add_long_borrowed(
     Ok(())
 }
 
-fn add_flip_net(
+/// Adds the network of a flip in a circuit of so many lines, to which so many were added.
+pub fn add_flip_net(
     ops: &mut Vec<Op>,
     aux: Aux,
     lines: u8,

@@ -10,4 +10,5 @@ mod flip;
 mod mapping;
 mod measuring;
 
+pub use block::add_flip_net;
 pub use mapping::{RelativeFault, relative};

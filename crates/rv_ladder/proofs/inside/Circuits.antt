@@ -43,11 +43,11 @@ abbrev pub Held : Aux → ℕ → ℕ → Word → Type 0
 Held Borrowed n extra x = HasLength (n + extra) x
 Held Clean n extra x = ZeroFrom n (n + extra) x
 
-held_length : (aux : Aux) (n extra : ℕ) (x : Word) → Held aux n extra x → length x ≡ n + extra
+pub held_length : (aux : Aux) (n extra : ℕ) (x : Word) → Held aux n extra x → length x ≡ n + extra
 held_length Borrowed n extra x h = h
 held_length Clean n extra x h = h.0
 
-held_set : (aux : Aux) (n extra : ℕ) (x : Word) (t : ℕ) (v : Bool) → t < n → Held aux n extra x → Held aux n extra (set x t v)
+pub held_set : (aux : Aux) (n extra : ℕ) (x : Word) (t : ℕ) (v : Bool) → t < n → Held aux n extra x → Held aux n extra (set x t v)
 held_set Borrowed n extra x t v lt h = length-set x t v ∙ h
 held_set Clean n extra x t v lt h = (length-set x t v ∙ h.0, λ z le. get_or-set_other x t z v false (λ e. omega arith) ∙ h.1 z le)
 
@@ -61,7 +61,7 @@ plain_fits m care want t is within lt plain =
     subst (All (λ o. OpFitsIn o m)) (append-nil (flip_ops (controls_of care want) t))
     (network_fits m (g ∷ []) (All-cons IsGate g [] is (All-nil IsGate), All-cons (λ h. FitsIn h m) g [] fits (All-nil (λ h. FitsIn h m)), All-cons IsPlain g [] plain (All-nil IsPlain)))
 
-runs_plain : (aux : Aux) (n extra care want t : ℕ) → n + extra ≤ 64 → IsFlipOn n (Flip care want t) → count_lines care ≤ 2 → Runs (Held aux n extra) (flip_ops (controls_of care want) t) (act (Flip care want t))
+pub runs_plain : (aux : Aux) (n extra care want t : ℕ) → n + extra ≤ 64 → IsFlipOn n (Flip care want t) → count_lines care ≤ 2 → Runs (Held aux n extra) (flip_ops (controls_of care want) t) (act (Flip care want t))
 runs_plain aux n extra care want t few own plain =
     let cs : List Control = controls_of care want in
     let all : ℕ = n + extra in
@@ -97,7 +97,7 @@ runs_long Borrowed n extra care want t r many =
           (runs_borrowed_net N care want t long (omega arith) ge)
     ]
 
-runs_flip : (aux : Aux) (n extra : ℕ) (g : Shape) → n + extra ≤ 64 → IsFlipOn n g → flip_wish aux n g ≤ extra → Runs (Held aux n extra) (flip_net aux n extra g) (act g)
+pub runs_flip : (aux : Aux) (n extra : ℕ) (g : Shape) → n + extra ≤ 64 → IsFlipOn n g → flip_wish aux n g ≤ extra → Runs (Held aux n extra) (flip_net aux n extra g) (act g)
 runs_flip aux n extra (Flip care want t) few own enough =
     elim (cases_lt (count_lines care) 3) [
       | inl lt ↦
@@ -110,20 +110,20 @@ runs_flip aux n extra (Flip care want t) few own enough =
 runs_flip aux n extra (Swap care want a b) few own enough = absurd (false≢true own.0)
 runs_flip aux n extra (Peres a b c) few own enough = absurd (false≢true own.0)
 
-held_act : (aux : Aux) (n extra : ℕ) (g : Shape) (x : Word) → IsFlipOn n g → Held aux n extra x → Held aux n extra (act g x)
+pub held_act : (aux : Aux) (n extra : ℕ) (g : Shape) (x : Word) → IsFlipOn n g → Held aux n extra x → Held aux n extra (act g x)
 held_act aux n extra (Flip care want t) x own h =
     let lt : t < n = fits_flip (Flip care want t) care want t n refl own.2 in
     subst (Held aux n extra) (sym (flip_if (holds care want x) x t)) (held_set aux n extra x t _ lt h)
 held_act aux n extra (Swap care want a b) x own h = absurd (false≢true own.0)
 held_act aux n extra (Peres a b c) x own h = absurd (false≢true own.0)
 
-held_run : (aux : Aux) (n extra : ℕ) (flips : List Shape) (x : Word) → Every (IsFlipOn n) flips → Held aux n extra x → Held aux n extra (run flips x)
+pub held_run : (aux : Aux) (n extra : ℕ) (flips : List Shape) (x : Word) → Every (IsFlipOn n) flips → Held aux n extra x → Held aux n extra (run flips x)
 held_run aux n extra [] x own h = h
 held_run aux n extra (g ∷ rest) x own h = held_run aux n extra rest (act g x) own.1 (held_act aux n extra g x own.0 h)
 
 -- ---- gates
 
-runs_none : (ok : Word → Type 0) → Runs ok [] (λ x. x)
+pub runs_none : (ok : Word → Type 0) → Runs ok [] (λ x. x)
 unfolding through doubled count_h
 runs_none ok = record { twos = 0; each = λ k x o. refl; counted = refl; fitting = λ x o. tt }
 
@@ -137,7 +137,7 @@ runs_flips aux n extra (g ∷ rest) few own enough =
     runs_then (Held aux n extra) (flip_net aux n extra g) (flat_map (flip_net aux n extra) rest) (act g) (run rest)
     (runs_flip aux n extra g few own.0 (omega arith)) (runs_flips aux n extra rest few own.1 (omega arith)) (λ x h. held_act aux n extra g x own.0 h)
 
-flips_are : (aux : Aux) (n extra : ℕ) (g : Shape) (x : Word) → IsGate g → FitsIn g n → Held aux n extra x → run (flips_of g) x ≡ act g x
+pub flips_are : (aux : Aux) (n extra : ℕ) (g : Shape) (x : Word) → IsGate g → FitsIn g n → Held aux n extra x → run (flips_of g) x ≡ act g x
 flips_are aux n extra g x is fits h = let e = held_length aux n extra x h in run_flips g x is (λ line on. let l : line < n = fits line on in omega (arith, e, l))
 
 runs_gate : (aux : Aux) (n extra : ℕ) (g : Shape) → n + extra ≤ 64 → IsGate g → FitsIn g n → wish aux n g ≤ extra → Runs (Held aux n extra) (gate_net aux n extra g) (act g)
@@ -179,7 +179,7 @@ none zero i = refl
 none (suc k) zero = refl
 none (suc k) (suc i) = none k i
 
-held_with : (aux : Aux) (n extra : ℕ) (word held : Word) → length word ≡ n → length held ≡ extra → MayHold aux held → Held aux n extra (word ++ held)
+pub held_with : (aux : Aux) (n extra : ℕ) (word held : Word) → length word ≡ n → length held ≡ extra → MayHold aux held → Held aux n extra (word ++ held)
 held_with Borrowed n extra word held lw lh may = length-append word held ∙ ap₂ (λ p q. p + q) lw lh
 held_with Clean n extra word held lw lh may = (
   length-append word held ∙ ap₂ (λ p q. p + q) lw lh,
@@ -198,28 +198,37 @@ gate_append n g word held few e is fits =
     ∙ flips_append n (flips_of g) word held e (flips_own g n few is fits)
     ∙ ap (λ w. w ++ held) (run_flips g word is (rw e fits))
 
-run_append : (n : ℕ) (gates : List Shape) (word held : Word) → n ≤ 64 → length word ≡ n → All IsGate gates → All (λ g. FitsIn g n) gates → run gates (word ++ held) ≡ run gates word ++ held
+pub run_append : (n : ℕ) (gates : List Shape) (word held : Word) → n ≤ 64 → length word ≡ n → All IsGate gates → All (λ g. FitsIn g n) gates → run gates (word ++ held) ≡ run gates word ++ held
 run_append n [] word held few e is fits = refl
 run_append n (g ∷ rest) word held few e is fits =
     ap (run rest) (gate_append n g word held few e (All-head IsGate g rest is) (All-head (λ h. FitsIn h n) g rest fits))
     ∙ run_append n rest (act g word) held few (length-act g word ∙ e) (All-tail IsGate g rest is) (All-tail (λ h. FitsIn h n) g rest fits)
 
--- the network carries the circuit, with whatever its added lines may hold
-pub carries_relative : (aux : Aux) (n extra : ℕ) (gates : List Shape) → n + extra ≤ 64 → All IsGate gates → All (λ g. FitsIn g n) gates → added aux n gates ≤ extra
-    → Carries aux n extra (relative_network aux n extra gates) (run gates)
+-- a network that moves words as a circuit does carries it, with whatever its added lines may hold
+pub carries_runs : (aux : Aux) (n extra : ℕ) (gates : List Shape) (ops : List Op) → n ≤ 64 → All IsGate gates → All (λ g. FitsIn g n) gates
+    → Runs (Held aux n extra) ops (run gates) → Carries aux n extra ops (run gates)
 unfolding Carries
-carries_relative aux n extra gates few is fits enough word held y lw lh may ly =
-    amplitudes (Held aux n extra) (relative_network aux n extra gates) (run gates) (word ++ held) y (runs_network aux n extra gates few is fits enough) (held_with aux n extra word held lw lh may)
-    ∙ ap (λ image. amplitude_of_map (relative_network aux n extra gates) image y) (run_append n gates word held (omega arith) lw is fits)
+carries_runs aux n extra gates ops few is fits runs word held y lw lh may ly =
+    amplitudes (Held aux n extra) ops (run gates) (word ++ held) y runs (held_with aux n extra word held lw lh may)
+    ∙ ap (λ image. amplitude_of_map ops image y) (run_append n gates word held few lw is fits)
 
 -- each of its operations fits
-pub network_fitting : (aux : Aux) (n extra : ℕ) (gates : List Shape) → n + extra ≤ 64 → All IsGate gates → All (λ g. FitsIn g n) gates → added aux n gates ≤ extra
-    → All (λ o. OpFitsIn o (n + extra)) (relative_network aux n extra gates)
-network_fitting aux n extra gates few is fits enough =
+pub runs_fitting : (aux : Aux) (n extra : ℕ) (ops : List Op) (p : Word → Word) → Runs (Held aux n extra) ops p → All (λ o. OpFitsIn o (n + extra)) ops
+runs_fitting aux n extra ops p runs =
     let x : Word = replicate (n + extra) false in
     let e : length x ≡ n + extra = length-replicate (n + extra) false in
-    fit_all (n + extra) (relative_network aux n extra gates) (subst (λ m. Fit m (relative_network aux n extra gates)) e ((runs_network aux n extra gates few is fits enough).fitting x (ok aux)))
+    fit_all (n + extra) ops (subst (λ m. Fit m ops) e (runs.fitting x (ok aux)))
   where
     ok : (a : Aux) → Held a n extra (replicate (n + extra) false)
     ok Borrowed = length-replicate (n + extra) false
     ok Clean = (length-replicate (n + extra) false, λ z le. none (n + extra) z)
+
+pub carries_relative : (aux : Aux) (n extra : ℕ) (gates : List Shape) → n + extra ≤ 64 → All IsGate gates → All (λ g. FitsIn g n) gates → added aux n gates ≤ extra
+    → Carries aux n extra (relative_network aux n extra gates) (run gates)
+carries_relative aux n extra gates few is fits enough =
+    carries_runs aux n extra gates (relative_network aux n extra gates) (omega arith) is fits (runs_network aux n extra gates few is fits enough)
+
+pub network_fitting : (aux : Aux) (n extra : ℕ) (gates : List Shape) → n + extra ≤ 64 → All IsGate gates → All (λ g. FitsIn g n) gates → added aux n gates ≤ extra
+    → All (λ o. OpFitsIn o (n + extra)) (relative_network aux n extra gates)
+network_fitting aux n extra gates few is fits enough =
+    runs_fitting aux n extra (relative_network aux n extra gates) (run gates) (runs_network aux n extra gates few is fits enough)

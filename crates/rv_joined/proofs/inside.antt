@@ -1,0 +1,7 @@
+-- What is proved of the states that the code alone keeps.
+pub mod Powers
+pub mod Halves
+pub mod Cores
+pub mod Phases
+pub mod Joins
+pub mod Whole

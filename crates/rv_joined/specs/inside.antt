@@ -1,0 +1,3 @@
+-- What the code alone keeps.
+pub mod Slots
+pub mod Brings
