@@ -23,7 +23,7 @@ use Rattle.rv_inputs.proofs.Contained.{content-long, content-short, texts_of-giv
 use Rattle.rv_cmd.specs.Commands.{row_for}
 use Rattle.rv_cmd.specs.Commands.Simulate.{IsWordFor, answered_by, simulate_row, simulated, words_end}
 use Rattle.rv_cmd.specs.Limits.{AreKept, Report, found_within, within}
-use Rattle.rv_cmd.specs.Row.{Accepts, AcceptsBy, End, IsAccepted, IsReadsFirst, ReadsFirst, Row, answers_as_it_reads, as_report, as_unmade, end_of, ended, finds, none, one, reads_first, report_by, two}
+use Rattle.rv_cmd.specs.Row.{Accepts, AcceptsBy, End, IsAccepted, IsReadsFirst, ReadsFirst, Row, answers_as_it_reads, as_report, as_unmade, end_of, ended, finds, none, one, reads_first, report_by, tells, two}
 use Rattle.rv_cmd.proofs.inside.Limits.{within-exact}
 
 -- ---- commands that read their inputs first
@@ -48,6 +48,11 @@ report-exact (two first second report differs Lacks Means) texts =
     denotes-exact first 0 (text_at texts 0) (λ x. at_input 1 (second (text_at texts 1)) >>= λ y. within (report x y) (differs x y))
     (λ x. DenotesWith second (text_at texts 1) (λ y. AreKept (report x y).limits))
     (λ x. denotes-exact second 1 (text_at texts 1) (λ y. within (report x y) (differs x y)) (λ y. AreKept (report x y).limits) (λ y. within-exact (report x y) (differs x y)))
+report-exact (tells first second limits differs Lacks Means) texts =
+    denotes-exact first 0 (text_at texts 0) (λ x. at_input 1 (second (text_at texts 1)) >>= λ y. within (found_within (limits x y) []) (differs x y))
+    (λ x. DenotesWith second (text_at texts 1) (λ y. AreKept (limits x y)))
+    (λ x. denotes-exact second 1 (text_at texts 1) (λ y. within (found_within (limits x y) []) (differs x y)) (λ y. AreKept (limits x y))
+    (λ y. within-exact (found_within (limits x y) []) (differs x y)))
 report-exact (finds form limits Lacks Means) texts =
     denotes-exact form 0 (text_at texts 0) (λ x. within (found_within (limits x) []) false) (λ x. AreKept (limits x)) (λ x. within-exact (found_within (limits x) []) false)
 

@@ -8,6 +8,7 @@ use Rattle.rv_words.specs.declared.asked.Settings.{Settings}
 use Rattle.rv_words.specs.declared.command.Command.{Command}
 use Rattle.rv_words.specs.declared.command.Command.TheVariants as command
 use Rattle.rv_words.specs.declared.command.Blocks.{Blocks}
+use Rattle.rv_words.specs.declared.command.Blocks.TheVariants as blocks
 use Rattle.rv_words.specs.declared.command.Form.{Form}
 use Rattle.rv_words.specs.declared.command.PictureForm.{PictureForm}
 use Rattle.rv_words.specs.declared.command.Goal.{Goal}
@@ -24,12 +25,14 @@ use Rattle.rv_cmd.specs.Commands.Cost.{cost_row}
 use Rattle.rv_cmd.specs.Commands.Draw.{draw_row}
 use Rattle.rv_cmd.specs.Commands.Esop.{esop_row}
 use Rattle.rv_cmd.specs.Commands.Flow.{flow_row, flow_synthesis}
+use Rattle.rv_cmd.specs.Commands.Map.{map_row}
 use Rattle.rv_cmd.specs.Commands.Realize.{realize_row}
+use Rattle.rv_cmd.specs.Commands.Reduce.{reduce_row}
 use Rattle.rv_cmd.specs.Commands.Simulate.{answered_by, simulated, words_end}
 use Rattle.rv_cmd.specs.Commands.Templates.{templates_row}
 use Rattle.rv_cmd.specs.Limits.{LimitedText, Report, first_refused, found_within, report_unless, within}
 use Rattle.rv_cmd.specs.Headline.{Compares, Performs, Scene}
-use Rattle.rv_cmd.specs.Row.{End, ReadsFirst, Row, answers_as_it_reads, as_report, as_unmade, ended, finds, none, one, outcome, reads_first, report_by, two}
+use Rattle.rv_cmd.specs.Row.{End, ReadsFirst, Row, answers_as_it_reads, as_report, as_unmade, ended, finds, none, one, outcome, reads_first, report_by, tells, two}
 
 abbrev pub IsAlike : End → Type 0
 IsAlike (Ok differs) = differs ≡ false
@@ -42,6 +45,7 @@ abbrev NeverDiffers : ReadsFirst → Type 0
 NeverDiffers (none text Means) = Unit {0}
 NeverDiffers (one format report Means) = Unit {0}
 NeverDiffers (finds format limits Lacks Means) = Unit {0}
+NeverDiffers (tells {X = X} {Y = Y} first second limits differs Lacks Means) = (x : X) (y : Y) → differs x y ≡ false
 NeverDiffers (two {X = X} {Y = Y} first second report differs Lacks Means) = (x : X) (y : Y) → differs x y ≡ false
 
 abbrev made_end : Result Report Refusal → End
@@ -65,6 +69,9 @@ made-alike (one format report Means) never found texts = read-alike (at_input 0 
 made-alike (two first second report differs Lacks Means) never found texts =
     read-alike (at_input 0 (first (text_at texts 0))) _ (λ x.
     read-alike (at_input 1 (second (text_at texts 1))) _ (λ y. within-alike (report x y) (differs x y) (never x y)))
+made-alike (tells first second limits differs Lacks Means) never found texts =
+    read-alike (at_input 0 (first (text_at texts 0))) _ (λ x.
+    read-alike (at_input 1 (second (text_at texts 1))) _ (λ y. within-alike (found_within (limits x y) found) (differs x y) (never x y)))
 made-alike (finds format limits Lacks Means) never found texts =
     read-alike (at_input 0 (format (text_at texts 0))) _ (λ x. within-alike (found_within (limits x) found) false refl)
 
@@ -79,13 +86,21 @@ templates_alike : (library : Option (List ℕ)) → NeverDiffers (templates_row 
 templates_alike None = tt
 templates_alike (Some name) = λ c given. refl
 
+map_alike : (by : Blocks) (aux : Aux) → NeverDiffers (map_row by aux)
+map_alike blocks.Joined aux = tt
+map_alike _ aux = tt
+
+reduce_alike : (goal : Option Goal) → NeverDiffers (reduce_row goal)
+reduce_alike None = tt
+reduce_alike (Some goal) = tt
+
 cost_alike : (origin : Form) → NeverDiffers (cost_row origin)
 cost_alike form.Qasm = tt
 cost_alike _ = tt
 
-flow_alike : (origin : Form) (method : Synthesis) (simplify : Bool) (blocks : Blocks) (aux : Aux) → NeverDiffers (flow_row origin method simplify blocks aux)
-flow_alike form.Perm method simplify blocks aux = tt
-flow_alike _ method simplify blocks aux = tt
+flow_alike : (origin : Form) (method : Synthesis) (simplify : Bool) (by : Blocks) (aux : Aux) → NeverDiffers (flow_row origin method simplify by aux)
+flow_alike form.Perm method simplify by aux = tt
+flow_alike _ method simplify by aux = tt
 
 realize_alike : (origin : Form) (most : ℕ) → NeverDiffers (realize_row origin most)
 realize_alike form.Perm most = tt
@@ -129,6 +144,8 @@ rows_alike command.Check settings other = absurd (other (inl refl))
 rows_alike command.Compare settings other = absurd (other (inr refl))
 rows_alike command.Simulate settings other = simulate_alike settings.all
 rows_alike command.Templates settings other = templates_alike settings.library
+rows_alike command.Map settings other = map_alike settings.blocks settings.aux
+rows_alike command.Reduce settings other = reduce_alike settings.goal
 rows_alike command.Cost settings other = cost_alike settings.origin
 rows_alike command.Draw settings other = draw_alike settings.origin settings.picture settings.wrap
 rows_alike command.Esop settings other = esop_alike settings.to settings.goal

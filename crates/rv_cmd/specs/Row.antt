@@ -1,4 +1,4 @@
--- What a command does with the contents of its inputs: a row of one of five kinds.
+-- What a command does with the contents of its inputs: a row of one of six kinds.
 use Rattle.std.specs.Prelude.{◌≡◌, ℕ, Bool, false, List, [], if◌then◌else◌, Result, Ok, Err}
 use Rattle.rv_io.specs.Files.{FilesView}
 use Rattle.rv_reader.specs.Rules.{◌>>=◌}
@@ -36,11 +36,14 @@ ended (Err fault) = record { text = []; end = Err fault }
 -- text with its limits that it makes of what they denote, and what that text means. Where there are two inputs the row
 -- also has whether the text says that they differ, so that only these rows can end with status 1, and the reasons for
 -- which it may end without a text where the limits are kept. A command that searches has limits, the reasons for which
--- its search may end without a text where they are kept, and the meaning: any text with it may be found.
+-- its search may end without a text where they are kept, and the meaning: any text with it may be found. A command that
+-- looks how its two inputs differ, by a search, has all of these.
 pub data ReadsFirst : Type 1 where
   none : List ℕ → (List ℕ → Type 0) → ReadsFirst
   one : {X : Type 0} → Format X → (X → LimitedText) → (X → List ℕ → Type 0) → ReadsFirst
   two : {X Y : Type 0} → Format X → Format Y → (X → Y → LimitedText) → (X → Y → Bool) → (X → Y → Refusal → Type 0)
+      → (X → Y → List ℕ → Type 0) → ReadsFirst
+  tells : {X Y : Type 0} → Format X → Format Y → (X → Y → List Limit) → (X → Y → Bool) → (X → Y → Refusal → Type 0)
       → (X → Y → List ℕ → Type 0) → ReadsFirst
   finds : {X : Type 0} → Format X → (X → List Limit) → (X → Refusal → Type 0) → (X → List ℕ → Type 0) → ReadsFirst
 
@@ -84,6 +87,9 @@ report_by (one format report Means) found texts = at_input 0 (format (text_at te
 report_by (two first second report differs Lacks Means) found texts =
     at_input 0 (first (text_at texts 0)) >>= λ x.
     (at_input 1 (second (text_at texts 1)) >>= λ y. within (report x y) (differs x y))
+report_by (tells first second limits differs Lacks Means) found texts =
+    at_input 0 (first (text_at texts 0)) >>= λ x.
+    (at_input 1 (second (text_at texts 1)) >>= λ y. within (found_within (limits x y) found) (differs x y))
 report_by (finds format limits Lacks Means) found texts =
     at_input 0 (format (text_at texts 0)) >>= λ x. within (found_within (limits x) found) false
 
@@ -114,6 +120,8 @@ MeansBy (none made Means) texts text = Means text
 MeansBy (one format report Means) texts text = DenotesWith format (text_at texts 0) (λ x. Means x text)
 MeansBy (two first second report differs Lacks Means) texts text =
     DenotesWith first (text_at texts 0) (λ x. DenotesWith second (text_at texts 1) (λ y. Means x y text))
+MeansBy (tells first second limits differs Lacks Means) texts text =
+    DenotesWith first (text_at texts 0) (λ x. DenotesWith second (text_at texts 1) (λ y. Means x y text))
 MeansBy (finds format limits Lacks Means) texts text = DenotesWith format (text_at texts 0) (λ x. Means x text)
 
 abbrev pub Means : Row → List (List ℕ) → List ℕ → Type 0
@@ -126,6 +134,8 @@ AcceptsBy (none made Means) texts = Unit {0}
 AcceptsBy (one format report Means) texts = DenotesWith format (text_at texts 0) (λ x. AreKept (report x).limits)
 AcceptsBy (two first second report differs Lacks Means) texts =
     DenotesWith first (text_at texts 0) (λ x. DenotesWith second (text_at texts 1) (λ y. AreKept (report x y).limits))
+AcceptsBy (tells first second limits differs Lacks Means) texts =
+    DenotesWith first (text_at texts 0) (λ x. DenotesWith second (text_at texts 1) (λ y. AreKept (limits x y)))
 AcceptsBy (finds format limits Lacks Means) texts = DenotesWith format (text_at texts 0) (λ x. AreKept (limits x))
 
 abbrev pub Accepts : Row → List (List ℕ) → Type 0
@@ -147,6 +157,9 @@ LacksBy (one format report Means) texts refused = ⊥
 LacksBy (two first second report differs Lacks Means) texts refused =
     DenotesWith first (text_at texts 0) (λ x.
     DenotesWith second (text_at texts 1) (λ y. AreKept (report x y).limits × Lacks x y refused))
+LacksBy (tells first second limits differs Lacks Means) texts refused =
+    DenotesWith first (text_at texts 0) (λ x.
+    DenotesWith second (text_at texts 1) (λ y. AreKept (limits x y) × Lacks x y refused))
 LacksBy (finds format limits Lacks Means) texts refused =
     DenotesWith format (text_at texts 0) (λ x. AreKept (limits x) × Lacks x refused)
 

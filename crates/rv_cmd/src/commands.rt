@@ -28,7 +28,7 @@ pub(crate) mod synth;
 pub(crate) mod templates;
 pub(crate) mod toreal;
 
-use crate::making::{found_of_one, of_one, of_two};
+use crate::making::of_one;
 use crate::product::Made;
 use rv_faults::Unmade;
 use rv_io::Files;
@@ -45,7 +45,7 @@ pub(crate) fn make<F: Files>(
     requires command { IsReadsFirst (row_of settings.now) }
     ensures { MakesBy (row_of settings.now) (names_read settings.now) (F.view files.old) (F.view files.new) result }
 {
-    let (aux, blocks) = (settings.aux, settings.blocks);
+    let aux = settings.aux;
     match settings.command {
         Command::Synth => {
             let method = synth::rows_method(settings.method);
@@ -55,15 +55,15 @@ pub(crate) fn make<F: Files>(
         Command::Esop => esop::esop(alloc, settings, files),
         Command::Templates => templates::templates(alloc, settings, files),
         Command::Decompose => of_one(alloc, settings, files, &decompose::Decompose { aux }),
-        Command::Map => of_one(alloc, settings, files, &map::Map { blocks, aux }),
+        Command::Map => map::map(alloc, settings, files),
         Command::Cost => cost::cost(alloc, settings, files),
         Command::Simulate => unreachable!(),
         Command::ToReal => of_one(alloc, settings, files, &toreal::ToReal),
         Command::Flow => flow::flow(alloc, settings, files),
         Command::Demo => demo::demo(alloc, settings.lines, settings.seed),
         Command::Fold => of_one(alloc, settings, files, &fold::Fold),
-        Command::Reduce => found_of_one(alloc, settings, files, &reduce::Reduce),
-        Command::Check => of_two(alloc, settings, files, &check::Check),
+        Command::Reduce => reduce::reduce(alloc, settings, files),
+        Command::Check => check::check(alloc, settings, files),
         Command::Single => of_one(alloc, settings, files, &single::Single),
         Command::Route => of_one(alloc, settings, files, &route::Route),
         Command::Draw => draw::draw(alloc, settings, files),

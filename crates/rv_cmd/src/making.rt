@@ -3,7 +3,7 @@ ghost use Rattle.std.specs.Prelude.{◌≡◌, ◌∷◌, ℕ, Bool, List, [], l
 ghost use Rattle.rv_inputs.specs.Formats.{format};
 ghost use Rattle.rv_cmd.specs.Limits.{Limit, LimitedText, found_within};
 ghost use Rattle.rv_cmd.specs.Names.{names_read};
-ghost use Rattle.rv_cmd.specs.Row.{always, finds, one, two};
+ghost use Rattle.rv_cmd.specs.Row.{always, finds, one, tells, two};
 ghost use Rattle.rv_cmd.specs.inside.Making.{Makes};
 ghost use Rattle.rv_cmd.specs.inside.Products.{IsProductOf, IsRefusalOf, IsUntoldOf, product_text};
 ghost use Rattle.rv_faults.specs.declared.fault.Refusal.{Refusal as AnyRefusal};
@@ -96,6 +96,41 @@ pub(crate) trait TwoInputs {
             (Lacks self.now first.now second.now)) };
 }
 
+/// A command that looks how its two inputs differ, by a search, with what its options ask for.
+pub(crate) trait TwoSearch {
+    /// The format of its first input.
+    type First: InputText;
+
+    /// The format of its second input.
+    type Second: InputText;
+
+    /// What has to hold before it writes.
+    ghost limits: { Self → Self.First.Object → Self.Second.Object → List Limit };
+
+    /// Whether the inputs differ.
+    ghost differs: { Self → Self.First.Object → Self.Second.Object → Bool };
+
+    /// Why there may be no report where the limits are kept.
+    ghost Lacks: { Self → Self.First.Object → Self.Second.Object → AnyRefusal → Type 0 };
+
+    /// What any text that it finds means.
+    ghost Means: { Self → Self.First.Object → Self.Second.Object → List ℕ → Type 0 };
+
+    /// Finds one.
+    fn tell(
+        &self,
+        alloc: Global,
+        first: &<Self::First as TextReader>::Object,
+        second: &<Self::Second as TextReader>::Object,
+    ) -> Result<Made, Refusal>
+        ensures made { IfOk result
+            (λ made. IsProductOf (found_within (limits self.now first.now second.now) (product_text made.product))
+            (Means self.now first.now second.now) made.product) }
+        ensures differs { IfOk result (λ made. made.differs ≡ differs self.now first.now second.now) }
+        ensures unmade { IfErr result (IsUntoldOf 2 (limits self.now first.now second.now)
+            (Lacks self.now first.now second.now)) };
+}
+
 // Reads the input of this name, and makes what the command makes of it.
 fn made_of_one<F: Files, C: OneInput>(
     alloc: Global,
@@ -156,6 +191,28 @@ fn found_for_one<F: Files, C: OneSearch>(
     }
 }
 
+// Reads the inputs of these names, and tells how they differ.
+fn told_for_two<F: Files, C: TwoSearch>(
+    alloc: Global,
+    first: &str,
+    second: &str,
+    files: &mut F,
+    command: &C,
+) -> Result<Made, Unmade>
+    ensures { Makes
+        (tells (format C.First.denoted C.First.why) (format C.Second.denoted C.Second.why) (C.limits command.now)
+        (C.differs command.now) (C.Lacks command.now) (C.Means command.now))
+        (first.now ∷ second.now ∷ []) (F.view files.old) (F.view files.new) result }
+{
+    match read_two::<F, C::First, C::Second>(alloc, first, second, files) {
+        Ok((object, other)) => match command.tell(alloc, &object, &other) {
+            Ok(made) => Ok(made),
+            Err(refusal) => Err(refusal.unmade()),
+        },
+        Err(unmade) => Err(unmade),
+    }
+}
+
 /// What a command makes of the only input that the arguments name.
 pub(crate) fn of_one<F: Files, C: OneInput>(
     alloc: Global,
@@ -198,6 +255,28 @@ pub(crate) fn of_two<F: Files, C: TwoInputs>(
         (names_read settings.now) (F.view files.old) (F.view files.new) result }
 {
     made_of_two(
+        alloc,
+        name_of(settings, 0),
+        name_of(settings, 1),
+        files,
+        command,
+    )
+}
+
+/// How the two inputs that the arguments name differ, by a search.
+pub(crate) fn told_of_two<F: Files, C: TwoSearch>(
+    alloc: Global,
+    settings: &Settings,
+    files: &mut F,
+    command: &C,
+) -> Result<Made, Unmade>
+    requires { length (names_read settings.now) ≡ 2 }
+    ensures { Makes
+        (tells (format C.First.denoted C.First.why) (format C.Second.denoted C.Second.why) (C.limits command.now)
+        (C.differs command.now) (C.Lacks command.now) (C.Means command.now))
+        (names_read settings.now) (F.view files.old) (F.view files.new) result }
+{
+    told_for_two(
         alloc,
         name_of(settings, 0),
         name_of(settings, 1),

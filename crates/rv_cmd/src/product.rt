@@ -2,7 +2,7 @@ ghost use Rattle.std.specs.Prelude.{◌≡◌};
 ghost use Rattle.rv_io.specs.Sink.{Sends};
 ghost use Rattle.rv_cmd.specs.inside.Products.{alike, product_text};
 
-use crate::commands::check::put_verdict;
+use crate::commands::check::{put_verdict, put_witness};
 use crate::commands::compare::put_comparison;
 use crate::commands::cost::{put_circuit_cost, put_net_cost};
 use crate::commands::demo::put_summary;
@@ -45,6 +45,8 @@ pub(crate) enum Product {
     Summary(Summary),
     /// Whether a network on so many lines does exactly what a circuit does.
     Verdict(u8, Verdict),
+    /// A word, by its number, at which a network on so many lines does not do what a circuit does.
+    Witness(u8, u64),
     /// What was found of a circuit with so many inputs, which was compared.
     Comparison(u8, Comparison),
     /// A circuit that is to be drawn, with so many gates in a block at the most, or 0 for one block.
@@ -100,6 +102,7 @@ impl Product {
             Product::NetCost(cost) => put_net_cost(cost, out),
             Product::Summary(summary) => put_summary(summary, out),
             Product::Verdict(lines, verdict) => put_verdict(*lines, *verdict, out),
+            Product::Witness(lines, word) => put_witness(*lines, *word, out),
             Product::Comparison(inputs, answer) => put_comparison(*inputs, *answer, out),
             Product::Drawing {
                 circuit,

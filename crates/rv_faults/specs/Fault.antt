@@ -10,6 +10,8 @@ use Rattle.rv_faults.specs.declared.fault.TextFormat.{TextFormat}
 use Rattle.rv_faults.specs.declared.fault.TextFormat.TheVariants.{Real, Permutation, Pla, Qasm, Blif, Words}
 use Rattle.rv_faults.specs.declared.fault.InputFault.{InputFault}
 use Rattle.rv_faults.specs.declared.fault.InputFault.TheVariants.{Text, WrongLength, OutOfRange, Repeated, Conflict, NotToffoli, NotIdentity, NotClassical, WideTemplate, LongTemplate, TooManyLines, TooManyGates, MoreGates, TooManyOps, LargeCoefficient, Undecided}
+use Rattle.rv_faults.specs.declared.fault.Measure.{Measure}
+use Rattle.rv_faults.specs.declared.fault.Measure.TheVariants.{Nodes, Terms, Steps, PathBits}
 use Rattle.rv_text.specs.declared.lines.TheConstants.{MOST_BYTES}
 use Rattle.rv_perm.specs.declared.perm.TheConstants.{MOST_PERM_LINES}
 use Rattle.rv_real.specs.Code as real
@@ -50,7 +52,7 @@ status_of_input (TooManyGates count most) = 5
 status_of_input (MoreGates most) = 5
 status_of_input (TooManyOps count most) = 5
 status_of_input (LargeCoefficient lines word place) = 5
-status_of_input (Undecided nodes) = 5
+status_of_input (Undecided count what) = 5
 
 abbrev pub status_of : Fault → ℕ
 status_of (CannotRead input) = 4
@@ -93,6 +95,13 @@ counted_to count what most = codes ": " ++ (decimal count ++ (what ++ decimal mo
 abbrev pub template_of : ℕ → List ℕ → ℕ → List ℕ
 template_of count what most = codes ": template of " ++ (decimal count ++ (what ++ decimal most))
 
+-- what a comparison that isn't decided counts
+abbrev pub measured : Measure → List ℕ
+measured Nodes = codes " nodes"
+measured Terms = codes " terms"
+measured Steps = codes " steps"
+measured PathBits = codes " path bits"
+
 -- what is said of an input after its name
 abbrev pub said_of : InputFault → List ℕ
 said_of (Text format line code) = at_line line (rule_of format code)
@@ -115,7 +124,7 @@ said_of (MoreGates most) = codes ": more than " ++ (decimal most ++ codes " gate
 said_of (TooManyOps count most) = counted_to count (codes " operations are more than ") most
 said_of (LargeCoefficient lines word place) =
     codes ": coefficient too large at operation " ++ (decimal place ++ (codes " for word " ++ bits_of lines word))
-said_of (Undecided nodes) = codes ": undecided with " ++ (decimal nodes ++ codes " nodes")
+said_of (Undecided count what) = codes ": undecided with " ++ (decimal count ++ measured what)
 
 -- the input that a fault is of, if it is of one
 abbrev pub input_of : Fault → ℕ

@@ -81,6 +81,19 @@ pub enum TextFormat {
     Words,
 }
 
+/// What a comparison that isn't decided counts.
+#[derive(Clone, Copy)]
+pub enum Measure {
+    /// Nodes of decision diagrams, and there may be no more.
+    Nodes,
+    /// Terms of a sum over paths, and there may be no more.
+    Terms,
+    /// Steps that follow a sum over paths, and there may be no more.
+    Steps,
+    /// Bits of the paths of a sum, which are left at its end.
+    PathBits,
+}
+
 /// Why what an input holds is refused.
 #[derive(Clone, Copy)]
 pub enum InputFault {
@@ -161,9 +174,10 @@ pub enum InputFault {
         word: u16,
         place: u32,
     },
-    /// Whether a circuit has the function of another side isn't told by decision diagrams of at most so many nodes.
+    /// Whether both inputs agree isn't told: what is followed grew to so much.
     Undecided {
-        nodes: u32,
+        count: u64,
+        what: Measure,
     },
 }
 

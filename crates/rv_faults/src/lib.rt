@@ -7,5 +7,5 @@ mod fault;
 mod message;
 
 pub use arguments::{report_arguments, status_of_arguments};
-pub use fault::{Fault, InputFault, Refusal, TextFormat, Unmade};
+pub use fault::{Fault, InputFault, Measure, Refusal, TextFormat, Unmade};
 pub use message::{put_bits, report};

@@ -3,11 +3,11 @@ ghost use Rattle.rv_io.specs.Sink.{Sends};
 ghost use Rattle.rv_io.specs.Writer.{Adds};
 ghost use Rattle.rv_gate.specs.Word.{has};
 ghost use Rattle.rv_text.specs.Bytes.{bit_byte};
-ghost use Rattle.rv_faults.specs.Fault.{bits_of, counted_to, message_line, at_line, over_limit, reason, rule_of};
-ghost use Rattle.rv_faults.specs.Fault.{said_of, template_of};
+ghost use Rattle.rv_faults.specs.Fault.{bits_of, counted_to, measured, message_line, at_line, over_limit, reason};
+ghost use Rattle.rv_faults.specs.Fault.{rule_of, said_of, template_of};
 ghost use Rattle.rv_faults.specs.Line.{Reports};
 
-use crate::{Fault, InputFault, TextFormat};
+use crate::{Fault, InputFault, Measure, TextFormat};
 use rv_blif::code::text_of_code as blif_text;
 use rv_gate::{MOST_LINES, has};
 use rv_io::{Sink, WriteFault, Writer};
@@ -113,7 +113,7 @@ fn put_refusal<E: Sink>(writer: &mut Writer, errs: &mut E, why: InputFault)
         InputFault::LargeCoefficient { lines, word, place } => {
             put_large_coefficient(writer, errs, lines, word, place);
         }
-        InputFault::Undecided { nodes } => put_undecided(writer, errs, nodes),
+        InputFault::Undecided { count, what } => put_undecided(writer, errs, count, what),
     }
 }
 
@@ -216,12 +216,25 @@ fn put_more_gates<E: Sink>(writer: &mut Writer, errs: &mut E, most: u32)
     writer.put(errs, b" gates");
 }
 
-fn put_undecided<E: Sink>(writer: &mut Writer, errs: &mut E, nodes: u32)
-    ensures { Adds writer.old (E.view errs.old) (said_of (InputFault.Undecided nodes)) writer.new (E.view errs.new) }
+fn put_undecided<E: Sink>(writer: &mut Writer, errs: &mut E, count: u64, what: Measure)
+    ensures { Adds writer.old (E.view errs.old) (said_of (InputFault.Undecided count what)) writer.new
+        (E.view errs.new) }
 {
     writer.put(errs, b": undecided with ");
-    writer.put_number(errs, u128::from(nodes));
-    writer.put(errs, b" nodes");
+    writer.put_number(errs, u128::from(count));
+    writer.put(errs, measured(what).as_bytes());
+}
+
+// What is counted.
+fn measured(what: Measure) -> &'static str
+    ensures { result.now ≡ measured what }
+{
+    match what {
+        Measure::Nodes => " nodes",
+        Measure::Terms => " terms",
+        Measure::Steps => " steps",
+        Measure::PathBits => " path bits",
+    }
 }
 
 // A count of a template, and what it may be at most.

@@ -54,6 +54,7 @@ read_inputs command g values =
       blocks = values.blocks;
       picture = values.picture;
       gates = values.gates;
+      checked = values.checked;
     }))
 
 abbrev pub read_by_values : Command → Given → Result Values ℕ → Result Settings ArgumentFault

@@ -4,7 +4,7 @@ use Rattle.std.specs.List.{list_any}
 use Rattle.std.specs.Str.{bytes_eq}
 use Rattle.rv_words.specs.declared.command.Command.{Command}
 use Rattle.rv_words.specs.declared.command.Command.TheVariants.{Synth, Embed, Esop, Templates, Decompose, Map, Cost, Simulate, ToReal, Flow, Demo, Fold, Reduce, Check, Single, Route, Draw, Compare, Resynth, Compute, Optimal, Realize}
-use Rattle.rv_words.specs.declared.options.TheConstants.{METHOD, TO, FROM, LIBRARY, AUX, LINES, SEED, ALL, SIMPLIFY, WRAP, GOAL, EFFORT, MARKS, BLOCKS, AS, GATES}
+use Rattle.rv_words.specs.declared.options.TheConstants.{METHOD, TO, FROM, LIBRARY, AUX, LINES, SEED, ALL, SIMPLIFY, WRAP, GOAL, EFFORT, MARKS, BLOCKS, AS, GATES, BY}
 
 -- a command's name, how many inputs it takes at the least and at the most, and the places of the options that it uses
 pub record Usage : Type 0 where
@@ -29,8 +29,8 @@ usage_of ToReal = row (codes "toreal") 0 1 []
 usage_of Flow = row (codes "flow") 0 1 (METHOD ∷ FROM ∷ AUX ∷ SIMPLIFY ∷ BLOCKS ∷ [])
 usage_of Demo = row (codes "demo") 0 0 (LINES ∷ SEED ∷ [])
 usage_of Fold = row (codes "fold") 0 1 []
-usage_of Reduce = row (codes "reduce") 0 1 []
-usage_of Check = row (codes "check") 1 2 []
+usage_of Reduce = row (codes "reduce") 0 1 (GOAL ∷ EFFORT ∷ SEED ∷ [])
+usage_of Check = row (codes "check") 1 2 (BY ∷ [])
 usage_of Single = row (codes "single") 0 1 []
 usage_of Route = row (codes "route") 0 1 []
 usage_of Draw = row (codes "draw") 0 1 (FROM ∷ WRAP ∷ AS ∷ [])
@@ -53,7 +53,8 @@ command_of name = find (λ command. bytes_eq name (usage_of command).name) comma
 abbrev pub is_used : Command → ℕ → Bool
 is_used command place = list_any (λ used. used == place) (usage_of command).options
 
--- how long and from which numbers on `esop` searches is asked only of a search, which `--goal` asks for
+-- how long and from which numbers on `esop` and `reduce` search is asked only of a search, which `--goal` asks for
 abbrev pub needs_goal : Command → ℕ → Bool
 needs_goal Esop place = place == EFFORT || place == SEED
+needs_goal Reduce place = place == EFFORT || place == SEED
 needs_goal command place = false

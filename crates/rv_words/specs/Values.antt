@@ -12,18 +12,20 @@ use Rattle.rv_mct.specs.declared.aux.Aux.TheVariants.{Borrowed, Clean}
 use Rattle.rv_optimal.specs.declared.library.Library.{Library}
 use Rattle.rv_optimal.specs.declared.library.Library.TheVariants.{Mixed, Positive}
 use Rattle.rv_words.specs.declared.command.Command.{Command}
-use Rattle.rv_words.specs.declared.command.Command.TheVariants.{Compare, Compute, Demo, Flow, Realize, Resynth}
+use Rattle.rv_words.specs.declared.command.Command.TheVariants.{Compare, Compute, Demo, Flow, Map, Realize, Reduce, Resynth}
 use Rattle.rv_words.specs.declared.command.Blocks.{Blocks}
-use Rattle.rv_words.specs.declared.command.Blocks.TheVariants.{Exact, Relative, Toffoli, Near}
+use Rattle.rv_words.specs.declared.command.Blocks.TheVariants.{Exact, Relative, Toffoli, Near, Joined}
+use Rattle.rv_words.specs.declared.command.CheckedBy.{CheckedBy}
+use Rattle.rv_words.specs.declared.command.CheckedBy.TheVariants.{Words, Paths}
 use Rattle.rv_words.specs.declared.command.Synthesis.{Synthesis}
 use Rattle.rv_words.specs.declared.command.Synthesis.TheVariants.{Rows, SingleTargets}
 use Rattle.rv_words.specs.declared.command.Goal.{Goal}
-use Rattle.rv_words.specs.declared.command.Goal.TheVariants.{Cubes, Cx, Gates, Lines, Quantum, T}
+use Rattle.rv_words.specs.declared.command.Goal.TheVariants.{Cubes, Cx, Depth, Gates, Lines, Ops, Quantum, T}
 use Rattle.rv_words.specs.declared.command.PictureForm.{PictureForm}
 use Rattle.rv_words.specs.declared.command.PictureForm.TheVariants.{Text, Svg, Latex}
 use Rattle.rv_words.specs.declared.command.Form.{Form}
 use Rattle.rv_words.specs.declared.command.Form.TheVariants.{Real, Pla, Qasm, Perm, Blif}
-use Rattle.rv_words.specs.declared.options.TheConstants.{METHOD, TO, FROM, AUX, LINES, SEED, WRAP, GOAL, EFFORT, BLOCKS, AS, GATES}
+use Rattle.rv_words.specs.declared.options.TheConstants.{METHOD, TO, FROM, AUX, LINES, SEED, WRAP, GOAL, EFFORT, BLOCKS, AS, GATES, BY}
 use Rattle.rv_words.specs.Given.{Given}
 
 -- `flow` also takes single-target gates, which `synth` leaves to `single`
@@ -80,7 +82,8 @@ aux_of value =
     else None)
 
 -- what a search is to make small: for `esop` one of four, and without cubes for `resynth`; for `compute` and `realize`
--- also lines, and for `realize` CNOTs
+-- also lines, and for `realize` CNOTs; for `reduce` operations, T, CNOTs
+-- and depth
 abbrev pub goal_of : Command → List ℕ → Option Goal
 goal_of Resynth value =
     if bytes_eq value (codes "quantum") then Some Quantum
@@ -100,6 +103,12 @@ goal_of Realize value =
     else (if bytes_eq value (codes "gates") then Some Gates
     else (if bytes_eq value (codes "lines") then Some Lines
     else None))))
+goal_of Reduce value =
+    if bytes_eq value (codes "ops") then Some Ops
+    else (if bytes_eq value (codes "t") then Some T
+    else (if bytes_eq value (codes "cx") then Some Cx
+    else (if bytes_eq value (codes "depth") then Some Depth
+    else None)))
 goal_of command value =
     if bytes_eq value (codes "cubes") then Some Cubes
     else (if bytes_eq value (codes "gates") then Some Gates
@@ -116,6 +125,7 @@ usual_goal command = None
 
 abbrev pub usual_effort : Command → ℕ
 usual_effort Resynth = 20
+usual_effort Reduce = 20
 usual_effort command = 100
 
 -- a search begins with the numbers of seed 0
@@ -123,13 +133,19 @@ abbrev pub usual_seed : Command → ℕ
 usual_seed Demo = 1
 usual_seed command = 0
 
-abbrev pub blocks_of : List ℕ → Option Blocks
-blocks_of value =
+-- `flow` takes only blocks that are made by a rule
+abbrev joined_for : Command → Option Blocks
+joined_for Map = Some Joined
+joined_for command = None
+
+abbrev pub blocks_of : Command → List ℕ → Option Blocks
+blocks_of command value =
     if bytes_eq value (codes "exact") then Some Exact
     else (if bytes_eq value (codes "relative") then Some Relative
     else (if bytes_eq value (codes "toffoli") then Some Toffoli
     else (if bytes_eq value (codes "near") then Some Near
-    else None)))
+    else (if bytes_eq value (codes "joined") then joined_for command
+    else None))))
 
 abbrev pub picture_of : List ℕ → Option PictureForm
 picture_of value =
@@ -137,6 +153,12 @@ picture_of value =
     else (if bytes_eq value (codes "svg") then Some Svg
     else (if bytes_eq value (codes "latex") then Some Latex
     else None))
+
+abbrev pub checked_of : List ℕ → Option CheckedBy
+checked_of value =
+    if bytes_eq value (codes "words") then Some Words
+    else (if bytes_eq value (codes "paths") then Some Paths
+    else None)
 
 abbrev pub gates_of : List ℕ → Option Library
 gates_of value =
@@ -202,14 +224,17 @@ goal_in command g = chosen GOAL (usual_goal command) (λ value. wished (goal_of 
 abbrev pub effort_in : Command → Given → Result ℕ ℕ
 effort_in command g = chosen EFFORT (usual_effort command) (number_in 0 MOST_EFFORT) (g (codes "effort"))
 
-abbrev pub blocks_in : Given → Result Blocks ℕ
-blocks_in g = chosen BLOCKS Exact blocks_of (g (codes "blocks"))
+abbrev pub blocks_in : Command → Given → Result Blocks ℕ
+blocks_in command g = chosen BLOCKS Exact (blocks_of command) (g (codes "blocks"))
 
 abbrev pub picture_in : Given → Result PictureForm ℕ
 picture_in g = chosen AS Text picture_of (g (codes "as"))
 
 abbrev pub gates_in : Given → Result Library ℕ
 gates_in g = chosen GATES Positive gates_of (g (codes "gates"))
+
+abbrev pub checked_in : Given → Result CheckedBy ℕ
+checked_in g = chosen BY Words checked_of (g (codes "by"))
 
 -- the values of the options that take one of a list or a range
 pub record Values : Type 0 where
@@ -225,6 +250,7 @@ pub record Values : Type 0 where
   pub blocks : Blocks
   pub picture : PictureForm
   pub gates : Library
+  pub checked : CheckedBy
 
 -- all values, or the place of the first that is bad
 unfoldable pub values_in : Command → Given → Result Values ℕ
@@ -238,9 +264,10 @@ values_in command g = do
   wrap ← wrap_in g
   goal ← goal_in command g
   effort ← effort_in command g
-  blocks ← blocks_in g
+  blocks ← blocks_in command g
   picture ← picture_in g
   gates ← gates_in g
+  checked ← checked_in g
   Ok (record {
     method = method;
     to = to;
@@ -254,4 +281,5 @@ values_in command g = do
     blocks = blocks;
     picture = picture;
     gates = gates;
+    checked = checked;
   })

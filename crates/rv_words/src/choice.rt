@@ -1,15 +1,18 @@
 // The values of the options. Of a bad value the option's place is told.
 ghost use Rattle.std.specs.Prelude.{◌≡◌, IfOk};
 ghost use Rattle.clap.specs.Matches.{first_value, found_of};
-ghost use Rattle.rv_words.specs.Values.{IsLineCount, aux_in, aux_of, blocks_in, blocks_of, effort_in, form_to};
+ghost use Rattle.rv_words.specs.Values.{IsLineCount, aux_in, aux_of, blocks_in, blocks_of, checked_in, checked_of};
+ghost use Rattle.rv_words.specs.Values.{effort_in, form_to};
 ghost use Rattle.rv_words.specs.Values.{form_from, gates_in, gates_of};
 ghost use Rattle.rv_words.specs.Values.{goal_in, goal_of, lines_in, method_in, most_lines, picture_in, picture_of};
 ghost use Rattle.rv_words.specs.Values.{usual_effort, usual_goal, usual_lines, usual_seed};
 ghost use Rattle.rv_words.specs.Values.{method_of, origin_in, seed_in, to_in, usual_form, values_in, wrap_in};
 
 use crate::number::number_in;
-use crate::options::{AS, AUX, BLOCKS, EFFORT, FROM, GATES, GOAL, LINES, METHOD, SEED, TO, WRAP};
-use crate::{Blocks, Command, Form, Goal, PictureForm, Synthesis};
+use crate::options::{
+    AS, AUX, BLOCKS, BY, EFFORT, FROM, GATES, GOAL, LINES, METHOD, SEED, TO, WRAP,
+};
+use crate::{Blocks, CheckedBy, Command, Form, Goal, PictureForm, Synthesis};
 use clap::ArgMatches;
 use rv_gate::MOST_LINES;
 use rv_mct::Aux;
@@ -36,6 +39,7 @@ pub(crate) struct Values {
     pub(crate) blocks: Blocks,
     pub(crate) picture: PictureForm,
     pub(crate) gates: Library,
+    pub(crate) checked: CheckedBy,
 }
 
 impl Model for Values {
@@ -56,6 +60,7 @@ impl Model for Values {
       blocks = v.blocks;
       picture = v.picture;
       gates = v.gates;
+      checked = v.checked;
     } };
 }
 
@@ -153,6 +158,13 @@ fn goal_of(command: Command, value: &str) -> Option<Goal>
             "lines" => Some(Goal::Lines),
             _ => None,
         },
+        Command::Reduce => match value {
+            "ops" => Some(Goal::Ops),
+            "t" => Some(Goal::T),
+            "cx" => Some(Goal::Cx),
+            "depth" => Some(Goal::Depth),
+            _ => None,
+        },
         _ => match value {
             "cubes" => Some(Goal::Cubes),
             "gates" => Some(Goal::Gates),
@@ -178,7 +190,7 @@ fn usual_effort(command: Command) -> u16
     ensures { result ≡ usual_effort command }
 {
     match command {
-        Command::Resynth => 20,
+        Command::Resynth | Command::Reduce => 20,
         _ => 100,
     }
 }
@@ -192,14 +204,18 @@ fn usual_seed(command: Command) -> u16
     }
 }
 
-fn blocks_of(value: &str) -> Option<Blocks>
-    ensures { result ≡ blocks_of value.now }
+fn blocks_of(command: Command, value: &str) -> Option<Blocks>
+    ensures { result ≡ blocks_of command value.now }
 {
     match value {
         "exact" => Some(Blocks::Exact),
         "relative" => Some(Blocks::Relative),
         "toffoli" => Some(Blocks::Toffoli),
         "near" => Some(Blocks::Near),
+        "joined" => match command {
+            Command::Map => Some(Blocks::Joined),
+            _ => None,
+        },
         _ => None,
     }
 }
@@ -211,6 +227,16 @@ fn picture_of(value: &str) -> Option<PictureForm>
         "text" => Some(PictureForm::Text),
         "svg" => Some(PictureForm::Svg),
         "latex" => Some(PictureForm::Latex),
+        _ => None,
+    }
+}
+
+fn checked_of(value: &str) -> Option<CheckedBy>
+    ensures { result ≡ checked_of value.now }
+{
+    match value {
+        "words" => Some(CheckedBy::Words),
+        "paths" => Some(CheckedBy::Paths),
         _ => None,
     }
 }
@@ -333,11 +359,11 @@ fn effort_in(matches: &ArgMatches<'_>, command: Command) -> Result<u16, u8>
     }
 }
 
-fn blocks_in(matches: &ArgMatches<'_>) -> Result<Blocks, u8>
-    ensures { result ≡ blocks_in (first_value (found_of matches.now)) }
+fn blocks_in(matches: &ArgMatches<'_>, command: Command) -> Result<Blocks, u8>
+    ensures { result ≡ blocks_in command (first_value (found_of matches.now)) }
 {
     match matches.get_str("blocks") {
-        Some(value) => blocks_of(value).ok_or(BLOCKS),
+        Some(value) => blocks_of(command, value).ok_or(BLOCKS),
         None => Ok(Blocks::Exact),
     }
 }
@@ -360,6 +386,15 @@ fn gates_in(matches: &ArgMatches<'_>) -> Result<Library, u8>
     }
 }
 
+fn checked_in(matches: &ArgMatches<'_>) -> Result<CheckedBy, u8>
+    ensures { result ≡ checked_in (first_value (found_of matches.now)) }
+{
+    match matches.get_str("by") {
+        Some(value) => checked_of(value).ok_or(BY),
+        None => Ok(CheckedBy::Words),
+    }
+}
+
 // All values, or the place of the first that is bad.
 #[tactic(auto, unfolding(crate::specs::Values::values_in))]
 pub(crate) fn values_in(matches: &ArgMatches<'_>, command: Command) -> Result<Values, u8>
@@ -376,8 +411,9 @@ pub(crate) fn values_in(matches: &ArgMatches<'_>, command: Command) -> Result<Va
         wrap: wrap_in(matches)?,
         goal: goal_in(matches, command)?,
         effort: effort_in(matches, command)?,
-        blocks: blocks_in(matches)?,
+        blocks: blocks_in(matches, command)?,
         picture: picture_in(matches)?,
         gates: gates_in(matches)?,
+        checked: checked_in(matches)?,
     })
 }

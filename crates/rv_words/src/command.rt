@@ -5,8 +5,8 @@ ghost use Rattle.std.specs.Str.{bytes_eq};
 ghost use Rattle.rv_words.specs.Table.{command_of, is_used, needs_goal, usage_of};
 
 use crate::options::{
-    ALL, AS, AUX, BLOCKS, EFFORT, FROM, GATES, GOAL, LIBRARY, LINES, MARKS, METHOD, SEED, SIMPLIFY,
-    TO, WRAP,
+    ALL, AS, AUX, BLOCKS, BY, EFFORT, FROM, GATES, GOAL, LIBRARY, LINES, MARKS, METHOD, SEED,
+    SIMPLIFY, TO, WRAP,
 };
 use rv_tbs::Method;
 
@@ -103,8 +103,8 @@ pub(crate) fn usage_of(command: Command) -> Usage
         Command::Flow => row("flow", 0, 1, &[METHOD, FROM, AUX, SIMPLIFY, BLOCKS]),
         Command::Demo => row("demo", 0, 0, &[LINES, SEED]),
         Command::Fold => row("fold", 0, 1, &[]),
-        Command::Reduce => row("reduce", 0, 1, &[]),
-        Command::Check => row("check", 1, 2, &[]),
+        Command::Reduce => row("reduce", 0, 1, &[GOAL, EFFORT, SEED]),
+        Command::Check => row("check", 1, 2, &[BY]),
         Command::Single => row("single", 0, 1, &[]),
         Command::Route => row("route", 0, 1, &[]),
         Command::Draw => row("draw", 0, 1, &[FROM, WRAP, AS]),
@@ -173,7 +173,7 @@ pub(crate) fn needs_goal(command: Command, place: u8) -> bool
     ensures { result ≡ needs_goal command place }
 {
     match command {
-        Command::Esop => place == EFFORT || place == SEED,
+        Command::Esop | Command::Reduce => place == EFFORT || place == SEED,
         _ => false,
     }
 }
@@ -217,6 +217,10 @@ pub enum Goal {
     Lines,
     /// CNOT gates of the network.
     Cx,
+    /// Operations of the network.
+    Ops,
+    /// Depth of the network.
+    Depth,
 }
 
 /// The blocks that a network is made of.
@@ -230,6 +234,17 @@ pub enum Blocks {
     Toffoli,
     /// Blocks in which CNOT joins neighbours, where a gate's lines are a row.
     Near,
+    /// Blocks of four T, with the phases that they lack joined over the whole circuit.
+    Joined,
+}
+
+/// How a network is checked against a circuit.
+#[derive(Clone, Copy)]
+pub enum CheckedBy {
+    /// From each word in turn, so the first that differs is told.
+    Words,
+    /// By sums over paths, from all words at once.
+    Paths,
 }
 
 /// The form of a drawing.

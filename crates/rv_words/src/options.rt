@@ -34,9 +34,11 @@ pub(crate) const AS: u8 = 14;
 
 pub(crate) const GATES: u8 = 15;
 
-pub(crate) static PLACES: [u8; 16] = [
+pub(crate) const BY: u8 = 16;
+
+pub(crate) static PLACES: [u8; 17] = [
     METHOD, TO, FROM, LIBRARY, AUX, LINES, SEED, ALL, SIMPLIFY, WRAP, GOAL, EFFORT, MARKS, BLOCKS,
-    AS, GATES,
+    AS, GATES, BY,
 ];
 
 /// What the option at a place is called.
@@ -59,7 +61,8 @@ pub fn option_name(place: u8) -> &'static str
         MARKS => "marks",
         BLOCKS => "blocks",
         AS => "as",
-        _ => "gates",
+        GATES => "gates",
+        _ => "by",
     }
 }
 

@@ -119,6 +119,7 @@ fn read_inputs(
         blocks: values.blocks,
         picture: values.picture,
         gates: values.gates,
+        checked: values.checked,
     })
 }
 

@@ -1,11 +1,17 @@
 -- What `check` answers: by the definitions alone, its verdict is that of the circuit and the network.
-use Rattle.std.proofs.Common.{◌≡◌, ◌⊎◌, ◌↔◌, ◌≤◌, ◌==◌, ℕ, zero, suc, ◌+◌, ◌^◌, Bool, true, false, length, nat_lt, if◌then◌else◌, Option, Some, None, Result, Ok, Err, refl, ap, sym, subst, ◌∙◌, inl, inr, arith}
-use Rattle.std.proofs.lemmas.Bool.{true≢false}
+use Rattle.std.proofs.Common.{◌≡◌, ◌≢◌, ◌⊎◌, ◌↔◌, ◌≤◌, ◌<◌, ◌==◌, ℕ, zero, suc, ◌+◌, ◌^◌, Bool, true, false, length, List, [], nat_lt, if◌then◌else◌, Option, Some, None, Result, Ok, Err, refl, ap, sym, subst, ◌∙◌, inl, inr, arith}
+use Rattle.std.proofs.lemmas.Bool.{eq-eqb, ne_eqb, true≢false}
 use Rattle.std.specs.Option.{option_or}
 use Rattle.std.specs.Prelude.{option_and_then, option_map}
 use Rattle.rv_gate.specs.Circuit.{Cascade}
+use Rattle.rv_gate.specs.Gate.{run}
+use Rattle.rv_gate.specs.Word.{word_of}
+use Rattle.rv_gate.specs.inside.laws.WordLaws.{length-word_of}
 use Rattle.rv_gate.specs.FirstAnswer.{first}
+use Rattle.rv_net.specs.Denotes.{Denotes}
 use Rattle.rv_net.specs.Op.{Network}
+use Rattle.rv_sums.specs.Finding.{Breaks}
+use Rattle.rv_sums.specs.declared.finding.Finding.{Finding}
 use Rattle.rv_qasm.specs.Reading.{Listing}
 use Rattle.rv_check.specs.Check.{check_of, compared, first_difference, first_large, large_at, verdict_of}
 use Rattle.rv_check.specs.Laws.{IsExact, NoneLarge, OnSameLines}
@@ -15,14 +21,15 @@ use Rattle.rv_check.specs.declared.checking.CheckFault.TheVariants.{CircuitLines
 use Rattle.rv_check.specs.declared.checking.TheConstants.{MOST_CHECKED_LINES}
 use Rattle.rv_check.specs.declared.checking.Verdict.{Verdict}
 use Rattle.rv_check.specs.declared.checking.Verdict.TheVariants.{Differs, Lines, Same}
+use Rattle.rv_faults.specs.declared.fault.InputFault.{InputFault}
 use Rattle.rv_faults.specs.declared.fault.InputFault.TheVariants.{TooManyLines}
 use Rattle.rv_faults.specs.declared.fault.Refusal.{Refusal}
 use Rattle.rv_faults.specs.declared.fault.Refusal.TheVariants.{Refused}
 use Rattle.rv_cmd.specs.declared.product.Product.TheVariants as product
-use Rattle.rv_cmd.specs.Commands.Check.{CanBeChecked, TellsVerdict, check_differs, check_limits, check_report, no_verdict, says_different, too_large, verdict_for, verdict_text}
-use Rattle.rv_cmd.specs.Limits.{AreKept, first_refused}
-use Rattle.rv_cmd.specs.inside.Products.{IsProductOf, IsRefusalOf}
-use Rattle.rv_check.proofs.inside.Meaning.{exact}
+use Rattle.rv_cmd.specs.Commands.Check.{CanBeChecked, IsUndecidedByPaths, TellsByPaths, TellsVerdict, check_differs, check_limits, check_report, no_verdict, says_different, too_large, undecided, verdict_for, verdict_text, witness_text}
+use Rattle.rv_cmd.specs.Limits.{AreKept, first_refused, found_within}
+use Rattle.rv_cmd.specs.inside.Products.{IsProductOf, IsRefusalOf, IsUntoldOf, product_text}
+use Rattle.rv_check.proofs.inside.Meaning.{denotes_from_none, exact, none_from_denotes}
 use Rattle.rv_cmd.proofs.inside.Limits.{all-kept, are-kept}
 
 abbrev answered : Verdict → Result Verdict CheckFault
@@ -235,3 +242,94 @@ check-refuses-of c listing net lines fault refusal given counted told is =
     let same : no_verdict listing.net.lines fault ≡ refusal =
     ap (λ (n : Network). no_verdict n.lines fault) (sym given) ∙ ap (λ n. no_verdict n fault) (sym counted) ∙ sym told in
     subst Told same (subst By given (check-refusal c net fault is))
+
+-- ---- by sums over paths
+
+module _ (c : Cascade) (listing : Listing) where
+  abbrev differs_by : Bool → Option ℕ → Bool
+  differs_by same difference = says_different (if same then verdict_of difference else Lines (length c.names) listing.net.lines)
+
+  -- the question, where both have the same lines
+  on-same-lines : length c.names ≡ listing.net.lines → check_differs c listing ≡ says_different (verdict_of (first_difference c.gates listing.net))
+  on-same-lines lines = ap (λ (same : Bool). differs_by same (first_difference c.gates listing.net)) (eq-eqb (length c.names) listing.net.lines lines)
+
+  same-by : length c.names ≡ listing.net.lines → Denotes listing.net.lines listing.net.ops (run c.gates) → check_differs c listing ≡ false
+  same-by lines denotes = on-same-lines lines ∙ ap (λ difference. says_different (verdict_of difference)) (none_from_denotes c.gates listing.net denotes)
+
+  no-break : (word : ℕ) → Denotes listing.net.lines listing.net.ops (run c.gates) → Breaks c.gates listing.net word → ⊥
+  unfolding Denotes
+  no-break word denotes breaks = breaks.2 (denotes (word_of listing.net.lines word) breaks.0 (length-word_of listing.net.lines word) breaks.1)
+
+  apart-by : (word : ℕ) → length c.names ≡ listing.net.lines → Breaks c.gates listing.net word → check_differs c listing ≡ true
+  apart-by word lines breaks = on-same-lines lines ∙ by (first_difference c.gates listing.net) refl
+    where
+      by : (difference : Option ℕ) → first_difference c.gates listing.net ≡ difference → says_different (verdict_of difference) ≡ true
+      by (Some other) is = refl
+      by None is = absurd (no-break word (denotes_from_none c.gates listing.net is) breaks)
+
+  by-lines : length c.names ≢ listing.net.lines → check_differs c listing ≡ true
+  by-lines apart = ap (λ (same : Bool). differs_by same (first_difference c.gates listing.net)) (ne_eqb (length c.names) listing.net.lines apart)
+
+-- what is told of a network that the text gives
+module _ (c : Cascade) (listing : Listing) (net : Network) (given : net ≡ listing.net) where
+  pub paths-same : (lines : ℕ) → lines ≡ net.lines → length c.names ≡ lines → Denotes net.lines net.ops (run c.gates)
+      → IsProductOf (found_within [] (product_text (product.Verdict lines Same))) (TellsByPaths c listing) (product.Verdict lines Same)
+  paths-same lines counted same denotes =
+      let Denoted : Network → Type 0 = λ n. Denotes n.lines n.ops (run c.gates) in
+      let wide : lines ≡ listing.net.lines = counted ∙ ap (λ (n : Network). n.lines) given in
+      record { kept = tt; is = refl; means = inl (ap (λ n. verdict_text n Same) wide, same ∙ wide, subst Denoted given denotes) }
+
+  pub paths-alike : (lines : ℕ) → lines ≡ net.lines → length c.names ≡ lines → Denotes net.lines net.ops (run c.gates) → false ≡ check_differs c listing
+  paths-alike lines counted same denotes =
+      let Denoted : Network → Type 0 = λ n. Denotes n.lines n.ops (run c.gates) in
+      sym (same-by c listing (same ∙ counted ∙ ap (λ (n : Network). n.lines) given) (subst Denoted given denotes))
+
+  pub paths-apart : (lines word : ℕ) → lines ≡ net.lines → length c.names ≡ lines → word < 2 ^ net.lines → Breaks c.gates net word
+      → IsProductOf (found_within [] (product_text (product.Witness lines word))) (TellsByPaths c listing) (product.Witness lines word)
+  paths-apart lines word counted same within breaks =
+      let Broken : Network → Type 0 = λ n. (word < 2 ^ n.lines) × Breaks c.gates n word in
+      let wide : lines ≡ listing.net.lines = counted ∙ ap (λ (n : Network). n.lines) given in
+      let broken : (word < 2 ^ listing.net.lines) × Breaks c.gates listing.net word = subst Broken given (within, breaks) in
+      record {
+        kept = tt;
+        is = refl;
+        means = inr (inl (record { word = word; is = ap (λ n. witness_text n word) wide; lines = same ∙ wide; within = broken.0; breaks = broken.1 }));
+      }
+
+  pub paths-differ : (lines word : ℕ) → lines ≡ net.lines → length c.names ≡ lines → Breaks c.gates net word → true ≡ check_differs c listing
+  paths-differ lines word counted same breaks =
+      let Broken : Network → Type 0 = λ n. Breaks c.gates n word in
+      sym (apart-by c listing word (same ∙ counted ∙ ap (λ (n : Network). n.lines) given) (subst Broken given breaks))
+
+  pub paths-lines : (wide lines : ℕ) → wide ≡ length c.names → lines ≡ net.lines → wide ≢ lines
+      → IsProductOf (found_within [] (product_text (product.Verdict lines (Lines wide lines)))) (TellsByPaths c listing) (product.Verdict lines (Lines wide lines))
+  paths-lines wide lines first second apart =
+      let many : lines ≡ listing.net.lines = second ∙ ap (λ (n : Network). n.lines) given in
+      record {
+        kept = tt;
+        is = refl;
+        means = inr (inr (
+          ap (λ n. verdict_text n (Lines wide n)) many ∙ ap (λ n. verdict_text listing.net.lines (Lines n listing.net.lines)) first,
+          λ same. apart (first ∙ same ∙ sym many),
+        ));
+      }
+
+  pub paths-on-others : (wide lines : ℕ) → wide ≡ length c.names → lines ≡ net.lines → wide ≢ lines → true ≡ check_differs c listing
+  paths-on-others wide lines first second apart =
+      sym (by-lines c listing (λ same. apart (first ∙ same ∙ sym (second ∙ ap (λ (n : Network). n.lines) given))))
+
+  pub paths-untold : (lines : ℕ) (found : Finding) (why : InputFault) (refused : Refusal) → lines ≡ net.lines → length c.names ≡ lines
+      → undecided found ≡ Some why → refused ≡ Refused 1 why → IsUntoldOf 2 [] (IsUndecidedByPaths c listing) refused
+  paths-untold lines found why refused counted same ends is =
+      let Untold : Refusal → Type 0 = IsUntoldOf 2 [] (IsUndecidedByPaths c listing) in
+      subst Untold (sym is) (inr (
+        omega arith,
+        tt,
+        record {
+          finding = found;
+          why = why;
+          ends = ends;
+          is = refl;
+          lines = same ∙ counted ∙ ap (λ (n : Network). n.lines) given;
+        },
+      ))

@@ -6,6 +6,7 @@ use Rattle.rv_mct.specs.declared.aux.Aux.{Aux}
 use Rattle.rv_net.specs.Denotes.{Carries}
 use Rattle.rv_net.specs.Network.{expanded, operation_count}
 use Rattle.rv_net.proofs.Mapping.{maps}
+use Rattle.rv_joined.specs.Joined.{MapsJoined}
 use Rattle.rv_ladder.specs.Counts.{operations, relative_count}
 use Rattle.rv_ladder.specs.Relative.{MapsRelative, relative_net}
 use Rattle.rv_ladder.specs.declared.mapping.RelativeFault.{RelativeFault}
@@ -18,11 +19,12 @@ use Rattle.rv_qasm.specs.Text.{text_of}
 use Rattle.rv_qasm.proofs.inside.ReadBack.{read-back}
 use Rattle.rv_faults.specs.declared.fault.Refusal.{Refusal}
 use Rattle.rv_words.specs.declared.command.Blocks.{Blocks}
-use Rattle.rv_words.specs.declared.command.Blocks.TheVariants.{Exact, Near, Relative, Toffoli}
+use Rattle.rv_words.specs.declared.command.Blocks.TheVariants.{Exact, Joined, Near, Relative, Toffoli}
 use Rattle.rv_cmd.specs.declared.product.Product.{Product}
 use Rattle.rv_cmd.specs.declared.product.Product.TheVariants as product
 use Rattle.rv_cmd.specs.Commands.Decompose.{decomposition_limits}
-use Rattle.rv_cmd.specs.Commands.Map.{IsMapping, MapsBy, map_report, mapped}
+use Rattle.rv_cmd.specs.Commands.Map.{IsJoinedMapping, IsMapping, MapsBy, map_limits, map_report, mapped}
+use Rattle.rv_cmd.specs.Limits.{found_within}
 use Rattle.rv_cmd.proofs.inside.Common.{◌≡◌, ◌≤◌, ◌∙◌, ◌++◌, ◌∷◌, [], ℕ, length, AreKept, Cascade, IsCascade, IsNetwork, IsProductOf, IsRefusalOf, MOST_LINES, MOST_OPS, Network, ap, few-by, few-unless, of_ops, refl, refusal-after, subst, sym}
 
 -- ---- what every network of a circuit is
@@ -35,6 +37,7 @@ pub record IsOn (aux : Aux) (c : Cascade) (net : Network) : Type 0 where
 pub maps-on : (blocks : Blocks) (aux : Aux) (c : Cascade) (net : Network) → MapsBy blocks aux c net → IsOn aux c net
 maps-on Exact aux c net m = record { valid = m.valid; lines = m.lines; carries = m.carries }
 maps-on Relative aux c net m = record { valid = m.valid; lines = ap (λ (n : Network). n.lines) m.is; carries = m.carries }
+maps-on Joined aux c net m = record { valid = m.valid; lines = ap (λ (n : Network). n.lines) m.is; carries = m.carries }
 maps-on Toffoli aux c net m = record { valid = m.valid; lines = m.lines; carries = m.carries }
 maps-on Near aux c net m = record { valid = m.valid; lines = m.lines; carries = m.carries }
 
@@ -80,14 +83,37 @@ module _ (blocks : Blocks) (aux : Aux) (c : Cascade) (size : Cascade → ℕ) (w
 
 -- ---- by ladders
 
-pub relative-answers : {X : Type 0} (aux : Aux) (c : Cascade) (x : X) (net : Network) → MapsRelative aux c net
-    → ((n : ℕ) → (◌≡◌ {A = Result X RelativeFault} (Ok x) (Err (ladders.TooManyLines n))) ↔ ((lines_with_helpers aux c ≡ n) × (MOST_LINES < n)))
-    → ((n : ℕ) → (◌≡◌ {A = Result X RelativeFault} (Ok x) (Err (ladders.TooManyOps n)))
-    ↔ ((lines_with_helpers aux c ≤ MOST_LINES) × (relative_count operations aux c ≡ n) × (MOST_OPS < n)))
-    → IsProductOf (map_report Relative aux c) (IsMapping Relative aux c) (product.Network net)
-relative-answers aux c x net law lines_exact ops_exact =
-    let lines : lines_with_helpers aux c ≤ MOST_LINES = few-by ladders.TooManyLines (lines_with_helpers aux c) MOST_LINES x lines_exact in
-    let count : ℕ = relative_count operations aux c in
-    let ops : count ≤ MOST_OPS = few-unless x (ladders.TooManyOps count) count MOST_OPS (λ many. (ops_exact count).1 (lines, refl, many)) in
-    let law_of : MapsRelative aux c (relative_net aux c) = subst (MapsRelative aux c) law.is law in
-    record { kept = (lines, (ops, tt)); is = ap text_of law.is; means = meant Relative aux c law_of }
+-- the limits are kept by what is mapped
+module _ {X : Type 0} (aux : Aux) (c : Cascade) (x : X)
+    (lines_exact : (n : ℕ) → (◌≡◌ {A = Result X RelativeFault} (Ok x) (Err (ladders.TooManyLines n))) ↔ ((lines_with_helpers aux c ≡ n) × (MOST_LINES < n)))
+    (ops_exact : (n : ℕ) → (◌≡◌ {A = Result X RelativeFault} (Ok x) (Err (ladders.TooManyOps n)))
+    ↔ ((lines_with_helpers aux c ≤ MOST_LINES) × (relative_count operations aux c ≡ n) × (MOST_OPS < n))) where
+  few-lines : lines_with_helpers aux c ≤ MOST_LINES
+  few-lines = few-by ladders.TooManyLines (lines_with_helpers aux c) MOST_LINES x lines_exact
+
+  few-ops : relative_count operations aux c ≤ MOST_OPS
+  few-ops =
+      few-unless x (ladders.TooManyOps (relative_count operations aux c)) (relative_count operations aux c) MOST_OPS
+      (λ many. (ops_exact (relative_count operations aux c)).1 (few-lines, refl, many))
+
+  pub relative-answers : (net : Network) → MapsRelative aux c net → IsProductOf (map_report Relative aux c) (IsMapping Relative aux c) (product.Network net)
+  relative-answers net law =
+      let law_of : MapsRelative aux c (relative_net aux c) = subst (MapsRelative aux c) law.is law in
+      record { kept = (few-lines, (few-ops, tt)); is = ap text_of law.is; means = meant Relative aux c law_of }
+
+  pub joined-answers : (net : Network) → MapsJoined aux c net
+      → IsProductOf (found_within (map_limits Joined aux c) (text_of net)) (IsJoinedMapping aux c) (product.Network net)
+  joined-answers net law = record {
+    kept = (few-lines, (few-ops, tt));
+    is = refl;
+    means = record { net = net; is = refl; read_back = read-back net law.valid; maps = law };
+  }
+
+-- ladders, in the place of joined blocks
+pub in-place-of-joined : (aux : Aux) (c : Cascade) (made : Product) → IsProductOf (map_report Relative aux c) (IsMapping Relative aux c) made
+    → IsProductOf (map_report Joined aux c) (IsMapping Joined aux c) made
+in-place-of-joined aux c made m = record {
+  kept = m.kept;
+  is = m.is;
+  means = record { net = m.means.net; is = m.means.is; read_back = m.means.read_back; maps = m.means.maps };
+}

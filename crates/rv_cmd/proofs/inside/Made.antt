@@ -15,7 +15,7 @@ use Rattle.rv_inputs.specs.Reading.{HasObject, HasObjects, IsUnread, LacksObject
 use Rattle.rv_cmd.specs.declared.product.Made.{Made}
 use Rattle.rv_cmd.specs.declared.product.Product.{Product}
 use Rattle.rv_cmd.specs.Limits.{AreKept, Limit, LimitedText, Report, first_refused, found_within, within}
-use Rattle.rv_cmd.specs.Row.{ReadsFirst, finds, none, one, two}
+use Rattle.rv_cmd.specs.Row.{ReadsFirst, finds, none, one, tells, two}
 use Rattle.rv_cmd.specs.inside.Making.{IsMadeBy, IsRefusedBy, IsUnmadeBy, Makes}
 use Rattle.rv_cmd.specs.inside.Products.{IsLackOf, IsProductOf, IsRefusalOf, IsUntoldOf, alike, product_text, report_of}
 use Rattle.rv_cmd.proofs.inside.Limits.{within-kept, within-refused}
@@ -264,3 +264,42 @@ module _ {X Y : Type 0} (first : Format X) (second : Format Y) (report : X → Y
     unmade = subst (IsUnmadeBy row (a ∷ b ∷ []) old new) (sym same)
         (elim f [ inl by ↦ refusal-two x y refused has by | inr lack ↦ lack-two x y refused has lack ]);
   }
+
+-- ---- of two inputs, by a search
+
+-- What makes a text makes it as the text that is found.
+makes-told : {X Y : Type 0} (first : Format X) (second : Format Y) (limits : X → Y → List Limit) (differs : X → Y → Bool) (Lacks : X → Y → Refusal → Type 0)
+    (Means : X → Y → List ℕ → Type 0) (names : List (List ℕ)) (old new : FilesView) (result : Result Made Unmade)
+    → Makes (two first second (λ x y. found_within (limits x y) (text_in result)) differs Lacks Means) names old new result
+    → Makes (tells first second limits differs Lacks Means) names old new result
+makes-told first second limits differs Lacks Means names old new (Ok made) m =
+    record { keeps = m.keeps; made = record { texts = m.made.texts; read = m.made.read; report = m.made.report }; unmade = tt }
+makes-told first second limits differs Lacks Means names old new (Err it) m = record {
+  keeps = m.keeps;
+  made = tt;
+  unmade = unread-as names old new (IsRefusedBy (two first second (λ x y. found_within (limits x y) []) differs Lacks Means) names old new)
+      (IsRefusedBy (tells first second limits differs Lacks Means) names old new)
+      (λ refused l. record { texts = l.texts; read = l.read; is = l.is }) it m.unmade;
+}
+
+module _ {X Y : Type 0} (first : Format X) (second : Format Y) (limits : X → Y → List Limit) (differs : X → Y → Bool)
+    (Lacks : X → Y → Refusal → Type 0) (Means : X → Y → List ℕ → Type 0) (a b : List ℕ) (old new : FilesView) where
+  pub tells-two : (x : X) (y : Y) (it : Made) → ReadsOnly (a ∷ b ∷ []) old new → HasObjects first second (a ∷ b ∷ []) old new x y
+      → IsProductOf (found_within (limits x y) (product_text it.product)) (Means x y) it.product → it.differs ≡ differs x y
+      → Makes (tells first second limits differs Lacks Means) (a ∷ b ∷ []) old new (Ok it)
+  tells-two x y it keeps has made same =
+      makes-told first second limits differs Lacks Means (a ∷ b ∷ []) old new (Ok it)
+      (makes-two first second (λ x y. found_within (limits x y) (product_text it.product)) differs Lacks Means a b old new x y it keeps has made same)
+
+  pub tells-unread : (it : Unmade) → ReadsOnly (a ∷ b ∷ []) old new → IsUnread (a ∷ b ∷ []) old new (LacksObjects first second (a ∷ b ∷ []) old new) it
+      → Makes (tells first second limits differs Lacks Means) (a ∷ b ∷ []) old new (Err it)
+  tells-unread it keeps u =
+      makes-told first second limits differs Lacks Means (a ∷ b ∷ []) old new (Err it)
+      (unread-two first second (λ x y. found_within (limits x y) []) differs Lacks Means a b old new it keeps u)
+
+  pub tells-refused : (x : X) (y : Y) (refused : Refusal) (it : Unmade) → it ≡ unmade_by refused → ReadsOnly (a ∷ b ∷ []) old new
+      → HasObjects first second (a ∷ b ∷ []) old new x y → IsUntoldOf 2 (limits x y) (Lacks x y) refused
+      → Makes (tells first second limits differs Lacks Means) (a ∷ b ∷ []) old new (Err it)
+  tells-refused x y refused it same keeps has f =
+      makes-told first second limits differs Lacks Means (a ∷ b ∷ []) old new (Err it)
+      (refused-two first second (λ x y. found_within (limits x y) []) differs Lacks Means a b old new x y refused it same keeps has f)

@@ -1,5 +1,5 @@
 -- `check`: whether a network does exactly what a circuit does.
-use Rattle.std.specs.Prelude.{◌≡◌, ◌≢◌, ◌↔◌, ◌≤◌, ◌==◌, ℕ, Bool, true, false, List, [], ◌∷◌, ◌++◌, length, if◌then◌else◌, Option, Some, None, option_and_then, codes, decimal}
+use Rattle.std.specs.Prelude.{◌≡◌, ◌≢◌, ◌↔◌, ◌⊎◌, ◌≤◌, ◌<◌, ◌^◌, ◌==◌, ℕ, Bool, true, false, List, [], ◌∷◌, ◌++◌, length, if◌then◌else◌, Option, Some, None, option_and_then, codes, decimal}
 use Rattle.rv_gate.specs.Circuit.{Cascade}
 use Rattle.rv_gate.specs.Gate.{run}
 use Rattle.rv_net.specs.Denotes.{Denotes}
@@ -12,14 +12,21 @@ use Rattle.rv_check.specs.declared.checking.CheckFault.TheVariants.{CircuitLines
 use Rattle.rv_check.specs.declared.checking.TheConstants.{MOST_CHECKED_LINES}
 use Rattle.rv_check.specs.declared.checking.Verdict.{Verdict}
 use Rattle.rv_check.specs.declared.checking.Verdict.TheVariants.{Differs, Lines, Same}
+use Rattle.rv_sums.specs.Finding.{Breaks}
+use Rattle.rv_sums.specs.declared.by_paths.TheConstants.{MOST_STEPS, MOST_TERMS}
+use Rattle.rv_sums.specs.declared.finding.Finding.{Finding}
+use Rattle.rv_sums.specs.declared.finding.Finding.TheVariants as finding
 use Rattle.rv_faults.specs.Fault.{bits_of}
 use Rattle.rv_faults.specs.declared.fault.InputFault.{InputFault}
-use Rattle.rv_faults.specs.declared.fault.InputFault.TheVariants.{LargeCoefficient, TooManyLines}
+use Rattle.rv_faults.specs.declared.fault.InputFault.TheVariants.{LargeCoefficient, TooManyLines, Undecided}
+use Rattle.rv_faults.specs.declared.fault.Measure.TheVariants.{PathBits, Steps, Terms}
 use Rattle.rv_faults.specs.declared.fault.Refusal.{Refusal}
 use Rattle.rv_faults.specs.declared.fault.Refusal.TheVariants.{OutOfMemory, Refused}
+use Rattle.rv_words.specs.declared.command.CheckedBy.{CheckedBy}
+use Rattle.rv_words.specs.declared.command.CheckedBy.TheVariants.{Paths, Words}
 use Rattle.rv_inputs.specs.Formats.{circuit, program}
 use Rattle.rv_cmd.specs.Limits.{Limit, LimitedText, at_most, no_fault}
-use Rattle.rv_cmd.specs.Row.{ReadsFirst, always_told, two}
+use Rattle.rv_cmd.specs.Row.{ReadsFirst, always_told, tells, two}
 
 -- ---- the limits
 
@@ -100,5 +107,53 @@ pub record TellsVerdict (c : Cascade) (listing : Listing) (text : List ℕ) : Ty
       (n m : ℕ) → (verdict_for c listing.net ≡ Lines n m) ↔ ((length c.names ≡ n) × (listing.net.lines ≡ m) × (n ≢ m))
   pub status : (check_differs c listing ≡ false) ↔ (verdict_for c listing.net ≡ Same)
 
-abbrev pub check_row : ReadsFirst
-check_row = two circuit program check_report check_differs always_told TellsVerdict
+-- ---- by sums over paths: what is told is found
+
+-- nothing is refused of what can be read
+abbrev pub paths_limits : Cascade → Listing → List Limit
+paths_limits c listing = []
+
+-- a word at which they differ, which need not be the first
+abbrev pub witness_text : ℕ → ℕ → List ℕ
+witness_text lines word = codes "differs, as at word " ++ (bits_of lines word ++ codes "\n")
+
+abbrev pub IsToldSame : Cascade → Network → List ℕ → Type 0
+IsToldSame c net text =
+    (text ≡ verdict_text net.lines Same) × (length c.names ≡ net.lines) × Denotes net.lines net.ops (run c.gates)
+
+pub record IsToldAt (c : Cascade) (net : Network) (text : List ℕ) : Type 0 where
+  pub word : ℕ
+  pub is : text ≡ witness_text net.lines word
+  pub lines : length c.names ≡ net.lines
+  pub within : word < 2 ^ net.lines
+  pub breaks : Breaks c.gates net word
+
+abbrev pub IsToldByLines : Cascade → Network → List ℕ → Type 0
+IsToldByLines c net text = (text ≡ verdict_text net.lines (Lines (length c.names) net.lines)) × (length c.names ≢ net.lines)
+
+-- The report is `same`, and the network denotes the circuit's run; or it tells a word from which an amplitude is another
+-- one; or both numbers of lines.
+abbrev pub TellsByPaths : Cascade → Listing → List ℕ → Type 0
+TellsByPaths c listing text =
+    IsToldSame c listing.net text ⊎ (IsToldAt c listing.net text ⊎ IsToldByLines c listing.net text)
+
+-- why there is no report
+abbrev pub undecided : Finding → Option InputFault
+undecided finding.Same = None
+undecided (finding.Differs word) = None
+undecided finding.Terms = Some (Undecided MOST_TERMS Terms)
+undecided finding.Steps = Some (Undecided MOST_STEPS Steps)
+undecided (finding.Paths left) = Some (Undecided left PathBits)
+
+-- The search came to an end without telling anything, on the same lines.
+pub record IsUndecidedByPaths (c : Cascade) (listing : Listing) (refused : Refusal) : Type 0 where
+  pub finding : Finding
+  pub why : InputFault
+  pub ends : undecided finding ≡ Some why
+  pub is : refused ≡ Refused 1 why
+  pub lines : length c.names ≡ listing.net.lines
+
+-- whether an amplitude is another one is the same question, however it is looked at
+abbrev pub check_row : CheckedBy → ReadsFirst
+check_row Words = two circuit program check_report check_differs always_told TellsVerdict
+check_row Paths = tells circuit program paths_limits check_differs IsUndecidedByPaths TellsByPaths

@@ -16,6 +16,7 @@ use Rattle.rv_compare.specs.declared.comparison.Comparison.{Comparison}
 use Rattle.rv_compare.specs.declared.comparison.Comparison.TheVariants.{Differs, Inputs, Outputs, Same}
 use Rattle.rv_faults.specs.Fault.{bits_of}
 use Rattle.rv_faults.specs.declared.fault.InputFault.TheVariants.{Undecided}
+use Rattle.rv_faults.specs.declared.fault.Measure.TheVariants.{Nodes}
 use Rattle.rv_faults.specs.declared.fault.Refusal.{Refusal}
 use Rattle.rv_faults.specs.declared.fault.Refusal.TheVariants.{OutOfMemory, Refused}
 use Rattle.rv_words.specs.declared.command.Form.{Form}
@@ -29,12 +30,12 @@ use Rattle.rv_cmd.specs.Row.{ReadsFirst, always_told, two}
 -- A circuit of more inputs than are compared on all words may remain undecided: no diagram of at most so many nodes
 -- tells. It never does where there are at most 24 inputs.
 abbrev pub IsUndecided : Cascade → Refusal → Type 0
-IsUndecided c (Refused input why) = (input ≡ 0) × (why ≡ Undecided MOST_NODES) × HasManyInputs c
+IsUndecided c (Refused input why) = (input ≡ 0) × (why ≡ Undecided MOST_NODES Nodes) × HasManyInputs c
 IsUndecided c OutOfMemory = ⊥
 
 -- a fault of a comparison, as a refusal
 abbrev pub no_answer : CompareFault → Refusal
-no_answer fault.Undecided = Refused 0 (Undecided MOST_NODES)
+no_answer fault.Undecided = Refused 0 (Undecided MOST_NODES Nodes)
 no_answer fault.Mem = OutOfMemory
 
 -- ---- the report

@@ -8,25 +8,28 @@ use Rattle.rv_near.specs.Near.{MapsNear, near_net, near_ops}
 use Rattle.rv_net.specs.Mapping.{Maps}
 use Rattle.rv_net.specs.Network.{expanded, operation_count}
 use Rattle.rv_net.specs.Op.{Network}
+use Rattle.rv_joined.specs.Joined.{MapsJoined}
 use Rattle.rv_ladder.specs.Counts.{operations, relative_count}
 use Rattle.rv_ladder.specs.Relative.{MapsRelative, relative_net}
 use Rattle.rv_expand.specs.Toffoli.{MapsToffoli, toffoli_net, toffoli_ops}
 use Rattle.rv_qasm.specs.Reading.{in_register_q, qasm_of}
 use Rattle.rv_qasm.specs.Text.{text_of}
 use Rattle.rv_words.specs.declared.command.Blocks.{Blocks}
-use Rattle.rv_words.specs.declared.command.Blocks.TheVariants.{Exact, Near, Relative, Toffoli}
+use Rattle.rv_words.specs.declared.command.Blocks.TheVariants.{Exact, Joined, Near, Relative, Toffoli}
 use Rattle.rv_inputs.specs.Formats.{circuit}
 use Rattle.rv_cmd.specs.Limits.{Limit, LimitedText, of_gates, of_lines, of_ops}
-use Rattle.rv_cmd.specs.Row.{ReadsFirst, one}
+use Rattle.rv_cmd.specs.Row.{ReadsFirst, always, finds, one}
 
 -- The network of a circuit, on its lines and the helper lines of its decomposition: each gate of the decomposed circuit
 -- becomes operations of its own; or each gate of the circuit a ladder whose phases cancel; or each of the decomposed
--- circuit one operation; or each of these operations on neighbours, where its lines are a row.
+-- circuit one operation; or each of these operations on neighbours, where its lines are a row. Joined blocks are found;
+-- by a rule their place is taken by ladders.
 abbrev pub mapped : Blocks → Aux → Cascade → Network
 mapped Exact aux c = expanded (decomposed aux c)
 mapped Relative aux c = relative_net aux c
 mapped Toffoli aux c = toffoli_net (decomposed aux c)
 mapped Near aux c = near_net (decomposed aux c)
+mapped Joined aux c = relative_net aux c
 
 -- the gates of the decomposed circuit, where it is made of them, then its operations
 abbrev pub network_limits : Blocks → Aux → Cascade → List Limit
@@ -34,6 +37,7 @@ network_limits Exact aux c = of_gates (gate_count aux c) ∷ of_ops (operation_c
 network_limits Relative aux c = of_ops (relative_count operations aux c) ∷ []
 network_limits Toffoli aux c = of_gates (gate_count aux c) ∷ of_ops (length (toffoli_ops (decomposed aux c).gates)) ∷ []
 network_limits Near aux c = of_gates (gate_count aux c) ∷ of_ops (length (near_ops (decomposed aux c).gates)) ∷ []
+network_limits Joined aux c = of_ops (relative_count operations aux c) ∷ []
 
 -- the lines come first
 abbrev pub map_limits : Blocks → Aux → Cascade → List Limit
@@ -47,6 +51,7 @@ MapsBy Exact aux c net = Maps aux c net
 MapsBy Relative aux c net = MapsRelative aux c net
 MapsBy Toffoli aux c net = MapsToffoli aux c net
 MapsBy Near aux c net = MapsNear aux c net
+MapsBy Joined aux c net = MapsRelative aux c net
 
 -- Read back, the text is a network, in one register q, that carries the circuit: with the exact amplitudes of its
 -- permutation on the lines and helper lines of the decomposed circuit.
@@ -56,5 +61,13 @@ pub record IsMapping (blocks : Blocks) (aux : Aux) (c : Cascade) (text : List �
   pub read_back : qasm_of text ≡ Ok (in_register_q net)
   pub maps : MapsBy blocks aux c net
 
+-- The network is found: its phases are joined over the whole circuit, and it has no more T than that of ladders.
+pub record IsJoinedMapping (aux : Aux) (c : Cascade) (text : List ℕ) : Type 0 where
+  pub net : Network
+  pub is : text ≡ text_of net
+  pub read_back : qasm_of text ≡ Ok (in_register_q net)
+  pub maps : MapsJoined aux c net
+
 abbrev pub map_row : Blocks → Aux → ReadsFirst
+map_row Joined aux = finds circuit (map_limits Joined aux) always (IsJoinedMapping aux)
 map_row blocks aux = one circuit (map_report blocks aux) (IsMapping blocks aux)

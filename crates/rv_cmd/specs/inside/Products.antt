@@ -8,8 +8,8 @@ use Rattle.rv_faults.specs.declared.fault.Refusal.{Refusal}
 use Rattle.rv_faults.specs.declared.fault.Refusal.TheVariants.{Refused, OutOfMemory}
 use Rattle.rv_cmd.specs.declared.product.Made.{Made}
 use Rattle.rv_cmd.specs.declared.product.Product.{Product}
-use Rattle.rv_cmd.specs.declared.product.Product.TheVariants.{Circuit, Permutation, Cubes, Network, Expansion, Toffolis, CircuitCost, NetCost, Summary, Verdict, Comparison, Drawing, NetDrawing}
-use Rattle.rv_cmd.specs.Commands.Check.{verdict_text}
+use Rattle.rv_cmd.specs.declared.product.Product.TheVariants.{Circuit, Permutation, Cubes, Network, Expansion, Toffolis, CircuitCost, NetCost, Summary, Verdict, Witness, Comparison, Drawing, NetDrawing}
+use Rattle.rv_cmd.specs.Commands.Check.{verdict_text, witness_text}
 use Rattle.rv_cmd.specs.Commands.Compare.{comparison_text}
 use Rattle.rv_cmd.specs.Commands.Cost.{circuit_cost_text, net_cost_text}
 use Rattle.rv_cmd.specs.Commands.Demo.{summary_text}
@@ -28,6 +28,7 @@ product_text (CircuitCost cost) = circuit_cost_text cost
 product_text (NetCost cost) = net_cost_text cost
 product_text (Summary summary) = summary_text summary
 product_text (Verdict lines verdict) = verdict_text lines verdict
+product_text (Witness lines word) = witness_text lines word
 product_text (Comparison inputs answer) = comparison_text inputs answer
 product_text (Drawing circuit picture wrap) = circuit_text picture wrap circuit
 product_text (NetDrawing lines net picture wrap) = network_text picture wrap lines net.ops

@@ -1,24 +1,45 @@
-ghost use Rattle.std.specs.Prelude.{◌≡◌};
+ghost use Rattle.std.specs.Prelude.{◌≡◌, length};
 ghost use Rattle.rv_io.specs.Sink.{Sends};
 ghost use Rattle.rv_io.specs.Writer.{Adds};
-ghost use Rattle.rv_cmd.specs.Commands.Check.{TellsVerdict, check_differs, check_report, lines_said, no_verdict};
-ghost use Rattle.rv_cmd.specs.Commands.Check.{says_different, verdict_said, verdict_text};
+ghost use Rattle.rv_cmd.specs.Commands.Check.{IsUndecidedByPaths, TellsByPaths, TellsVerdict, check_differs};
+ghost use Rattle.rv_cmd.specs.Commands.Check.{check_report, check_row, lines_said, no_verdict, paths_limits};
+ghost use Rattle.rv_cmd.specs.Commands.Check.{says_different, verdict_said, verdict_text, witness_text};
+ghost use Rattle.rv_cmd.specs.Names.{names_read};
 ghost use Rattle.rv_cmd.specs.Row.{always_told};
+ghost use Rattle.rv_cmd.specs.inside.Making.{Makes};
 
-use crate::making::TwoInputs;
+use crate::making::{TwoInputs, TwoSearch, of_two, told_of_two};
 use crate::product::{Made, Product};
-use rv_check::{CheckFault, MOST_CHECKED_LINES, Verdict, check};
-use rv_faults::{InputFault, Refusal, put_bits};
+use rv_check::{CheckFault, MOST_CHECKED_LINES, Verdict, check as checked};
+use rv_faults::{InputFault, Measure, Refusal, Unmade, put_bits};
 use rv_gate::Circuit;
-use rv_io::{Sink, WriteFault, Writer};
+use rv_io::{Files, Sink, WriteFault, Writer};
 use rv_qasm::{Program, QasmReader};
 use rv_real::RealReader;
+use rv_sums::{Finding, MOST_STEPS, MOST_TERMS, check_by_paths};
+use rv_words::{CheckedBy, Settings};
 use std::alloc::Global;
 
 /// Whether the network of an OpenQASM text does exactly what a circuit does.
-pub(crate) struct Check;
+pub(crate) fn check<F: Files>(
+    alloc: Global,
+    settings: &Settings,
+    files: &mut F,
+) -> Result<Made, Unmade>
+    requires { length (names_read settings.now) ≡ 2 }
+    ensures { Makes (check_row settings.now.checked) (names_read settings.now) (F.view files.old) (F.view files.new)
+        result }
+{
+    match settings.checked {
+        CheckedBy::Words => of_two(alloc, settings, files, &ByWords),
+        CheckedBy::Paths => told_of_two(alloc, settings, files, &ByPaths),
+    }
+}
 
-impl TwoInputs for Check {
+// From each word in turn.
+struct ByWords;
+
+impl TwoInputs for ByWords {
     type First = RealReader;
 
     type Second = QasmReader;
@@ -34,13 +55,67 @@ impl TwoInputs for Check {
     fn make(&self, alloc: Global, circuit: &Circuit, program: &Program) -> Result<Made, Refusal> {
         let net = program.net();
         let lines = net.lines();
-        match check(alloc, circuit, net) {
-            Ok(verdict) => Ok(Made {
-                product: Product::Verdict(lines, verdict),
-                differs: says_different(verdict),
-            }),
+        match checked(alloc, circuit, net) {
+            Ok(verdict) => Ok(told(lines, verdict)),
             Err(fault) => Err(no_verdict(lines, fault)),
         }
+    }
+}
+
+// By sums over paths, from all words at once.
+struct ByPaths;
+
+impl TwoSearch for ByPaths {
+    type First = RealReader;
+
+    type Second = QasmReader;
+
+    ghost limits = { λ command. paths_limits };
+
+    ghost differs = { λ command. check_differs };
+
+    ghost Lacks = { λ command. IsUndecidedByPaths };
+
+    ghost Means = { λ command. TellsByPaths };
+
+    fn tell(&self, alloc: Global, circuit: &Circuit, program: &Program) -> Result<Made, Refusal> {
+        let net = program.net();
+        let (circuit_lines, lines) = (circuit.line_count(), net.lines());
+        if circuit_lines != lines {
+            return Ok(told(lines, Verdict::Lines(circuit_lines, lines)));
+        }
+        match check_by_paths(alloc, circuit, net) {
+            Ok(Finding::Same) => Ok(told(lines, Verdict::Same)),
+            Ok(Finding::Differs(word)) => Ok(Made {
+                product: Product::Witness(lines, word),
+                differs: true,
+            }),
+            Ok(Finding::Terms) => Err(undecided(MOST_TERMS as u64, Measure::Terms)),
+            Ok(Finding::Steps) => Err(undecided(MOST_STEPS, Measure::Steps)),
+            Ok(Finding::Paths(left)) => Err(undecided(u64::from(left), Measure::PathBits)),
+            Err(_) => Err(Refusal::OutOfMemory),
+        }
+    }
+}
+
+// A verdict on a network of so many lines, as it is to be written.
+fn told(lines: u8, verdict: Verdict) -> Made
+    ensures product { result.product ≡ Product.Verdict lines verdict }
+    ensures differs { result.differs ≡ says_different verdict }
+{
+    Made {
+        product: Product::Verdict(lines, verdict),
+        differs: says_different(verdict),
+    }
+}
+
+// What was followed grew to so much.
+fn undecided(count: u64, what: Measure) -> Refusal
+    ensures { result ≡ Refusal.Refused 1 (InputFault.Undecided count what) }
+{
+    Refusal::Refused {
+        input: 1,
+        why: InputFault::Undecided { count, what },
     }
 }
 
@@ -92,6 +167,17 @@ pub(crate) fn put_verdict<O: Sink>(
 {
     let mut writer = Writer::new();
     put_said(&mut writer, out, lines, verdict);
+    writer.put(out, b"\n");
+    writer.finish(out)
+}
+
+/// Sends a word at which a network of so many lines differs.
+pub(crate) fn put_witness<O: Sink>(lines: u8, word: u64, out: &mut O) -> Result<(), WriteFault>
+    ensures { Sends (O.view out.old) (witness_text lines word) result (O.view out.new) }
+{
+    let mut writer = Writer::new();
+    writer.put(out, b"differs, as at word ");
+    put_bits(&mut writer, out, lines, word);
     writer.put(out, b"\n");
     writer.finish(out)
 }

@@ -19,7 +19,7 @@ use rv_compare::{
     input_count,
 };
 use rv_diagram::MOST_NODES;
-use rv_faults::{InputFault, Refusal, Unmade, put_bits};
+use rv_faults::{InputFault, Measure, Refusal, Unmade, put_bits};
 use rv_gate::Circuit;
 use rv_io::{Files, Sink, WriteFault, Writer};
 use rv_perm::{PermReader, PermSpec};
@@ -182,7 +182,8 @@ fn no_answer(fault: CompareFault) -> Refusal
         CompareFault::Undecided => Refusal::Refused {
             input: 0,
             why: InputFault::Undecided {
-                nodes: MOST_NODES as u32,
+                count: MOST_NODES as u64,
+                what: Measure::Nodes,
             },
         },
         CompareFault::Mem => Refusal::OutOfMemory,

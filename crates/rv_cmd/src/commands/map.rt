@@ -4,35 +4,79 @@ ghost use Rattle.rv_mct.specs.Extends.{IsPlain};
 ghost use Rattle.rv_near.specs.Near.{near_net, near_ops};
 ghost use Rattle.rv_net.specs.Network.{expanded, operation_count};
 ghost use Rattle.rv_net.specs.declared.net.TheConstants.{MOST_OPS};
-ghost use Rattle.rv_words.specs.declared.command.Blocks.TheVariants.{Exact, Near, Relative, Toffoli};
+ghost use Rattle.rv_words.specs.declared.command.Blocks.TheVariants.{Exact, Joined, Near, Relative, Toffoli};
 ghost use Rattle.rv_cmd.specs.declared.product.Product.TheVariants as products;
-ghost use Rattle.rv_cmd.specs.Commands.Map.{IsMapping, map_limits, map_report};
+ghost use Rattle.rv_cmd.specs.Commands.Map.{IsJoinedMapping, IsMapping, map_limits, map_report, map_row};
 ghost use Rattle.rv_cmd.specs.Limits.{of_ops};
+ghost use Rattle.rv_cmd.specs.Names.{names_read};
+ghost use Rattle.rv_cmd.specs.inside.Making.{Makes};
 ghost use Rattle.rv_cmd.specs.inside.Products.{IsProductOf, IsRefusalOf};
 
-use crate::making::OneInput;
-use crate::product::Product;
+use crate::making::{OneInput, OneSearch, found_of_one, of_one};
+use crate::product::{Made, Product};
 use crate::refusals::{too_many_lines, too_many_ops};
 use crate::steps::decomposition;
 use rv_expand::{Expansion, Toffolis};
-use rv_faults::Refusal;
+use rv_faults::{Refusal, Unmade};
 use rv_gate::{Circuit, MOST_LINES};
+use rv_io::Files;
+use rv_joined::joined;
 use rv_ladder::{RelativeFault, relative};
 use rv_mct::Aux;
 use rv_near::near;
 use rv_net::ExpandFault;
 use rv_real::RealReader;
-use rv_words::Blocks;
+use rv_words::{Blocks, Settings};
 use std::alloc::Global;
 
 /// The network of a circuit.
-#[derive(Clone, Copy)]
-pub(crate) struct Map {
-    pub(crate) blocks: Blocks,
-    pub(crate) aux: Aux,
+pub(crate) fn map<F: Files>(
+    alloc: Global,
+    settings: &Settings,
+    files: &mut F,
+) -> Result<Made, Unmade>
+    requires { length (names_read settings.now) ≡ 1 }
+    ensures { Makes (map_row settings.now.blocks settings.now.aux) (names_read settings.now) (F.view files.old)
+        (F.view files.new) result }
+{
+    let (blocks, aux) = (settings.blocks, settings.aux);
+    match blocks {
+        Blocks::Joined => found_of_one(alloc, settings, files, &MapJoined { aux }),
+        _ => of_one(alloc, settings, files, &MapByRule { blocks, aux }),
+    }
 }
 
-impl OneInput for Map {
+// In blocks whose phases are joined over the whole circuit.
+#[derive(Clone, Copy)]
+struct MapJoined {
+    aux: Aux,
+}
+
+impl OneSearch for MapJoined {
+    type Text = RealReader;
+
+    ghost limits = { λ command. map_limits Joined command.aux };
+
+    ghost Means = { λ command. IsJoinedMapping command.aux };
+
+    fn find(&self, alloc: Global, circuit: &Circuit) -> Result<Product, Refusal> {
+        match joined(alloc, circuit, self.aux) {
+            Ok(net) => Ok(Product::Network(net)),
+            Err(RelativeFault::TooManyLines(count)) => Err(too_many_lines(count, MOST_LINES)),
+            Err(RelativeFault::TooManyOps(count)) => Err(too_many_ops(count)),
+            Err(RelativeFault::Mem) => Err(Refusal::OutOfMemory),
+        }
+    }
+}
+
+// In blocks that are made by a rule.
+#[derive(Clone, Copy)]
+struct MapByRule {
+    blocks: Blocks,
+    aux: Aux,
+}
+
+impl OneInput for MapByRule {
     type Text = RealReader;
 
     ghost report = { λ command. map_report command.blocks command.aux };
@@ -56,7 +100,7 @@ pub(crate) fn mapping(
 {
     match blocks {
         Blocks::Exact => exact(alloc, aux, circuit),
-        Blocks::Relative => of_ladders(alloc, aux, circuit),
+        Blocks::Relative | Blocks::Joined => of_ladders(alloc, aux, circuit),
         Blocks::Toffoli => of_toffolis(alloc, aux, circuit),
         Blocks::Near => on_neighbours(alloc, aux, circuit),
     }

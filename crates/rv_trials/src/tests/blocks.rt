@@ -58,6 +58,7 @@ fn networks_of_all_blocks_do_what_the_circuit_does(rt: HostRuntime) {
     expect_same_networks(&rt, alloc, "map --blocks relative");
     expect_same_networks(&rt, alloc, "map --blocks toffoli");
     expect_same_networks(&rt, alloc, "map --blocks near");
+    expect_same_networks(&rt, alloc, "map --blocks joined");
 }
 
 // By the line that stands between the others: the second control, the target, and the first control of two, which wants

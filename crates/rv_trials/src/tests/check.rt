@@ -131,7 +131,8 @@ fn expect_same_by_names(rt: &impl Abort, alloc: Global, words: &str, circuit: &s
 
 #[test]
 fn an_input_that_is_not_named_is_standard_input(rt: HostRuntime) {
-    const CASES: [(&str, &str, u8, &str); 3] = [
+    const CASES: [(&str, &str, u8, &str); 4] = [
+        ("check c.real --by all", NOTHING, 2, "bad value for --by"),
         ("check", NOTHING, 2, "wrong number of inputs for check"),
         ("check -", NOTHING, 2, "standard input named twice"),
         (
@@ -241,4 +242,57 @@ fn the_network_of_a_permutation_is_the_same_as_its_circuit(rt: HostRuntime) {
     for images in &PERMUTATIONS {
         expect_flow(&rt, rt.alloc(), images.as_bytes());
     }
+}
+
+// Checks each circuit and network by sums over paths: the status, and what is told.
+fn expect_by_paths(rt: &impl Abort, alloc: Global, cases: &[(&str, &str, u8, &str)]) {
+    for (circuit, network, status, tells) in cases {
+        let first = ("c.real", circuit.as_bytes());
+        let second = ("n.qasm", network.as_bytes());
+        let words = "check --by paths c.real n.qasm";
+        expect_over_two(rt, alloc, words, first, second, told(*status, tells));
+    }
+}
+
+// Where all words differ, or one alone, this is the word that is told.
+#[test]
+fn a_network_is_checked_from_all_words_at_once(rt: HostRuntime) {
+    const CASES: [(&str, &str, u8, &str); 6] = [
+        (NOTHING, one_qubit!("h q[0]; h q[0];"), 0, "same\n"),
+        (
+            NOTHING,
+            one_qubit!("t q[0]; h q[0]; h q[0]; tdg q[0];"),
+            0,
+            "same\n",
+        ),
+        (NOTHING, one_qubit!("z q[0];"), 1, "differs, as at word 1\n"),
+        (TWO_CONTROLS, FIFTEEN_OPERATIONS, 0, "same\n"),
+        (
+            TWO_CONTROLS,
+            network!(3, "ccx q[0],q[1],q[2];\ncz q[0],q[1];\n"),
+            1,
+            "differs, as at word 111\n",
+        ),
+        (
+            NOTHING,
+            "OPENQASM 2.0;\nqreg q[2];\n",
+            1,
+            "differs in lines 1 and 2\n",
+        ),
+    ];
+    expect_by_paths(&rt, rt.alloc(), &CASES);
+}
+
+// The first and the last of 64 lines.
+#[test]
+fn sixty_four_lines_are_checked_by_paths(rt: HostRuntime) {
+    let alloc = rt.alloc();
+    let circuit = circuit_on(&rt, alloc, 64, "t3 x0 x1 x63\nt2 x63 x0\n");
+    let network = output_of(&rt, alloc, "map", circuit.as_bytes());
+    let words = "check --by paths c.real n.qasm";
+    let first = ("c.real", circuit.as_bytes());
+    let second = ("n.qasm", network.bytes());
+    expect_over_two(&rt, alloc, words, first, second, told(0, "same\n"));
+    let wide = fails(5, "c.real: 64 lines are more than 10");
+    expect_over_two(&rt, alloc, CHECK, first, second, wide);
 }

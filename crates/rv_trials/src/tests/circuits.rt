@@ -123,6 +123,48 @@ fn a_circuit_is_refused_by_its_fault(rt: HostRuntime) {
 }
 
 #[test]
+fn each_fault_of_a_circuit_stands_at_its_line(rt: HostRuntime) {
+    const HEADERS: [(&[u8], &str); 15] = [
+        (b"", "0: no .end"),
+        (b".begin", "1: missing directive"),
+        (b"\".numvars\" 2", "1: missing directive"),
+        (b".numvars 0", "1: wrong number"),
+        (b".numvars 65", "1: too many lines"),
+        (b".version \"2.0", "1: unclosed quote"),
+        (b".define x", "1: not supported"),
+        (b"\n.inputsbus", "2: unknown directive"),
+        (b".numvars 2\n.numvars 2", "2: directive out of place"),
+        (b".numvars 2\n.constants -2", "2: wrong mark row"),
+        (b".numvars 2\n.outputs a", "2: wrong label count"),
+        (b".numvars 2\n.inputs a b\"c", "2: wrong name"),
+        (b".numvars 2\n.variables a -b", "2: wrong name"),
+        (b".numvars 2\n.variables a a", "2: repeated label"),
+        (
+            b".numvars 2\n.variables a b\n.begin\n.begin",
+            "4: directive out of place",
+        ),
+    ];
+    const GATES: [(&[u8], &str); 13] = [
+        (b"t2 a c", "4: unknown label"),
+        (b"t2 \"a\" b", "4: unknown label"),
+        (b"t2 --a b", "4: unknown label"),
+        (b"q2 a b", "4: unknown gate"),
+        (b"\"t2\" a b", "4: unknown gate"),
+        (b"t3 a b", "4: wrong operand count"),
+        (b"t2 a a", "4: repeated operand"),
+        (b"v a b", "4: not supported"),
+        (b"v+ a b", "4: not supported"),
+        (b"t2 a -b", "4: sign on a target"),
+        (b"p a b -a", "4: sign on a target"),
+        (b"t1 a\n\n", "5: no .end"),
+        (b".end\n\nx", "6: text after .end"),
+    ];
+    expect_faults(&rt, rt.alloc(), "cost", "-", b"", &HEADERS);
+    let first = b".numvars 2\n.variables a b\n.begin\n";
+    expect_faults(&rt, rt.alloc(), "cost", "-", first, &GATES);
+}
+
+#[test]
 fn a_toffoli_gate_is_fifteen_operations(rt: HostRuntime) {
     const CASES: [(&str, &str, u8, &str); 3] = [
         ("map", TWO_CONTROLS, 0, FIFTEEN_OPERATIONS),
@@ -255,6 +297,54 @@ fn words_are_simulated_by_a_circuit(rt: HostRuntime) {
         ),
     ];
     expect_simulations(&rt, rt.alloc(), &CASES);
+}
+
+// Simulates words up to the first wrong one: what is typed, the circuit, the words, what is written, and the fault.
+fn expect_words(rt: &impl Abort, alloc: Global, cases: &[(&str, &str, &str, &str, &str)]) {
+    for (typed, circuit, words, out, line) in cases {
+        let mut files = files_of(
+            rt,
+            alloc,
+            ("c.real", circuit.as_bytes()),
+            ("w.txt", words.as_bytes()),
+        );
+        let status = if line.is_empty() { 0 } else { 3 };
+        let out = out.as_bytes();
+        expect_by(rt, alloc, typed, &mut files, Want { status, out, line });
+    }
+}
+
+#[test]
+fn words_are_answered_up_to_the_first_wrong_one(rt: HostRuntime) {
+    const ALL: &str = "simulate --all c.real w.txt";
+    const PUT_IN: &str = "simulate c.real w.txt";
+    const P: &str = PERES_AND_FREDKIN;
+    const SECOND: &str = "w.txt:2: wrong word";
+    const ONE: &str = ".numvars 1\n.variables a\n.constants 1\n.garbage 1\n.begin\n.end\n";
+    const CASES: [(&str, &str, &str, &str, &str); 14] = [
+        (PUT_IN, P, "100\n11\n110\n", "101\n", SECOND),
+        (PUT_IN, P, "", "", ""),
+        (PUT_IN, P, "# 100\r\n\t\n", "", ""),
+        (PUT_IN, P, "1\t00 \n110#\n", "101\n110\n", ""),
+        (PUT_IN, P, "110\n100\r\n", "110\n", SECOND),
+        (PUT_IN, P, "# c\n\n1000", "", "w.txt:3: wrong word"),
+        (PUT_IN, P, "100\n1\"0\"0\n", "101\n", SECOND),
+        (PUT_IN, P, "1002\n", "", "w.txt:1: wrong word"),
+        (PUT_IN, P, "100\nx", "101\n", SECOND),
+        (
+            PUT_IN,
+            P,
+            "110\n111111111111111111111111111",
+            "110\n",
+            SECOND,
+        ),
+        (PUT_IN, FULL_ADDER, "1110\n", "", "w.txt:1: wrong word"),
+        (ALL, FULL_ADDER, "1110\n0111\n", "1011\n0100\n", ""),
+        (ALL, FULL_ADDER, "111\n", "", "w.txt:1: wrong word"),
+        // A line that is constant takes no bit.
+        (PUT_IN, ONE, "\n1\n", "", SECOND),
+    ];
+    expect_words(&rt, rt.alloc(), &CASES);
 }
 
 // The circuit on 64 lines that flips the last by the first.

@@ -15,11 +15,33 @@ const KEPT: &str = network!(
     "t q[0];\nh q[1];\ncx q[0],q[1];\ncx q[1],q[0];\ncx q[0],q[1];\nswap q[0],q[1];\n"
 );
 
+// Each operation, on qubits where none joins another.
+const EACH_OPERATION: &str = network!(
+    64,
+    "x q[0];\ny q[1];\nz q[9];\nh q[10];\ns q[63];\nsdg q[2];\nt q[3];\ntdg q[4];\ncx q[5],q[0];\n\
+     cz q[0],q[31];\nccx q[7],q[6],q[5];\nswap q[30],q[29];\ncswap q[63],q[0],q[19];\n"
+);
+
+// The parities of line 0 and of seven lines, which one slot of a table would hold.
+const TWO_PARITIES: &str = network!(
+    10,
+    "t q[0];\ncx q[4],q[1];\ncx q[5],q[1];\ncx q[6],q[1];\ncx q[7],q[1];\ncx q[8],q[1];\n\
+     cx q[9],q[1];\nt q[1];\nt q[0];\nt q[1];\ntdg q[0];\ns q[1];\n"
+);
+
+const JOINED_APART: &str = network!(
+    10,
+    "t q[0];\ncx q[4],q[1];\ncx q[5],q[1];\ncx q[6],q[1];\ncx q[7],q[1];\ncx q[8],q[1];\n\
+     cx q[9],q[1];\nz q[1];\n"
+);
+
 const FIVE: &str = network!(2, "z q[0];\nt q[0];\nh q[1];\nh q[0];\nt q[0];\n");
 
 #[test]
 fn phases_of_one_parity_are_joined(rt: HostRuntime) {
-    const CASES: [(&str, &str); 5] = [
+    const CASES: [(&str, &str); 7] = [
+        (EACH_OPERATION, EACH_OPERATION),
+        (TWO_PARITIES, JOINED_APART),
         // The middle t stands on the complement, and its phase is not joined to those of the other two.
         (
             "OPENQASM 2.0;\nqreg q[1];\nt q[0]; x q[0]; t q[0]; x q[0]; t q[0];",

@@ -99,7 +99,25 @@ fn the_words_backwards_take_one_flip_a_line(rt: HostRuntime) {
 
 #[test]
 fn a_text_that_is_no_permutation_is_refused_by_its_first_fault(rt: HostRuntime) {
-    const CASES: [(&[u8], &str); 14] = [
+    const CASES: [(&[u8], &str); 23] = [
+        (b".constants, -", "1: unknown directive"),
+        (b"99999999999\n.garbage -", "2: directive out of place"),
+        (b".constants 0,1", "1: wrong mark row"),
+        (
+            b"\n.garbage -\n.constants 010\n0 9 9 9",
+            "3: wrong mark row",
+        ),
+        (b".constants\n0 1", "1: wrong mark row"),
+        (
+            b".constants -0\n{} , []",
+            " 0 numbers are no power of two from 2 to 65536",
+        ),
+        (
+            b".garbage 1\n0 1 2",
+            " 3 numbers are no power of two from 2 to 65536",
+        ),
+        (b"0 4294967296", " image out of range at place 1"),
+        (b"0 0 2 2", " image repeated at places 0 and 1"),
         (b"", " 0 numbers are no power of two from 2 to 65536"),
         (b"0 1 2", " 3 numbers are no power of two from 2 to 65536"),
         (b"0", " 1 numbers are no power of two from 2 to 65536"),
@@ -140,7 +158,18 @@ fn free_entries_save_a_line(rt: HostRuntime) {
 
 #[test]
 fn a_truth_table_is_refused_by_its_fault(rt: HostRuntime) {
-    const CASES: [(&[u8], &str); 3] = [
+    const CASES: [(&[u8], &str); 14] = [
+        (b".i 1\n\n.e\n", "3: missing directive"),
+        (b"11 1", "1: missing directive"),
+        (b".i 0", "1: wrong number"),
+        (b".i 1\n.o 1234567890", "2: wrong number"),
+        (b".i 1\n.o 1\n1 1\n.type f", "4: directive out of place"),
+        (b".i 1 # in\n.i 1", "2: directive out of place"),
+        (b".x", "1: unknown directive"),
+        (b".type dr", "1: not supported"),
+        (b"\t.phase 01", "1: not supported"),
+        (b".i 2\n.o 1\n1 1", "3: wrong term length"),
+        (b".i 1\n.o 1\n~ 1", "3: wrong character"),
         (
             b".i 1\n.o 1\n.type fr\n1 1\n- 0",
             " lines 4 and 5 conflict at word 1",
@@ -154,7 +183,15 @@ fn a_truth_table_is_refused_by_its_fault(rt: HostRuntime) {
 #[test]
 fn a_truth_table_becomes_a_cascade_or_a_list(rt: HostRuntime) {
     const TWICE: &str = ".i 1\n.o 1\n.type esop\n1 1\n1 1\n.e\n";
-    const CASES: [(&str, &str, u8, &str); 3] = [
+    // The first two terms become one by an exorlink with the third.
+    const THIRD: &str = ".i 3\n.o 1\n.type esop\n110 1\n000 1\n-11 1\n.e\n";
+    const CASES: [(&str, &str, u8, &str); 4] = [
+        (
+            "esop --to pla",
+            THIRD,
+            0,
+            ".i 3\n.o 1\n.type esop\n.p 2\n-1- 1\n0-0 1\n.e\n",
+        ),
         (
             "esop --to real -",
             ".i 2\n.o 1\n11 1",

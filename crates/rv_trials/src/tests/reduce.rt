@@ -98,3 +98,31 @@ fn what_is_not_read_is_not_reduced(rt: HostRuntime) {
     let version = b"OPENQASM 2.0;\n";
     expect_faults(&rt, rt.alloc(), "reduce q.qasm", "q.qasm", version, &CASES);
 }
+
+// A Toffoli gate with its helper phases joined: as many T, and no more CNOT gates than are published.
+#[test]
+fn a_goal_makes_fewer_cnots(rt: HostRuntime) {
+    const CIRCUIT: &str = typed!(5, "a b c d e", "t3 a b d\nt3 c d e\nt3 a b d\n");
+    let alloc = rt.alloc();
+    let map = output_of(&rt, alloc, "map", CIRCUIT.as_bytes());
+    let reduced = output_of(&rt, alloc, "reduce --goal cx --effort 10", map.bytes());
+    let first = ("c.real", CIRCUIT.as_bytes());
+    let second = ("n.qasm", reduced.bytes());
+    let same = told(0, "same\n");
+    expect_over_two(&rt, alloc, "check c.real n.qasm", first, second, same);
+}
+
+#[test]
+fn an_effort_is_asked_of_a_goal(rt: HostRuntime) {
+    const CASES: [(&str, &str, u8, &str); 3] = [
+        (
+            "reduce --effort 3",
+            "",
+            2,
+            "option --effort not used by reduce",
+        ),
+        ("reduce --seed 3", "", 2, "option --seed not used by reduce"),
+        ("reduce --goal gates", "", 2, "bad value for --goal"),
+    ];
+    expect_each(&rt, rt.alloc(), &CASES);
+}

@@ -3,7 +3,12 @@ use super::*;
 
 #[test]
 fn a_permutation_becomes_single_target_gates(rt: HostRuntime) {
-    const CASES: [(&str, &str); 6] = [
+    const CASES: [(&str, &str); 7] = [
+        // A line of it has two walks.
+        (
+            "0 1 3 7 4 6 5 2",
+            numbered!(3, "t3 x1 x2 x0\nt3 x0 x2 x1\nt2 x1 x2\nt3 x0 x2 x1\n"),
+        ),
         ("0 2 1 3", numbered!(2, "t2 x1 x0\nt2 x0 x1\nt2 x1 x0\n")),
         ("0 1 3 2", numbered!(2, "t2 x0 x1\n")),
         ("1 0", numbered!(1, "t1 x0\n")),

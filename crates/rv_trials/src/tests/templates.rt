@@ -5,6 +5,12 @@ use std::process::Abort;
 
 const ONE_FLIP: &str = typed!(3, "a b c", "t1 c\n");
 
+const SEVEN_FLIPS: &str = typed!(
+    3,
+    "a b c",
+    "t2 a b\nt3 b c a\nt2 a b\nt3 b c a\nt2 a b\nt3 b c a\nt2 a b\n"
+);
+
 // A written circuit on the lines a, b and c, with these gates.
 macro_rules! on_three_lines {
     ($gates:literal) => {
@@ -22,7 +28,33 @@ fn expect_by_library(rt: &impl Abort, alloc: Global, circuit: &str, library: &[u
 
 #[test]
 fn pairs_and_windows_are_replaced(rt: HostRuntime) {
-    const CASES: [(&str, &str); 4] = [
+    const CASES: [(&str, &str); 10] = [
+        (
+            typed!(2, "a b", "f2 a b\nf2 b a\n"),
+            written!(2, "a b", "--", "--", ""),
+        ),
+        // A merged flip stands at the second place.
+        (
+            typed!(4, "a b c d", "t2 a c\nt2 b d\nt2 -a c\n"),
+            written!(4, "a b c d", "----", "----", "t2 b d\nt1 c\n"),
+        ),
+        (
+            typed!(4, "a b c d", "t2 a c\nt2 b d\nt1 c\n"),
+            written!(4, "a b c d", "----", "----", "t2 b d\nt2 -a c\n"),
+        ),
+        // Four flips that cross, with a control more, and a window whose flips are a pair.
+        (
+            typed!(4, "a b c d", "t3 a d b\nt3 b d c\nt3 a d b\nt3 b d c\n"),
+            written!(4, "a b c d", "----", "----", "t3 a d c\n"),
+        ),
+        (
+            typed!(3, "a b c", "t1 a\nt2 a b\nt1 a\n"),
+            on_three_lines!("t2 -a b\n"),
+        ),
+        (
+            SEVEN_FLIPS,
+            on_three_lines!("t2 a b\nt3 b c a\nt2 a b\nt3 b c a\nt2 a b\nt3 b c a\nt2 a b\n"),
+        ),
         (
             typed!(3, "a b c", "t2 a b\nt1 c\nt2 a b\n"),
             on_three_lines!("t1 c\n"),
@@ -55,6 +87,11 @@ fn a_given_template_is_used(rt: HostRuntime) {
     let library = typed!(3, "a b c", "t2 a b\nt2 -b c\nt2 a b\nt2 -b c\nt2 a c\n");
     let want = writes(on_three_lines!("t2 a c\n").as_bytes());
     expect_by_library(&rt, rt.alloc(), circuit, library.as_bytes(), want);
+    let first = b".numvars 3\n.variables a b c\n.begin\n";
+    let library = repeated(&rt, rt.alloc(), first, b"t2 a b\nt3 b c a\n", 6, b".end\n");
+    let five = on_three_lines!("t3 b c a\nt2 a b\nt3 b c a\nt2 a b\nt3 b c a\n");
+    let want = writes(five.as_bytes());
+    expect_by_library(&rt, rt.alloc(), SEVEN_FLIPS, &library, want);
 }
 
 #[test]

@@ -98,7 +98,17 @@ fn each_cause_but_too_many_operations_has_its_text(rt: HostRuntime) {
 
 #[test]
 fn the_first_statement_is_the_version(rt: HostRuntime) {
-    const CASES: [(&[u8], &str); 12] = [
+    const CASES: [(&[u8], &str); 19] = [
+        (b"OPENQASM\n3.0;", "1: not supported"),
+        (b"OPENQASM 2.0;\n\n//;\n;\n", "4: wrong syntax"),
+        (b"OPENQASM 2.0;\ninclude\n\"a;", "2: wrong syntax"),
+        (b"OPENQASM 2.0;\nqreg\nq[1.];", "2: wrong syntax"),
+        (b"OPENQASM 2.0;qreg q[1];\n\n/", "3: unended statement"),
+        (b"OPENQASM 2.0;qreg q[1];\ngate", "2: not supported"),
+        (
+            b"OPENQASM 2.0;qreg q[1];\nx\nq[1];",
+            "2: index out of range",
+        ),
         (b"", "0: no OPENQASM 2.0 header"),
         (b"\nx q[0];\n", "2: no OPENQASM 2.0 header"),
         (b"\n// c\n", "2: no OPENQASM 2.0 header"),

@@ -18,8 +18,8 @@ esop-requires g c = names_read-by c.args.settings.now command.Esop c.requires.as
 pub of_one-requires-in-Decompose : goal.of_one-requires-in-Decompose
 of_one-requires-in-Decompose g c = names_read-by c.args.settings.now command.Decompose c.requires.asked c.in-Decompose.is refl
 
-pub of_one-requires-in-Map : goal.of_one-requires-in-Map
-of_one-requires-in-Map g c = names_read-by c.args.settings.now command.Map c.requires.asked c.in-Map.is refl
+pub map-requires : goal.map-requires
+map-requires g c = names_read-by c.args.settings.now command.Map c.requires.asked c.in-Map.is refl
 
 pub of_one-requires-in-ToReal : goal.of_one-requires-in-ToReal
 of_one-requires-in-ToReal g c = names_read-by c.args.settings.now command.ToReal c.requires.asked c.in-ToReal.is refl
@@ -36,11 +36,11 @@ of_one-requires-in-Route g c = names_read-by c.args.settings.now command.Route c
 pub draw-requires : goal.draw-requires
 draw-requires g c = names_read-by c.args.settings.now command.Draw c.requires.asked c.in-Draw.is refl
 
-pub found_of_one-requires : goal.found_of_one-requires
-found_of_one-requires g c = names_read-by c.args.settings.now command.Reduce c.requires.asked c.in-Reduce.is refl
+pub reduce-requires : goal.reduce-requires
+reduce-requires g c = names_read-by c.args.settings.now command.Reduce c.requires.asked c.in-Reduce.is refl
 
-pub of_two-requires : goal.of_two-requires
-of_two-requires g c = names_read-by c.args.settings.now command.Check c.requires.asked c.in-Check.is refl
+pub check-requires : goal.check-requires
+check-requires g c = names_read-by c.args.settings.now command.Check c.requires.asked c.in-Check.is refl
 
 pub compare-requires : goal.compare-requires
 compare-requires g c = names_read-by c.args.settings.now command.Compare c.requires.asked c.in-Compare.is refl

@@ -13,7 +13,7 @@ unmapped fault = Err fault
 
 pub returns-in-Ok-clause-made : goal.returns-in-Ok-clause-made
 returns-in-Ok-clause-made c =
-    relative-answers c.args.aux c.args.circuit.now c.in-Ok.net c.in-Ok.net c.in-Ok.ensures.ok c.in-Ok.ensures.too_many_lines c.in-Ok.ensures.too_many_ops
+    relative-answers c.args.aux c.args.circuit.now c.in-Ok.net c.in-Ok.ensures.too_many_lines c.in-Ok.ensures.too_many_ops c.in-Ok.net c.in-Ok.ensures.ok
 
 pub returns-in-Err-TooManyLines-clause-unmade : goal.returns-in-Err-TooManyLines-clause-unmade
 returns-in-Err-TooManyLines-clause-unmade c =
