@@ -7,6 +7,7 @@ use Rattle.rv_gate.specs.Gate.{run, xor}
 use Rattle.rv_gate.specs.Marks.{with_constants, without_garbage}
 use Rattle.rv_gate.specs.Word.{bit_of, has}
 use Rattle.rv_gate.specs.declared.circuit.Mark.TheVariants.{Input, Zero}
+use Rattle.rv_gate.specs.declared.circuit.TheConstants.{MOST_GATES}
 use Rattle.rv_gate.specs.declared.gate.Shape.{Shape}
 use Rattle.rv_gate.proofs.Marks.{input_count-append, input_count-inputs, input_count-zeros, output_count-append, output_count-garbage, output_count-outputs, without_garbage-all, without_garbage-append, without_garbage-outputs, with_constants-filled}
 use Rattle.rv_pla.specs.FreeEntries.{allows}
@@ -14,12 +15,12 @@ use Rattle.rv_pla.specs.Pla.{TwoLevel, entry}
 use Rattle.rv_cube.specs.Esop.{Esop, esop_value}
 use Rattle.rv_cube.specs.ReductionFor.{IsRight}
 use Rattle.rv_embed.specs.Realizes.{Meets, Realizes}
-use Rattle.rv_esop.specs.Cascade.{cascade_of, xor_from, xor_set}
+use Rattle.rv_esop.specs.Cascade.{cascade_of, flip_count, xor_from, xor_set}
 use Rattle.rv_esop.proofs.inside.Flips.{length-xor_from}
 use Rattle.rv_gate.proofs.Bits.{false_xor}
 use Rattle.rv_gate.proofs.NameLemmas.{length-numbered}
 use Rattle.rv_gate.specs.Names.{numbered}
-use Rattle.rv_realize.specs.Realized.{IsRealized}
+use Rattle.rv_realize.specs.Realized.{IsEmbeddable, IsRealized, IsTooLong, reduced_list}
 
 -- what is added to zeros is what they hold then
 added : (j n set k : ℕ) → k < n → bit_of (xor_from j (replicate n false) set) k ≡ has set (j + k)
@@ -70,4 +71,12 @@ cascade_realized pla most list c is inputs outputs right adds few = record {
       rw (ap (λ (k : Cascade). k.constants) is, ap (λ (k : Cascade). k.garbage) is, inputs, outputs)
       (cascade_realizes pla list c.gates inputs outputs right adds);
   lines = omega (arith, ap (λ (k : Cascade). length k.names) is, length-append (numbered 120 list.inputs) (numbered 121 list.outputs), length-numbered 120 list.inputs, length-numbered 121 list.outputs, inputs, outputs, few);
+}
+
+pub too_long : (pla : TwoLevel) (most n : ℕ) (list : Esop) → ¬ IsEmbeddable pla → pla.inputs + pla.outputs ≤ most → list ≡ reduced_list pla
+    → flip_count list ≡ n → MOST_GATES < n → IsTooLong pla most
+too_long pla most n list alone beside is count over = record {
+  alone = alone;
+  beside = beside;
+  over = subst (λ (cubes : Esop). MOST_GATES < flip_count cubes) is (subst (λ (k : ℕ). MOST_GATES < k) (sym count) over);
 }

@@ -1,2 +1,3 @@
 mod Cascades
+pub mod Curves
 mod Embedded

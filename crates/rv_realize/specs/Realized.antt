@@ -1,10 +1,15 @@
 -- Circuits for tables and for permutations on few lines.
-use Rattle.std.specs.Prelude.{◌≡◌, ℕ, ◌+◌, ◌<◌, ◌≤◌, length}
+use Rattle.std.specs.Prelude.{◌≡◌, ℕ, ◌+◌, ◌<◌, ◌≤◌, List, [], ◌∷◌, All, length}
+use Rattle.rv_cube.specs.Esop.{Esop}
+use Rattle.rv_cube.specs.First.{first_of}
+use Rattle.rv_cube.specs.ReductionFor.{reduced_for}
 use Rattle.rv_embed.specs.Embedding.{least_lines}
 use Rattle.rv_embed.specs.Least.{NoCircuitHasFewer}
 use Rattle.rv_embed.specs.Realizes.{Realizes}
+use Rattle.rv_esop.specs.Cascade.{flip_count}
 use Rattle.rv_gate.specs.Circuit.{Cascade}
 use Rattle.rv_gate.specs.Gate.{run}
+use Rattle.rv_gate.specs.declared.circuit.TheConstants.{MOST_GATES}
 use Rattle.rv_perm.specs.Lines.{circuit_on}
 use Rattle.rv_perm.specs.Marked.{Marked}
 use Rattle.rv_perm.specs.Perm.{Computes}
@@ -30,6 +35,32 @@ pub record IsTooFew (pla : TwoLevel) (most n : ℕ) : Type 0 where
   pub embedded : IsEmbeddable pla → n ≡ least_lines pla
   pub least : IsEmbeddable pla → HasNoFree pla → NoCircuitHasFewer pla n
   pub beside : ¬ IsEmbeddable pla → n ≡ pla.inputs + pla.outputs
+
+-- the first exclusive sum of a table, reduced for it until no step is left
+abbrev pub reduced_list : TwoLevel → Esop
+reduced_list pla = record (first_of pla) { cubes = reduced_for pla (first_of pla).cubes }
+
+-- There is no embedding, and where one line for each input and output is not too many, the cascade of the reduced
+-- exclusive sum has more gates than a circuit may have.
+pub record IsTooLong (pla : TwoLevel) (most : ℕ) : Type 0 where
+  pub alone : ¬ IsEmbeddable pla
+  pub beside : pla.inputs + pla.outputs ≤ most
+  pub over : MOST_GATES < flip_count (reduced_list pla)
+
+-- ---- circuits on more and more lines
+
+-- the circuit has fewer than n lines
+pub record HasFewer (n : ℕ) (c : Cascade) : Type 0 where
+  pub fewer : length c.names < n
+
+-- the circuit has more than n lines
+pub record HasMore (n : ℕ) (c : Cascade) : Type 0 where
+  pub more : n < length c.names
+
+-- each circuit has more lines than those before it
+abbrev pub AreOnMore : List Cascade → Type 0
+AreOnMore [] = Unit {0}
+AreOnMore (c ∷ rest) = All (HasMore (length c.names)) rest × AreOnMore rest
 
 -- ---- permutations
 

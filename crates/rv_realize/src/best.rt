@@ -7,6 +7,7 @@ use crate::rank::is_better;
 use rv_compare::{Comparison, compare_table};
 use rv_gate::Circuit;
 use rv_pla::Pla;
+use std::alloc::Global;
 
 // Whether a circuit has few lines enough, and gives what the table asks at all words.
 fn is_right(circuit: &Circuit, pla: &Pla, most: u8) -> bool
@@ -17,6 +18,7 @@ fn is_right(circuit: &Circuit, pla: &Pla, most: u8) -> bool
 
 // The better of the best so far and a circuit that may be wrong.
 fn better(
+    alloc: Global,
     best: Option<Circuit>,
     new: Circuit,
     pla: &Pla,
@@ -31,7 +33,7 @@ fn better(
     }
     match best {
         Some(old) => {
-            if is_better(options.goal, &new, &old) {
+            if is_better(alloc, options.goal, &new, &old) {
                 Some(new)
             } else {
                 Some(old)
@@ -43,6 +45,7 @@ fn better(
 
 /// The best of some circuits for a table, of which the first is right, and others may be.
 pub(crate) fn best_of(
+    alloc: Global,
     first: Option<Circuit>,
     others: Vec<Circuit>,
     pla: &Pla,
@@ -54,7 +57,7 @@ pub(crate) fn best_of(
 {
     let mut best = first;
     for circuit in others {
-        best = better(best, circuit, pla, options);
+        best = better(alloc, best, circuit, pla, options);
     }
     best
 }

@@ -4,7 +4,7 @@ ghost use Rattle.rv_cube.specs.ReductionFor.{IsRight};
 ghost use Rattle.rv_embed.specs.Embedding.{least_lines};
 ghost use Rattle.rv_embed.specs.Least.{IsEmbedding, NoCircuitHasFewer};
 ghost use Rattle.rv_pla.specs.FreeEntries.{HasNoFree};
-ghost use Rattle.rv_realize.specs.Realized.{IsEmbeddable, IsRealized, IsTooFew};
+ghost use Rattle.rv_realize.specs.Realized.{IsEmbeddable, IsRealized, IsTooFew, IsTooLong, reduced_list};
 ghost use Rattle.rv_realize.specs.declared.options.RealizeFault.TheVariants.{TooManyGates, TooManyLines};
 
 use crate::RealizeFault;
@@ -44,6 +44,7 @@ pub(crate) fn reduced_list(alloc: Global, pla: &Pla) -> Result<CubeList, AllocEr
     ensures inputs { IfOk result (λ list. list.inputs ≡ pla.now.inputs) }
     ensures outputs { IfOk result (λ list. list.outputs ≡ pla.now.outputs) }
     ensures right { IfOk result (λ list. IsRight pla.now list.cubes) }
+    ensures list { IfOk result (λ list. list ≡ reduced_list pla.now) }
 {
     let mut list = CubeList::from_pla(alloc, pla)?;
     list.reduce_for(pla)?;
@@ -55,6 +56,7 @@ fn by_cascade(alloc: Global, pla: &Pla, most: u8) -> Result<Circuit, RealizeFaul
     requires { ¬ IsEmbeddable pla.now }
     ensures realized { IfOk result (IsRealized pla.now most) }
     ensures too_many_lines { (n : ℕ) → result ≡ Err (TooManyLines n) → IsTooFew pla.now most n }
+    ensures too_many_gates { result ≡ Err TooManyGates → IsTooLong pla.now most }
 {
     let lines = pla.inputs() + pla.outputs();
     if lines > most {
@@ -72,7 +74,7 @@ fn by_cascade(alloc: Global, pla: &Pla, most: u8) -> Result<Circuit, RealizeFaul
 pub(crate) fn first_circuit(alloc: Global, pla: &Pla, most: u8) -> Result<Circuit, RealizeFault>
     ensures realized { IfOk result (IsRealized pla.now most) }
     ensures too_many_lines { (n : ℕ) → result ≡ Err (TooManyLines n) → IsTooFew pla.now most n }
-    ensures too_many_gates { result ≡ Err TooManyGates → ¬ IsEmbeddable pla.now }
+    ensures too_many_gates { result ≡ Err TooManyGates → IsTooLong pla.now most }
 {
     match embed(alloc, pla) {
         Ok(embedded) => by_embedding(alloc, pla, &embedded.spec, most),

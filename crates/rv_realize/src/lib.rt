@@ -7,10 +7,13 @@
 mod best;
 mod cells;
 mod first;
+mod free;
+mod joined;
 mod options;
 mod perm;
 mod perm_ways;
 mod placing;
+mod points;
 mod pool;
 mod rank;
 mod spans;
@@ -19,5 +22,6 @@ mod ways;
 
 pub use options::{RealizeFault, RealizeOptions};
 pub use perm::realize_perm;
+pub use points::curve;
 pub use rv_price::Goal;
 pub use table::realize;

@@ -44,7 +44,7 @@ fn better(
     requires { IsInPlace spec.now best }
     ensures { IfOk result (IsInPlace spec.now) }
 {
-    if !is_better(options.goal, new, &best) {
+    if !is_better(alloc, options.goal, new, &best) {
         return Ok(best);
     }
     match in_place(alloc, spec, new)? {

@@ -77,6 +77,6 @@ pub(crate) fn circuits_in_place(
     }
     add_optimal(alloc, spec, Library::Positive, &mut pool)?;
     add_optimal(alloc, spec, Library::Mixed, &mut pool)?;
-    pool.shorten(alloc, false)?;
+    pool.shorten(alloc, true)?;
     Ok(pool.circuits)
 }

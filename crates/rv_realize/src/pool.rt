@@ -18,6 +18,7 @@ const MOST_GATES: usize = 1 << 10;
 
 #[derive(Drop)]
 pub(crate) struct Pool {
+    alloc: Global,
     options: RealizeOptions,
     pub(crate) circuits: Vec<Circuit>,
 }
@@ -33,6 +34,7 @@ fn short_goal(goal: Goal) -> ShortGoal {
 impl Pool {
     pub(crate) fn new(alloc: Global, options: RealizeOptions) -> Pool {
         Pool {
+            alloc,
             options,
             circuits: Vec::new(alloc),
         }
@@ -43,11 +45,11 @@ impl Pool {
         if circuit.line_count() > self.options.lines {
             return Ok(());
         }
-        let goal = self.options.goal;
+        let (alloc, goal) = (self.alloc, self.options.goal);
         let place = self
             .circuits
             .iter()
-            .position(|old| is_better(goal, &circuit, old));
+            .position(|old| is_better(alloc, goal, &circuit, old));
         match place {
             Some(place) => self.circuits.insert(place, circuit)?,
             None => self.circuits.push(circuit)?,
@@ -69,27 +71,34 @@ impl Pool {
             ..
         } = self.options;
         let (goal, effort) = (short_goal(goal), (effort / PART).max(1));
-        if marked && circuit.line_count() <= MOST_MARKED_LINES {
+        if marked {
             resynth_by_marks(alloc, circuit, goal, effort, seed)
         } else {
             resynth(alloc, circuit, goal, effort, seed)
         }
     }
 
-    // What is made of the best circuits, if they have few gates enough.
-    fn shortened(&self, alloc: Global, marked: bool) -> Result<Vec<Circuit>, AllocError> {
+    // What is made of the best circuits, if they have few gates enough: of few lines by their marks, else as they are.
+    fn shortened(&self, alloc: Global, by_word: bool) -> Result<Vec<Circuit>, AllocError> {
         let mut more = Vec::new(alloc);
         for circuit in self.circuits.iter().take(BEST) {
+            let has_few = circuit.line_count() <= MOST_MARKED_LINES;
             if circuit.gates().len() <= MOST_GATES {
-                more.push(self.shorter(alloc, circuit, marked)?)?;
+                if has_few {
+                    more.push(self.shorter(alloc, circuit, true)?)?;
+                }
+                if by_word || !has_few {
+                    more.push(self.shorter(alloc, circuit, false)?)?;
+                }
             }
         }
         Ok(more)
     }
 
-    /// Makes the best of the circuits shorter: a table's by their marks, where they have few lines.
-    pub(crate) fn shorten(&mut self, alloc: Global, marked: bool) -> Result<(), AllocError> {
-        for circuit in self.shortened(alloc, marked)? {
+    /// Makes the best of the circuits shorter: those of few lines by their marks, and all others by what they do to
+    /// every word, which those of few lines are too if wished.
+    pub(crate) fn shorten(&mut self, alloc: Global, by_word: bool) -> Result<(), AllocError> {
+        for circuit in self.shortened(alloc, by_word)? {
             self.add(circuit)?;
         }
         Ok(())

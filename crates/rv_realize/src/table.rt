@@ -2,16 +2,17 @@ ghost use Rattle.std.specs.Prelude.{◌≡◌, ◌⊎◌, ◌≤◌, ℕ, Err, I
 ghost use Rattle.rv_embed.specs.Realizes.{Realizes};
 ghost use Rattle.rv_gate.specs.Gate.{run};
 ghost use Rattle.rv_gate.specs.declared.word.TheConstants.{MOST_LINES};
-ghost use Rattle.rv_realize.specs.Realized.{IsEmbeddable, IsRealized, IsTooFew};
+ghost use Rattle.rv_realize.specs.Realized.{IsRealized, IsTooFew, IsTooLong};
 ghost use Rattle.rv_realize.specs.declared.options.RealizeFault.TheVariants.{Mem, TooManyGates, TooManyLines};
 
 use crate::best::best_of;
 use crate::first::first_circuit;
+use crate::free::has_free;
 use crate::ways::circuits_for;
 use crate::{RealizeFault, RealizeOptions};
 use rv_gate::{Circuit, MOST_LINES};
 use rv_perm::MOST_PERM_LINES;
-use rv_pla::{Entry, Pla};
+use rv_pla::Pla;
 use std::alloc::Global;
 
 // The best of a circuit that is right and those that are found.
@@ -26,22 +27,10 @@ fn improved(
     ensures mem { IfErr result (λ fault. fault ≡ Mem) }
 {
     let found = circuits_for(alloc, pla, Some(&first), options)?;
-    match best_of(Some(first), found, pla, options) {
+    match best_of(alloc, Some(first), found, pla, options) {
         Some(circuit) => Ok(circuit),
         None => unreachable!(),
     }
-}
-
-// Whether an entry may be 0 or 1.
-fn has_free(pla: &Pla) -> bool {
-    for input in 0..1u32 << pla.inputs() {
-        for output in 0..pla.outputs() {
-            if pla.value(input, output).is_dont_care() {
-                return true;
-            }
-        }
-    }
-    false
 }
 
 // Whether there is no circuit on fewer lines than a fault tells, so that none is looked for.
@@ -66,7 +55,7 @@ fn found(
         return Err(fault);
     }
     let found = circuits_for(alloc, pla, None, options)?;
-    match best_of(None, found, pla, options) {
+    match best_of(alloc, None, found, pla, options) {
         Some(circuit) => Ok(circuit),
         None => Err(fault),
     }
@@ -84,7 +73,7 @@ pub fn realize(alloc: Global, pla: &Pla, options: RealizeOptions) -> Result<Circ
     ensures realizes { IfOk result (λ c. Realizes pla.now (run c.gates) c.constants c.garbage) }
     ensures lines { IfOk result (λ c. length c.names ≤ options.lines) }
     ensures too_many_lines { (n : ℕ) → result ≡ Err (TooManyLines n) → IsTooFew pla.now options.lines n }
-    ensures too_many_gates { result ≡ Err TooManyGates → ¬ IsEmbeddable pla.now }
+    ensures too_many_gates { result ≡ Err TooManyGates → IsTooLong pla.now options.lines }
 {
     match first_circuit(alloc, pla, options.lines) {
         Ok(first) => improved(alloc, pla, first, options),

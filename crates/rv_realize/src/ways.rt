@@ -1,12 +1,14 @@
 // All ways to a circuit for a table.
 use crate::RealizeOptions;
 use crate::first::reduced_list;
+use crate::free::has_free;
 use crate::pool::Pool;
 use crate::spans::by_spans;
 use rv_embed::embed;
 use rv_esop::{EsopFault, cascade, shared_cascade};
 use rv_exorlink::{Goal as CubeGoal, found_list};
 use rv_gate::Circuit;
+use rv_perm::MOST_PERM_LINES;
 use rv_pla::Pla;
 use rv_price::Goal;
 use rv_spans::{Search, Task};
@@ -16,16 +18,49 @@ use std::alloc::{AllocError, Global};
 // More lines than this are too many for the flips of a whole permutation.
 const MOST_TURNED: u8 = 10;
 
-// Of the effort the first search over spans gets so many 64ths, on as many lines as there are; the next ones half of it
-// each, on fewer.
-const SHARE: u16 = 32;
+// Of the effort the searches over spans get so many 64ths.
+const WHOLE: u16 = 64;
+
+// So many of them go to one that tells how many lines are enough, and so many to the first one of several otherwise.
+const HALF: u16 = 32;
+
+const MOST: u16 = 52;
 
 // On more lines a search over spans may end at once.
 const MOST_SPANNED: u8 = 12;
 
-// No circuit has fewer lines.
-fn least(pla: &Pla) -> u8 {
-    pla.inputs().max(pla.outputs())
+// No circuit has fewer lines: where no entry is free, those of the first one, if it is that of the embedding.
+fn least(pla: &Pla, first: Option<&Circuit>) -> u8 {
+    let own = pla.inputs().max(pla.outputs());
+    match first {
+        Some(circuit) => {
+            if circuit.line_count() <= MOST_PERM_LINES && !has_free(pla) {
+                return own.max(circuit.line_count());
+            }
+            own
+        }
+        None => own,
+    }
+}
+
+// The share of the first search, of so many.
+fn first_share(goal: Goal, turns: u8) -> u16 {
+    if turns == 1 {
+        return WHOLE;
+    }
+    match goal {
+        Goal::Lines => HALF,
+        _ => MOST,
+    }
+}
+
+// The share of the next one.
+fn next_share(share: u16) -> u16 {
+    if share > HALF {
+        (WHOLE - MOST) / 2
+    } else {
+        share / 2
+    }
 }
 
 // An effort's part; not 0 if the whole isn't.
@@ -46,6 +81,7 @@ fn lines_of(goal: Goal, least: u8, most: u8, turn: u8) -> u8 {
 fn add_spans(
     alloc: Global,
     pla: &Pla,
+    first: Option<&Circuit>,
     options: RealizeOptions,
     pool: &mut Pool,
 ) -> Result<(), AllocError> {
@@ -53,16 +89,18 @@ fn add_spans(
     let most = options
         .lines
         .min(pla.inputs().saturating_add(pla.outputs()));
-    let mut share = SHARE;
-    for turn in 0..most.saturating_sub(least(pla)).saturating_add(1) {
+    let least = least(pla, first);
+    let turns = most.saturating_sub(least).saturating_add(1);
+    let mut share = first_share(options.goal, turns);
+    for turn in 0..turns {
         let search = Search {
-            lines: lines_of(options.goal, least(pla), most, turn),
+            lines: lines_of(options.goal, least, most, turn),
             effort: part(options.effort, share),
             seed: options.seed,
         };
         let found = by_spans(alloc, &task, pla.inputs(), search)?;
         if found.is_some() || search.lines <= MOST_SPANNED {
-            share /= 2;
+            share = next_share(share);
         }
         let is_last = options.goal == Goal::Lines && found.is_some();
         if let Some(circuit) = found {
@@ -135,9 +173,9 @@ pub(crate) fn circuits_for(
     if let Some(circuit) = first {
         pool.add(circuit.copy()?)?;
     }
-    add_spans(alloc, pla, options, &mut pool)?;
+    add_spans(alloc, pla, first, options, &mut pool)?;
     add_sums(alloc, pla, options, &mut pool)?;
     add_turned(alloc, pla, options.lines, &mut pool)?;
-    pool.shorten(alloc, true)?;
+    pool.shorten(alloc, false)?;
     Ok(pool.circuits)
 }

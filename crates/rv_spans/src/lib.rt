@@ -12,6 +12,7 @@ mod cover;
 mod end;
 mod greedy;
 mod lines;
+mod pack;
 mod random;
 mod rating;
 mod search;

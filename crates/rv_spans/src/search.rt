@@ -1,6 +1,7 @@
 // Many short searches, of which the best is kept.
 use crate::beam::{Beam, Way};
 use crate::build::{Found, built};
+use crate::pack::{Weights, packed, store_of};
 use crate::random::Random;
 use crate::step::Step;
 use crate::task::Task;
@@ -9,6 +10,9 @@ use std::alloc::{AllocError, Global};
 
 // More coordinates than this are not looked at: a spectrum has an entry for each form.
 const MOST_COORDINATES: usize = 12;
+
+// The seed of the first numbers.
+const FIRST: u64 = 5;
 
 // Steps of work for one of effort.
 const WORK: u64 = 170_000_000;
@@ -50,6 +54,29 @@ const PLAIN: Way = Way {
     },
     most_work: 0,
 };
+
+// Products that were found are packed with each of these.
+const WEIGHTS: [Weights; 4] = [
+    Weights {
+        output: 64,
+        product: 64,
+    },
+    Weights {
+        output: 64,
+        product: 64,
+    },
+    Weights {
+        output: 64,
+        product: 48,
+    },
+    Weights {
+        output: 64,
+        product: 32,
+    },
+];
+
+// So many searches over more coordinates than there may be come first.
+const WIDE_TURNS: usize = 6;
 
 // The way of a search: each time another.
 fn way_of(turn: usize) -> Way {
@@ -157,18 +184,103 @@ impl Record {
         self.idle = self.idle.saturating_add(1);
         self.idle_work = self.idle_work.saturating_add(beam.work);
         for steps in &beam.ways {
-            let Some(found) = built(alloc, whole, lines, steps)? else {
-                continue;
-            };
-            if found.price < self.price() {
-                self.steps = Vec::from_slice(alloc, steps)?;
-                self.level = level_of(steps).min((found.price.saturating_sub(T) / T) as usize);
-                self.found = Some(found);
-                self.idle = 0;
-                self.idle_work = 0;
-            }
+            self.keep(alloc, whole, lines, steps)?;
         }
         Ok(())
+    }
+
+    // Keeps what steps make, where it is cheaper.
+    fn keep(
+        &mut self,
+        alloc: Global,
+        whole: &Task,
+        lines: u8,
+        steps: &[Step],
+    ) -> Result<(), AllocError> {
+        let Some(found) = built(alloc, whole, lines, steps)? else {
+            return Ok(());
+        };
+        if found.price < self.price() {
+            self.steps = Vec::from_slice(alloc, steps)?;
+            self.level = level_of(steps).min((found.price.saturating_sub(T) / T) as usize);
+            self.found = Some(found);
+            self.idle = 0;
+            self.idle_work = 0;
+        }
+        Ok(())
+    }
+
+    // Looks over more coordinates than there may be, and packs what is found. Gives the work.
+    fn widely(
+        &mut self,
+        alloc: Global,
+        whole: &Task,
+        task: &Task,
+        most_dimension: usize,
+        search: Search,
+        turn: usize,
+        random: &mut Random,
+    ) -> Result<u64, AllocError> {
+        let wide = task
+            .inputs
+            .saturating_add(task.outputs)
+            .min(MOST_COORDINATES);
+        if wide <= most_dimension {
+            return Ok(0);
+        }
+        let way = Way {
+            most_dimension: wide,
+            most_work: u64::from(search.effort).saturating_mul(WORK / 8),
+            ..way_of(turn)
+        };
+        let mut beam = Beam::new(alloc, task, way, Vec::new(alloc))?;
+        beam.run(alloc, task, random)?;
+        let more = self.pack(
+            alloc,
+            whole,
+            task,
+            most_dimension,
+            search.lines,
+            &beam,
+            random,
+        )?;
+        Ok(beam.work.max(1 << 16).saturating_add(more))
+    }
+
+    // Keeps what the products of a beam over more coordinates make over these. Gives the work.
+    fn pack(
+        &mut self,
+        alloc: Global,
+        whole: &Task,
+        task: &Task,
+        most_dimension: usize,
+        lines: u8,
+        beam: &Beam,
+        random: &mut Random,
+    ) -> Result<u64, AllocError> {
+        let mut work = 0u64;
+        for steps in &beam.ways {
+            let Some(store) = store_of(alloc, task, steps)? else {
+                continue;
+            };
+            for weights in WEIGHTS {
+                let most = self.level;
+                let found = packed(
+                    alloc,
+                    task,
+                    &store,
+                    most_dimension,
+                    weights,
+                    most,
+                    random,
+                    &mut work,
+                )?;
+                if let Some(own) = found {
+                    self.keep(alloc, whole, lines, &own)?;
+                }
+            }
+        }
+        Ok(work)
     }
 }
 
@@ -180,7 +292,7 @@ fn search_on(
     most_dimension: usize,
     search: Search,
 ) -> Result<Record, AllocError> {
-    let mut random = Random::new(u64::from(search.seed));
+    let mut random = Random::new(u64::from(search.seed).wrapping_add(FIRST));
     let mut record = Record {
         steps: Vec::new(alloc),
         found: None,
@@ -191,6 +303,21 @@ fn search_on(
     let effort = usize::from(search.effort);
     let most_work = u64::from(search.effort).saturating_mul(WORK);
     let mut left = most_work;
+    for turn in 0..WIDE_TURNS {
+        // Where nothing was packed at first, there are too many products.
+        if left > most_work / 2 && (turn == 0 || record.found.is_some()) {
+            let work = record.widely(
+                alloc,
+                whole,
+                task,
+                most_dimension,
+                search,
+                turn,
+                &mut random,
+            )?;
+            left = left.saturating_sub(work);
+        }
+    }
     for turn in 0..effort.saturating_mul(4) {
         if left == 0 || (record.idle >= IDLE && record.idle_work > most_work / 32) {
             return Ok(record);

@@ -5,7 +5,7 @@ use Rattle.rv_gate.specs.Circuit.{Cascade, IsCascade}
 use Rattle.rv_gate.specs.declared.circuit.TheConstants.{MOST_GATES}
 use Rattle.rv_perm.specs.Marked.{Marked}
 use Rattle.rv_pla.specs.Pla.{TwoLevel}
-use Rattle.rv_realize.specs.Realized.{IsEmbeddable, IsInPlace, IsRealized, IsTooFew}
+use Rattle.rv_realize.specs.Realized.{IsInPlace, IsRealized, IsTooFew, IsTooLong}
 use Rattle.rv_realize.specs.declared.options.RealizeFault.{RealizeFault}
 use Rattle.rv_realize.specs.declared.options.RealizeFault.TheVariants as fault
 use Rattle.rv_faults.specs.Fault.{unmade_by}
@@ -45,7 +45,7 @@ module _ (most : ℕ) (pla : TwoLevel) where
 
   -- none is
   pub realize-refuses : (why : RealizeFault) (name : List ℕ) (old new : FilesView) (it : Unmade)
-      → ((count : ℕ) → why ≡ fault.TooManyLines count → IsTooFew pla most count) → (why ≡ fault.TooManyGates → IsEmbeddable pla → ⊥)
+      → ((count : ℕ) → why ≡ fault.TooManyLines count → IsTooFew pla most count) → (why ≡ fault.TooManyGates → IsTooLong pla most)
       → it ≡ unmade_by (in_vain most why) → ReadsOnly (name ∷ []) old new → HasObject table (name ∷ []) old new pla
       → Makes (realize_row form.Pla most) (name ∷ []) old new (Err it)
   realize-refuses (fault.TooManyLines count) name old new it lines gates is keeps has =

@@ -4,7 +4,7 @@ use Rattle.rv_gate.specs.Circuit.{Cascade}
 use Rattle.rv_gate.specs.declared.circuit.TheConstants.{MOST_GATES}
 use Rattle.rv_perm.specs.Marked.{Marked}
 use Rattle.rv_pla.specs.Pla.{TwoLevel}
-use Rattle.rv_realize.specs.Realized.{IsEmbeddable, IsInPlace, IsRealized, IsTooFew}
+use Rattle.rv_realize.specs.Realized.{IsInPlace, IsRealized, IsTooFew, IsTooLong}
 use Rattle.rv_realize.specs.declared.options.RealizeFault.{RealizeFault}
 use Rattle.rv_realize.specs.declared.options.RealizeFault.TheVariants as fault
 use Rattle.rv_real.specs.Reading.{real_of}
@@ -32,11 +32,11 @@ abbrev pub realize_limits : TwoLevel → List Limit
 realize_limits pla = []
 
 -- Why there may be no circuit on so many lines. More are needed: those of the embedding where it has at most 16, and if
--- no entry is free, no circuit has fewer; else one for each input and output. Or the circuit would have more gates than a
--- circuit has, which is only where the embedding has more than 16 lines.
+-- no entry is free, no circuit has fewer; else one for each input and output. Or the embedding has more than 16 lines,
+-- and the cascade of the reduced sum, for which there are lines, has more gates than a circuit has.
 abbrev pub EndsFor : ℕ → TwoLevel → InputFault → Type 0
 EndsFor most pla (TooManyLines count limit) = (limit ≡ most) × IsTooFew pla most count
-EndsFor most pla (MoreGates limit) = (limit ≡ MOST_GATES) × (IsEmbeddable pla → ⊥)
+EndsFor most pla (MoreGates limit) = (limit ≡ MOST_GATES) × IsTooLong pla most
 EndsFor most pla _ = ⊥
 
 abbrev pub EndsInVain : ℕ → TwoLevel → Refusal → Type 0
