@@ -6,7 +6,7 @@ use crate::plan::{Item, Plan};
 use crate::setup::Setup;
 use crate::slots::{mixed, number_of};
 use rv_forms::{Form, Term, column, constant, follow_gate, literals_of};
-use rv_gate::{Gate, LineSet, MOST_LINES, Shape};
+use rv_gate::{Gate, LineSet, MOST_LINES, Shape, has};
 use rv_mct::Aux;
 use std::alloc::{AllocError, Global};
 use std::collections::HashMap;
@@ -57,11 +57,18 @@ struct Values {
 #[derive(Drop)]
 struct Draft {
     held: Vec<Form>,
+    own: Vec<Value>,
     terms: Vec<Term>,
     products: HashMap<u64, u32>,
     steps: Vec<Step>,
     values: Values,
+    columns: usize,
 }
+
+// Flips are followed as long as the forms that they make have so many columns for each, and some more.
+const MOST_COLUMNS: usize = 64;
+
+const MORE_COLUMNS: usize = 1 << 22;
 
 // More terms than this are not tried.
 const MOST_TERMS: usize = 1 << 24;
@@ -72,19 +79,6 @@ fn value_of(form: &Form) -> Value {
     Value {
         number: number_of(form),
         constant: form.constant,
-    }
-}
-
-fn value_at(held: &[Form], line: u8, wanted: bool) -> Value {
-    match held.get(usize::from(line)) {
-        Some(form) => Value {
-            number: number_of(form),
-            constant: form.constant == wanted,
-        },
-        None => Value {
-            number: 0,
-            constant: false,
-        },
     }
 }
 
@@ -211,12 +205,12 @@ impl Values {
 }
 
 // A number for a product, the same for A B, A (A + B + 1) and B (A + B + 1); none where it is no product.
-fn key_of(literals: &[Form]) -> Option<u64> {
+fn key_of(literals: &[Value]) -> Option<u64> {
     let mut key = 0u64;
     let mut count = 0u32;
     let mut sum = ONE;
     for k in 0..literals.len() {
-        let value = value_of(&literals[k]);
+        let value = literals[k];
         if value.number == 0 {
             if !value.constant {
                 return None;
@@ -225,7 +219,7 @@ fn key_of(literals: &[Form]) -> Option<u64> {
         }
         let mut again = false;
         for j in 0..k {
-            let other = value_of(&literals[j]);
+            let other = literals[j];
             if other.number == value.number {
                 if other.constant != value.constant {
                     return None;
@@ -251,6 +245,7 @@ fn key_of(literals: &[Form]) -> Option<u64> {
 impl Draft {
     fn new(alloc: Global, setup: Setup) -> Result<Draft, AllocError> {
         let mut held = Vec::new(alloc);
+        let mut own = Vec::new(alloc);
         for line in 0..setup.lines.saturating_add(setup.extra) {
             let known = line >= setup.lines && matches!(setup.aux, Aux::Clean);
             let form = if known {
@@ -258,10 +253,12 @@ impl Draft {
             } else {
                 column(alloc, u32::from(line))?
             };
+            own.push(value_of(&form))?;
             held.push(form)?;
         }
         Ok(Draft {
             held,
+            own,
             terms: Vec::new(alloc),
             products: HashMap::new(alloc),
             steps: Vec::new(alloc),
@@ -270,11 +267,41 @@ impl Draft {
                 entries: Vec::new(alloc),
                 constant: 0,
             },
+            columns: 0,
         })
     }
 }
 
 impl Draft {
+    // What a line holds, or whether it is 0.
+    fn value(&self, line: u8, wanted: bool) -> Value {
+        match self.own.get(usize::from(line)) {
+            Some(own) => Value {
+                number: own.number,
+                constant: own.constant == wanted,
+            },
+            None => Value {
+                number: 0,
+                constant: false,
+            },
+        }
+    }
+
+    fn literals(
+        &self,
+        alloc: Global,
+        care: LineSet,
+        want: LineSet,
+    ) -> Result<Vec<Value>, AllocError> {
+        let mut literals = Vec::new(alloc);
+        for line in 0..MOST_LINES {
+            if has(care, line) {
+                literals.push(self.value(line, has(want, line)))?;
+            }
+        }
+        Ok(literals)
+    }
+
     // The term that a product is, if it is one: told by its number.
     fn claim(
         &mut self,
@@ -285,8 +312,8 @@ impl Draft {
         if self.held.len() > usize::from(MOST_LINES) {
             return Ok(None);
         }
-        let factors = literals_of(alloc, &self.held, care, want)?;
-        let Some(key) = key_of(&factors) else {
+        let values = self.literals(alloc, care, want)?;
+        let Some(key) = key_of(&values) else {
             return Ok(None);
         };
         if let Some(term) = self.products.get(&key) {
@@ -297,8 +324,30 @@ impl Draft {
         }
         let term = self.terms.len() as u32;
         let _old = self.products.insert(key, term)?;
+        let factors = literals_of(alloc, &self.held, care, want)?;
         self.terms.push(Term { factors })?;
         Ok(Some(term))
+    }
+
+    fn renew(&mut self, line: u8) {
+        let k = usize::from(line);
+        if let (Some(own), Some(form)) = (self.own.get_mut(k), self.held.get(k)) {
+            *own = value_of(form);
+            self.columns = self.columns.saturating_add(form.columns.len());
+        }
+    }
+
+    // Whether forms have got too long.
+    fn is_full(&self) -> bool {
+        let each = self.steps.len().saturating_mul(MOST_COLUMNS);
+        self.columns > each.saturating_add(MORE_COLUMNS)
+    }
+
+    // The sum of what two lines hold now.
+    fn note_sum(&mut self, time: usize, line: u8, other: u8) -> Result<(), AllocError> {
+        let own = self.value(line, true);
+        let sum = own.plus(self.value(other, true));
+        self.values.note_sum(sum, time, line, other)
     }
 
     // The next flip. `false` where it can't be followed.
@@ -308,16 +357,14 @@ impl Draft {
         };
         let time = self.steps.len();
         let claim = self.claim(alloc, care, want)?;
-        let before = value_at(&self.held, target, true);
+        let before = self.value(target, true);
         let toffoli = toffoli_of(flip);
         let (mut a, mut c) = (before, before);
         if let Some(two) = toffoli {
-            a = value_at(&self.held, two.a.line, two.a.wanted);
-            c = value_at(&self.held, two.c.line, two.c.wanted);
-            self.values
-                .note_sum(a.plus(c), time, two.a.line, two.c.line)?;
-            self.values
-                .note_sum(a.plus(before), time, two.a.line, target)?;
+            a = self.value(two.a.line, two.a.wanted);
+            c = self.value(two.c.line, two.c.wanted);
+            self.note_sum(time, two.a.line, two.c.line)?;
+            self.note_sum(time, two.a.line, target)?;
         }
         let first = self.held.len();
         if first > usize::from(MOST_LINES) || self.terms.len() > MOST_TERMS {
@@ -326,12 +373,12 @@ impl Draft {
         if !follow_gate(alloc, &self.terms, first, &mut self.held, flip, claim)? {
             return Ok(false);
         }
-        let after = value_at(&self.held, target, true);
+        self.renew(target);
+        let after = self.value(target, true);
         self.values
             .note_line(after, time.saturating_add(1), target)?;
         if let Some(two) = toffoli {
-            self.values
-                .note_sum(a.plus(after), time.saturating_add(1), two.a.line, target)?;
+            self.note_sum(time.saturating_add(1), two.a.line, target)?;
         }
         self.steps.push(Step {
             claim,
@@ -346,11 +393,11 @@ impl Draft {
 
     fn steps(&mut self, alloc: Global, flips: &[Gate]) -> Result<bool, AllocError> {
         for line in 0..MOST_LINES {
-            let value = value_at(&self.held, line, true);
+            let value = self.value(line, true);
             self.values.note_line(value, 0, line)?;
         }
         for flip in flips {
-            if !self.step(alloc, *flip)? {
+            if self.is_full() || !self.step(alloc, *flip)? {
                 return Ok(false);
             }
         }
@@ -358,9 +405,20 @@ impl Draft {
     }
 }
 
-// Flips in pairs, whose first controls have one value and whose targets one, before or after.
-fn pairs(alloc: Global, steps: &[Step]) -> Result<Vec<Option<Block>>, AllocError> {
+// Two flips in a pair.
+type Pair = (usize, usize);
+
+// How flips are written, and those in pairs.
+#[derive(Drop)]
+struct Ways {
+    blocks: Vec<Option<Block>>,
+    pairs: Vec<Pair>,
+}
+
+// Flips in pairs, whose first controls have one value and whose targets one, before or after, but for constants.
+fn ways_of(alloc: Global, steps: &[Step]) -> Result<Ways, AllocError> {
     let mut blocks = Vec::new(alloc);
+    let mut pairs = Vec::new(alloc);
     let mut open: HashMap<u64, (usize, Block)> = HashMap::new(alloc);
     for k in 0..steps.len() {
         let step = &steps[k];
@@ -384,6 +442,7 @@ fn pairs(alloc: Global, steps: &[Step]) -> Result<Vec<Option<Block>>, AllocError
                     }
                 }
                 if paired {
+                    pairs.push((at, k))?;
                     if let Some(block) = blocks.get_mut(k) {
                         *block = Some(side);
                     }
@@ -396,27 +455,20 @@ fn pairs(alloc: Global, steps: &[Step]) -> Result<Vec<Option<Block>>, AllocError
             }
         }
     }
-    Ok(blocks)
+    Ok(Ways { blocks, pairs })
 }
 
-// The sign of each block that is in no pair, and all powers.
+// The sign of each block that is in no pair, and the powers of all products.
 fn choose(steps: &[Step], blocks: &mut Vec<Option<Block>>, values: &mut Values) {
     for k in 0..steps.len() {
-        let step = &steps[k];
         let Some(block) = blocks.get_mut(k) else {
             return;
         };
-        let (a, c) = (step.a, step.c);
+        let (a, c) = (steps[k].a, steps[k].c);
         match *block {
             None => {}
-            Some(Block::Before) => {
-                values.add_product(a, c, 1);
-                values.add_product(a, step.before, 2);
-            }
-            Some(Block::After) => {
-                values.add_product(a, c, 7);
-                values.add_product(a, step.after, 2);
-            }
+            Some(Block::Before) => values.add_product(a, c, 1),
+            Some(Block::After) => values.add_product(a, c, 7),
             Some(_) => {
                 if values.left_by(a, c, 1) < values.left_by(a, c, 7) {
                     *block = Some(Block::Minus);
@@ -426,6 +478,36 @@ fn choose(steps: &[Step], blocks: &mut Vec<Option<Block>>, values: &mut Values) 
                     values.add_product(a, c, 7);
                 }
             }
+        }
+    }
+}
+
+// The control and the target that tell what a block leaves.
+fn told_by(steps: &[Step], blocks: &[Option<Block>], k: usize) -> Option<(Value, Value)> {
+    if k >= steps.len() || k >= blocks.len() {
+        return None;
+    }
+    match blocks[k] {
+        Some(Block::Before) => Some((steps[k].a, steps[k].before)),
+        Some(Block::After) => Some((steps[k].a, steps[k].after)),
+        _ => None,
+    }
+}
+
+// What a pair leaves: nothing, or w^4 where its control or its target is 1.
+fn add_pairs(steps: &[Step], ways: &Ways, values: &mut Values) {
+    for pair in &ways.pairs {
+        let Some((a, t)) = told_by(steps, &ways.blocks, pair.0) else {
+            continue;
+        };
+        let Some((other, after)) = told_by(steps, &ways.blocks, pair.1) else {
+            continue;
+        };
+        if a.constant != other.constant {
+            values.add(after, 4);
+        }
+        if t.constant != after.constant {
+            values.add(a, 4);
         }
     }
 }
@@ -545,9 +627,10 @@ pub(crate) fn planned(
         mut values,
         ..
     } = draft;
-    let mut blocks = pairs(alloc, &steps)?;
-    choose(&steps, &mut blocks, &mut values);
+    let mut ways = ways_of(alloc, &steps)?;
+    choose(&steps, &mut ways.blocks, &mut values);
+    add_pairs(&steps, &ways, &mut values);
     let phases = phases(alloc, &values)?;
-    let items = items(alloc, &steps, &blocks, &phases)?;
+    let items = items(alloc, &steps, &ways.blocks, &phases)?;
     Ok(Some(Plan { terms, items }))
 }
