@@ -3,7 +3,7 @@ use crate::common::{at, bit, exchange, is_single, lowest, number_of, put_at, wit
 use crate::echelon::Echelon;
 use crate::flow::{Flow, Term, minus, plus};
 use crate::random::Random;
-use crate::table::{Entry, Table};
+use crate::table::{Entry, Table, table_of};
 use std::alloc::{AllocError, Global};
 
 // An order of the pairs is tried about so many steps long, and at most so often.
@@ -108,6 +108,7 @@ impl Absorbing {
             echelon.reduce();
             let _ = echelon.keep()?;
         }
+        echelon.settle();
         Ok(())
     }
 
@@ -118,6 +119,7 @@ impl Absorbing {
             self.turn_pairs(echelon, entry.set);
         }
         echelon.reduce();
+        echelon.lighten();
         echelon.weight()
     }
 
@@ -226,27 +228,30 @@ impl Absorbing {
         Ok(())
     }
 
+    // Whether a region has other terms now. What is left there may go in a later one.
     fn region(
         &mut self,
         alloc: Global,
         flow: &mut Flow,
         table: &Table,
         region: usize,
-    ) -> Result<(), AllocError> {
-        if self.gather(flow, table, region)? && self.look(alloc, flow.lines)? {
-            self.drop_even(flow);
-            self.change_odd(flow);
-            self.push_rest(region)?;
+    ) -> Result<bool, AllocError> {
+        if !self.gather(flow, table, region)? || !self.look(alloc, flow.lines)? {
+            return Ok(false);
         }
-        Ok(())
+        self.drop_even(flow);
+        self.change_odd(flow);
+        self.push_rest(region)?;
+        self.end(flow)?;
+        Ok(true)
     }
 
-    fn end(&self, flow: &mut Flow) -> Result<(), AllocError> {
+    fn end(&mut self, flow: &mut Flow) -> Result<(), AllocError> {
         for term in &self.fresh {
             flow.push(term.home, term.set, term.power)?;
         }
-        flow.settle();
-        Ok(())
+        self.fresh.clear();
+        spread_signs(flow)
     }
 }
 
@@ -268,16 +273,14 @@ fn spread_signs(flow: &mut Flow) -> Result<(), AllocError> {
 }
 
 /// Takes even terms into odd ones, as far as it can.
-pub(crate) fn absorb(
-    alloc: Global,
-    flow: &mut Flow,
-    table: &Table,
-    seed: u64,
-) -> Result<(), AllocError> {
+pub(crate) fn absorb(alloc: Global, flow: &mut Flow, seed: u64) -> Result<(), AllocError> {
     let mut absorbing = Absorbing::new(alloc, flow.lines, seed)?;
+    spread_signs(flow)?;
+    let mut table = table_of(alloc, flow)?;
     for region in 0..flow.count() {
-        absorbing.region(alloc, flow, table, region)?;
+        if absorbing.region(alloc, flow, &table, region)? {
+            table = table_of(alloc, flow)?;
+        }
     }
-    absorbing.end(flow)?;
-    spread_signs(flow)
+    Ok(())
 }

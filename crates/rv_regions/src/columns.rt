@@ -389,8 +389,100 @@ impl Step {
         self.push_pairs()?;
         self.push_groups(random)?;
         self.look(random)?;
+        Ok((self.apply()?, self.left))
+    }
+
+    // On how many lines fewer the columns are, with a choice for a set.
+    fn lightening(&self, sets: &[u64], set: u64, y: &[u64]) -> i32 {
+        let (mut old, mut new) = (0u32, 0u32);
+        for place in 0..self.columns.len() {
+            if is_chosen(y, place) {
+                let there = at(sets, place, 0);
+                old = old.wrapping_add(there.count_ones());
+                new = new.wrapping_add((there ^ set).count_ones());
+            }
+        }
+        if is_odd(y) {
+            new = new.wrapping_add(set.count_ones());
+        }
+        let old = i32::try_from(old).unwrap_or(i32::MAX);
+        old.wrapping_sub(i32::try_from(new).unwrap_or(i32::MAX))
+    }
+
+    fn try_lighter(&mut self, group: Group, sets: &[u64], set: u64, first: usize, second: usize) {
+        self.make_sum(first, second);
+        let gain = self.lightening(sets, set, &self.sum);
+        if gain > self.best.score && self.score(group, &self.sum) >= 0 {
+            self.best.score = gain;
+            self.best.z = group.z;
+            for word in 0..self.width() {
+                put_at(&mut self.best.y, word, at(&self.sum, word, 0));
+            }
+        }
+    }
+
+    // The best choice for a set that is on fewer lines.
+    fn look_lighter(
+        &mut self,
+        group: Group,
+        sets: &[u64],
+        set: u64,
+        random: &mut Random,
+    ) -> Result<(), AllocError> {
+        self.find_choices(group.z)?;
+        let all = self.nulls.len().wrapping_add(self.choices.len());
+        let count = all / self.width().max(1);
+        for choice in 0..count {
+            self.try_lighter(group, sets, set, choice, choice);
+        }
+        for _ in 0..count.wrapping_mul(2).min(SUMS) {
+            let (first, second) = (random.below(count), random.below(count));
+            self.try_lighter(group, sets, set, first, second);
+        }
+        Ok(())
+    }
+
+    // The set of a z that is the sum of two columns, or one of them.
+    fn set_of(&self, group: Group, sets: &[u64]) -> u64 {
+        let pair = at(&self.pairs, group.from, NO_PAIR);
+        let first = at(sets, pair.first as usize, 0);
+        if pair.first == pair.second {
+            first
+        } else {
+            first ^ at(sets, pair.second as usize, 0)
+        }
+    }
+
+    /// Takes a step to as many columns on fewer lines, of which these are the sets.
+    pub(crate) fn take_lighter(
+        &mut self,
+        alloc: Global,
+        sets: &[u64],
+        random: &mut Random,
+    ) -> Result<(bool, usize), AllocError> {
+        self.begin(alloc)?;
+        self.push_pairs()?;
+        self.push_groups(random)?;
+        self.groups.sort_unstable_by_key(|group| group.tie);
+        let pairs = self.columns.len().wrapping_mul(self.columns.len());
+        let steps = pairs.wrapping_mul(self.squares.words());
+        self.left = self.left.saturating_sub(steps);
+        for place in 0..self.groups.len() {
+            if self.best.score > 0 || self.left == 0 {
+                break;
+            }
+            if let Some(group) = self.groups.get(place).copied() {
+                let set = self.set_of(group, sets);
+                self.look_lighter(group, sets, set, random)?;
+            }
+        }
+        Ok((self.apply()?, self.left))
+    }
+
+    // Changes the columns by the best step. Whether there is one.
+    fn apply(&mut self) -> Result<bool, AllocError> {
         if self.best.score <= 0 {
-            return Ok((false, self.left));
+            return Ok(false);
         }
         for place in 0..self.columns.len() {
             if is_chosen(&self.best.y, place) {
@@ -401,7 +493,7 @@ impl Step {
         if is_odd(&self.best.y) {
             self.columns.push(self.best.z)?;
         }
-        Ok((true, self.left))
+        Ok(true)
     }
 
     pub(crate) fn into_columns(self) -> Vec<u64> {

@@ -142,6 +142,64 @@ impl Echelon {
         Ok(true)
     }
 
+    // The row of a number is the one that is being made.
+    fn load(&mut self, number: u32) {
+        self.begin();
+        self.add(number, 0);
+    }
+
+    // The row that is being made takes the place of another one.
+    fn store(&mut self, number: u32) {
+        let start = (number as usize).wrapping_mul(self.words);
+        for word in 0..self.words {
+            let bits = at(&self.row, word, 0);
+            put_at(&mut self.rows, start.wrapping_add(word), bits);
+        }
+    }
+
+    /// Clears in each row the first bits of the others.
+    pub(crate) fn settle(&mut self) {
+        for number in 0..self.count {
+            self.load(number);
+            if let Some(place) = self.first() {
+                self.turn(place);
+                self.reduce();
+                self.turn(place);
+                self.store(number);
+            }
+        }
+    }
+
+    // How many of the first bits are 1 with a row added.
+    fn weight_with(&self, number: u32) -> usize {
+        let start = (number as usize).wrapping_mul(self.words);
+        let mut weight = 0usize;
+        for word in 0..self.size {
+            let bits = at(&self.row, word, 0) ^ at(&self.rows, start.wrapping_add(word), 0);
+            weight = weight.wrapping_add(size_of(bits));
+        }
+        weight
+    }
+
+    /// Adds rows as long as fewer of the first bits are 1 then.
+    pub(crate) fn lighten(&mut self) {
+        for _ in 0..self.count {
+            let mut least = self.weight();
+            let mut best = None;
+            for number in 0..self.count {
+                let weight = self.weight_with(number);
+                if weight < least {
+                    least = weight;
+                    best = Some(number);
+                }
+            }
+            match best {
+                Some(number) => self.add(number, 0),
+                None => return,
+            }
+        }
+    }
+
     /// How many words a row has.
     pub(crate) fn words(&self) -> usize {
         self.words

@@ -26,8 +26,13 @@ const FEW_FLIPS: usize = 256;
 // So often a short network is begun at the most.
 const MOST_STARTS: usize = 16;
 
+// What was found is gone on from with so many times as many windows.
+const MORE_WINDOWS: usize = 2;
+
 // So often it is gone on from what was found.
 const MOST_ROUNDS: usize = 4;
+
+const FEW_ROUNDS: usize = 2;
 
 fn has_three_lines(op: Op) -> bool {
     match op {
@@ -79,6 +84,7 @@ struct Effort {
     searches: usize,
     words: usize,
     seed: u64,
+    lightens: bool,
 }
 
 // For a network of so many pieces. Sums that are new to the lines take more windows.
@@ -86,11 +92,12 @@ fn effort_of(goal: Goal, effort: usize, pieces: usize, seed: u64) -> Effort {
     let is_one = pieces <= 1;
     match goal {
         Goal::T => Effort {
-            starts: 1024,
-            windows: effort.saturating_mul(if is_one { 4 } else { 1 }),
+            starts: 2048,
+            windows: effort.saturating_mul(if is_one { 2 } else { 1 }),
             searches: effort.saturating_mul(2),
             words: effort.saturating_mul(WORDS) / pieces.max(1),
             seed,
+            lightens: true,
         },
         Goal::Cx => Effort {
             starts: 4096,
@@ -98,6 +105,7 @@ fn effort_of(goal: Goal, effort: usize, pieces: usize, seed: u64) -> Effort {
             searches: 0,
             words: 0,
             seed,
+            lightens: false,
         },
     }
 }
@@ -107,6 +115,7 @@ fn lower(alloc: Global, flow: &mut Flow, effort: Effort) -> Result<(), AllocErro
     let first = flow.terms.clone()?;
     let mut best = flow.terms.clone()?;
     let mut least = flow.odd_weight();
+    let most = least.0;
     let mut left = effort.words.saturating_mul(flow.odd_count());
     for number in 0..effort.searches {
         if left == 0 {
@@ -114,15 +123,24 @@ fn lower(alloc: Global, flow: &mut Flow, effort: Effort) -> Result<(), AllocErro
         }
         flow.set_terms(&first)?;
         let seed = effort.seed.wrapping_mul(1009).wrapping_add(number as u64);
-        let mut lowering = Lowering::new(alloc, flow.lines, seed, left)?;
+        let mut lowering = Lowering::new(alloc, flow.lines, seed, left, false)?;
         lowering.run(alloc, flow)?;
         left = lowering.left();
+        let is_vain = least.0 == most && number >= effort.searches / 4;
         if flow.odd_weight() < least {
             least = flow.odd_weight();
             best = flow.terms.clone()?;
+        } else if is_vain {
+            break;
         }
     }
-    flow.set_terms(&best)
+    flow.set_terms(&best)?;
+    if effort.lightens && effort.searches > 0 {
+        let words = effort.words.saturating_mul(flow.odd_count());
+        let mut lowering = Lowering::new(alloc, flow.lines, effort.seed, words, true)?;
+        lowering.run(alloc, flow)?;
+    }
+    Ok(())
 }
 
 fn reworked(
@@ -133,8 +151,7 @@ fn reworked(
 ) -> Result<Option<Vec<Op>>, AllocError> {
     let (mut flow, plan) = flow_of(alloc, lines, ops)?;
     lower(alloc, &mut flow, effort)?;
-    let table = table_of(alloc, &flow)?;
-    absorb(alloc, &mut flow, &table, effort.seed)?;
+    absorb(alloc, &mut flow, effort.seed)?;
     let table = table_of(alloc, &flow)?;
     let plan = complete(alloc, &flow, &table, plan)?;
     let rounds = plan.len().max(FEW_FLIPS).saturating_mul(effort.windows);
@@ -144,27 +161,41 @@ fn reworked(
     written(alloc, &flow, &table, &plan)
 }
 
-// Goes on in rounds, each from what the one before found.
+// Goes on in so many rounds, each from the best so far.
 fn in_rounds(
     alloc: Global,
     lines: usize,
     ops: &[Op],
     effort: Effort,
+    rounds: usize,
 ) -> Result<Vec<Op>, AllocError> {
     let mut best = ops.to_vec(alloc)?;
     let mut effort = effort;
-    for _ in 0..MOST_ROUNDS {
-        match reworked(alloc, lines, &best, effort)? {
-            Some(other) if is_better(&other, &best) => best = other,
-            _ => return Ok(best),
-        }
-        effort.searches = 0;
+    effort.searches = 0;
+    for _ in 0..rounds {
         effort.seed = effort.seed.wrapping_add(1);
+        match reworked(alloc, lines, &best, effort)? {
+            Some(other) if !is_better(&best, &other) => best = other,
+            _ => {}
+        }
     }
     Ok(best)
 }
 
-// The best of some starts: the more, the fewer operations there are.
+// What a start leads to in a few rounds, if anything.
+fn started(
+    alloc: Global,
+    lines: usize,
+    ops: &[Op],
+    effort: Effort,
+) -> Result<Option<Vec<Op>>, AllocError> {
+    match reworked(alloc, lines, ops, effort)? {
+        Some(found) => Ok(Some(in_rounds(alloc, lines, &found, effort, FEW_ROUNDS)?)),
+        None => Ok(None),
+    }
+}
+
+// The best of some starts, the more, the fewer operations there are; and what is found from there.
 fn improved(
     alloc: Global,
     lines: usize,
@@ -173,17 +204,20 @@ fn improved(
 ) -> Result<Vec<Op>, AllocError> {
     let starts = (effort.starts / ops.len().max(1)).clamp(1, MOST_STARTS);
     let mut best = ops.to_vec(alloc)?;
-    let mut effort = effort;
-    effort.searches = effort.searches.saturating_add(starts.saturating_sub(1)) / starts.max(1);
-    effort.words = effort.words / starts.max(1);
-    for _ in 0..starts {
-        let found = in_rounds(alloc, lines, ops, effort)?;
-        if is_better(&found, &best) {
-            best = found;
+    let mut start = effort;
+    start.searches = effort.searches.saturating_add(starts.saturating_sub(1)) / starts.max(1);
+    start.words = effort.words / starts.max(1);
+    for number in 0..starts {
+        start.lightens = effort.lightens && number % 4 < 3;
+        match started(alloc, lines, ops, start)? {
+            Some(found) if is_better(&found, &best) => best = found,
+            _ => {}
         }
-        effort.seed = effort.seed.wrapping_add(101);
+        start.seed = start.seed.wrapping_add(101);
     }
-    Ok(best)
+    let mut last = effort;
+    last.windows = effort.windows.saturating_mul(MORE_WINDOWS);
+    in_rounds(alloc, lines, &best, last, MOST_ROUNDS)
 }
 
 fn append(list: &mut Vec<Op>, ops: &[Op]) -> Result<(), AllocError> {

@@ -10,6 +10,9 @@ use std::alloc::{AllocError, Global};
 // No fewer terms are tried.
 const FEWEST: usize = 7;
 
+// So many steps are taken at the most.
+const MOST_STEPS: usize = 4096;
+
 const NO_ENTRY: Entry = Entry { set: 0, term: 0 };
 
 /// The odd terms of a region; by line and by pair of lines what they and the columns found differ by; and how many
@@ -21,6 +24,7 @@ pub(crate) struct Lowering {
     double: Vec<u8>,
     random: Random,
     left: usize,
+    lightens: bool,
 }
 
 fn pair(low: usize, high: usize) -> usize {
@@ -39,6 +43,7 @@ impl Lowering {
         lines: usize,
         seed: u64,
         left: usize,
+        lightens: bool,
     ) -> Result<Lowering, AllocError> {
         let single = vec![in alloc; 0; lines]?;
         let double = vec![in alloc; 0; pair(0, lines)]?;
@@ -48,6 +53,7 @@ impl Lowering {
             double,
             random: Random::new(seed),
             left,
+            lightens,
         })
     }
 
@@ -88,18 +94,25 @@ impl Lowering {
     fn fewest(&mut self, alloc: Global, columns: Vec<u64>) -> Result<Vec<u64>, AllocError> {
         let mut columns = columns;
         tidy(&mut columns);
-        for _ in 0..columns.len() {
-            let (next, is_less) = self.step(alloc, columns)?;
+        let mut is_lightening = false;
+        for _ in 0..MOST_STEPS {
+            let (next, is_less) = self.step(alloc, columns, is_lightening)?;
             columns = next;
-            if !is_less {
+            if !is_less && (is_lightening || !self.lightens) {
                 return Ok(columns);
             }
+            is_lightening = !is_less;
         }
         Ok(columns)
     }
 
     // Goes on from columns to fewer, in coordinates of their span.
-    fn step(&mut self, alloc: Global, columns: Vec<u64>) -> Result<(Vec<u64>, bool), AllocError> {
+    fn step(
+        &mut self,
+        alloc: Global,
+        columns: Vec<u64>,
+        is_lightening: bool,
+    ) -> Result<(Vec<u64>, bool), AllocError> {
         let mut basis = Basis::new(alloc)?;
         let mut local = Vec::new(alloc);
         let mut columns = columns;
@@ -108,8 +121,16 @@ impl Lowering {
             local.push(basis.coordinates_of(*column)?)?;
         }
         tidy(&mut local);
+        let mut sets = Vec::new(alloc);
+        for column in &local {
+            sets.push(basis.set_of(*column))?;
+        }
         let mut step = Step::new(alloc, local, basis.len(), self.left)?;
-        let (is_less, left) = step.take(alloc, &mut self.random)?;
+        let (is_less, left) = if is_lightening {
+            step.take_lighter(alloc, &sets, &mut self.random)?
+        } else {
+            step.take(alloc, &mut self.random)?
+        };
         self.left = left;
         let mut found = step.into_columns();
         for place in 0..found.len() {
@@ -165,6 +186,18 @@ impl Lowering {
         Ok(())
     }
 
+    // Whether columns are fewer than the odd terms, or as many on fewer lines.
+    fn is_better(&self, columns: &[u64]) -> bool {
+        let (mut old, mut new) = (0u32, 0u32);
+        for entry in &self.odd {
+            old = old.wrapping_add(entry.set.count_ones());
+        }
+        for column in columns {
+            new = new.wrapping_add(column.count_ones());
+        }
+        columns.len() < self.odd.len() || columns.len() == self.odd.len() && new < old
+    }
+
     // Whether a region has fewer odd terms now.
     fn region(
         &mut self,
@@ -181,7 +214,7 @@ impl Lowering {
             columns.push(entry.set)?;
         }
         let found = self.fewest(alloc, columns)?;
-        if found.len() >= self.odd.len() {
+        if !self.is_better(&found) {
             return Ok(false);
         }
         self.replace(flow, region, &found)?;

@@ -127,16 +127,23 @@ impl State {
         next
     }
 
-    // The flip after which the least is left to do, if that is less than now.
-    fn lightened(&self, lines: u32) -> Option<State> {
+    // A flip after which the least is left to do, if that is less than now.
+    fn lightened(&self, lines: u32, random: &mut Random) -> Option<State> {
         let mut least = self.weight();
+        let mut ties = 0usize;
         let mut best = None;
         for target in 0..lines {
             for control in 0..lines {
                 if control != target {
-                    let next = self.flipped(control, target);
-                    if next.weight() < least {
-                        least = next.weight();
+                    let weight = self.flipped(control, target).weight();
+                    let is_tie = weight == least && best.is_some();
+                    if weight < least {
+                        ties = 1;
+                    } else if is_tie {
+                        ties = ties.wrapping_add(1);
+                    }
+                    if weight < least || is_tie && random.below(ties) == 0 {
+                        least = weight;
                         best = Some(self.after(control, target));
                     }
                 }
@@ -165,7 +172,7 @@ impl State {
     }
 
     // Done within so many flips, where no sums are left.
-    fn finish(&self, lines: u32, bound: usize) -> Option<State> {
+    fn finish(&self, lines: u32, bound: usize, random: &mut Random) -> Option<State> {
         let mut state = *self;
         for _ in 0..bound.saturating_sub(self.count).saturating_add(1) {
             if state.is_done() {
@@ -174,7 +181,7 @@ impl State {
             if state.count >= bound {
                 return None;
             }
-            state = match state.lightened(lines) {
+            state = match state.lightened(lines, random) {
                 Some(next) => next,
                 None => state.eliminated(lines),
             };
@@ -293,12 +300,12 @@ impl Search {
     }
 
     // Each state without sums is finished by itself. The shortest one, if it is shorter than the bound or as short.
-    fn finished(&self, way: Way, bound: usize) -> Option<State> {
+    fn finished(&self, way: Way, bound: usize, random: &mut Random) -> Option<State> {
         let mut best: Option<State> = None;
         let mut most = bound;
         for state in &self.now {
             if state.sums[0] == 0 && state.sums[1] == 0 {
-                if let Some(done) = state.finish(way.lines, most) {
+                if let Some(done) = state.finish(way.lines, most, random) {
                     most = done.count.saturating_sub(1);
                     best = Some(done);
                 }
@@ -321,8 +328,8 @@ impl Search {
         self.now.push(start)?;
         let mut bound = bound.min(MOST_FLIPS);
         let mut best = None;
-        for step in 0..MOST_FLIPS {
-            if let Some(done) = self.finished(way, bound) {
+        for step in 0..MOST_FLIPS + 1 {
+            if let Some(done) = self.finished(way, bound, random) {
                 bound = done.count.saturating_sub(1);
                 best = Some(done);
             }
