@@ -1,0 +1,2 @@
+-- What the code alone keeps.
+pub mod Inverted
