@@ -27,6 +27,7 @@ complete -c rev -n "not __fish_seen_subcommand_from $commands" -a demo -d 'what 
 complete -c rev -n '__fish_seen_subcommand_from cost draw' -l from -x -a 'real qasm' -d 'the form that is read'
 complete -c rev -n '__fish_seen_subcommand_from realize flow' -l from -x -a 'pla perm' -d 'the form that is read'
 complete -c rev -n '__fish_seen_subcommand_from compare' -l from -x -a 'real pla perm blif' -d 'the form of the second input'
+complete -c rev -n '__fish_seen_subcommand_from check' -l from -x -a 'real qasm' -d 'the form of the first input: a circuit, or another network'
 complete -c rev -n '__fish_seen_subcommand_from esop' -l to -x -a 'real pla' -d 'the form that is written'
 complete -c rev -n '__fish_seen_subcommand_from synth' -l method -x -a 'best out both' -d 'how the gates are found'
 complete -c rev -n '__fish_seen_subcommand_from flow' -l method -x -a 'best out both single' -d 'how the circuit is found: by transformations, or by single-target gates'
@@ -38,6 +39,7 @@ complete -c rev -n '__fish_seen_subcommand_from flow' -l blocks -x -a 'exact rel
 complete -c rev -n '__fish_seen_subcommand_from decompose map flow' -l aux -x -a 'borrowed clean' -d 'whether helper lines may hold anything, or hold 0'
 complete -c rev -n '__fish_seen_subcommand_from simulate compare' -l all -d 'all lines are inputs and outputs, whatever their marks'
 complete -c rev -n '__fish_seen_subcommand_from draw' -l as -x -a 'text svg latex' -d 'the form of the drawing'
+complete -c rev -n '__fish_seen_subcommand_from cost' -l as -x -a 'text json csv' -d 'the form of the report'
 complete -c rev -n '__fish_seen_subcommand_from draw' -l wrap -x -d 'how many gates a block of the drawing has, 1 to 65535, or 0 for one block of all'
 complete -c rev -n '__fish_seen_subcommand_from compute realize' -l lines -x -d 'how many lines the circuit may have, 1 to 64'
 complete -c rev -n '__fish_seen_subcommand_from demo' -l lines -x -d 'how many lines the permutation has, 1 to 8'
@@ -53,6 +55,7 @@ complete -c rev -n '__fish_seen_subcommand_from reduce' -l effort -x -d 'how lon
 complete -c rev -n '__fish_seen_subcommand_from resynth' -l marks -d 'only the function by the marks of the circuit is kept'
 complete -c rev -n '__fish_seen_subcommand_from demo' -l seed -x -d 'the seed of the permutation, 0 to 65535'
 complete -c rev -n '__fish_seen_subcommand_from esop reduce' -l seed -x -d 'other random numbers for the search, 0 to 65535; needs --goal'
+complete -c rev -n '__fish_seen_subcommand_from compare' -l nodes -x -d 'how many nodes a decision diagram may have, 1 to 4194304'
 complete -c rev -n '__fish_seen_subcommand_from check' -l by -x -a 'words paths' -d 'from each word in turn, or by sums over paths from all words at once'
 complete -c rev -n '__fish_seen_subcommand_from compute realize resynth' -l seed -x -d 'other random numbers for the search, 0 to 65535'
 complete -c rev -n '__fish_seen_subcommand_from demo' -f

@@ -10,6 +10,7 @@ use Rattle.rv_words.specs.declared.command.Command.TheVariants as command
 use Rattle.rv_words.specs.declared.command.Blocks.{Blocks}
 use Rattle.rv_words.specs.declared.command.Blocks.TheVariants as blocks
 use Rattle.rv_words.specs.declared.command.Form.{Form}
+use Rattle.rv_words.specs.declared.command.ReportForm.{ReportForm}
 use Rattle.rv_words.specs.declared.command.PictureForm.{PictureForm}
 use Rattle.rv_words.specs.declared.command.Goal.{Goal}
 use Rattle.rv_words.specs.declared.command.Form.TheVariants as form
@@ -94,9 +95,9 @@ reduce_alike : (goal : Option Goal) → NeverDiffers (reduce_row goal)
 reduce_alike None = tt
 reduce_alike (Some goal) = tt
 
-cost_alike : (origin : Form) → NeverDiffers (cost_row origin)
-cost_alike form.Qasm = tt
-cost_alike _ = tt
+cost_alike : (origin : Form) (how : ReportForm) → NeverDiffers (cost_row origin how)
+cost_alike form.Qasm how = tt
+cost_alike _ how = tt
 
 flow_alike : (origin : Form) (method : Synthesis) (simplify : Bool) (by : Blocks) (aux : Aux) → NeverDiffers (flow_row origin method simplify by aux)
 flow_alike form.Perm method simplify by aux = tt
@@ -146,7 +147,7 @@ rows_alike command.Simulate settings other = simulate_alike settings.all
 rows_alike command.Templates settings other = templates_alike settings.library
 rows_alike command.Map settings other = map_alike settings.blocks settings.aux
 rows_alike command.Reduce settings other = reduce_alike settings.goal
-rows_alike command.Cost settings other = cost_alike settings.origin
+rows_alike command.Cost settings other = cost_alike settings.origin settings.report
 rows_alike command.Draw settings other = draw_alike settings.origin settings.picture settings.wrap
 rows_alike command.Esop settings other = esop_alike settings.to settings.goal
 rows_alike command.Flow settings other = flow_alike settings.origin (flow_synthesis settings.method) settings.simplify settings.blocks settings.aux

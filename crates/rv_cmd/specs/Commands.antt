@@ -1,5 +1,6 @@
 -- The table of the commands: a row each.
 pub mod Check
+pub mod CheckNetworks
 pub mod Compare
 pub mod Compute
 pub mod Cost
@@ -24,8 +25,12 @@ pub mod ToReal
 use Rattle.rv_words.specs.declared.asked.Settings.{Settings}
 use Rattle.rv_words.specs.declared.command.Command.{Command}
 use Rattle.rv_words.specs.declared.command.Command.TheVariants as command
-use Rattle.rv_cmd.specs.Row.{Row, answers_as_it_reads, reads_first}
+use Rattle.rv_words.specs.declared.command.CheckedBy.{CheckedBy}
+use Rattle.rv_words.specs.declared.command.Form.{Form}
+use Rattle.rv_words.specs.declared.command.Form.TheVariants as form
+use Rattle.rv_cmd.specs.Row.{ReadsFirst, Row, answers_as_it_reads, reads_first}
 use Rattle.rv_cmd.specs.Commands.Check.{check_row}
+use Rattle.rv_cmd.specs.Commands.CheckNetworks.{networks_row}
 use Rattle.rv_cmd.specs.Commands.Compare.{compare_row}
 use Rattle.rv_cmd.specs.Commands.Compute.{compute_row}
 use Rattle.rv_cmd.specs.Commands.Cost.{cost_row}
@@ -48,6 +53,11 @@ use Rattle.rv_cmd.specs.Commands.Synth.{rows_method, synth_row}
 use Rattle.rv_cmd.specs.Commands.Templates.{templates_row}
 use Rattle.rv_cmd.specs.Commands.ToReal.{toreal_row}
 
+-- two networks are compared by sums over paths alone
+abbrev pub row_of_check : Form → CheckedBy → ReadsFirst
+row_of_check form.Qasm by = networks_row
+row_of_check _ by = check_row by
+
 -- the row of a command, with what its options ask for
 abbrev pub row_for : Command → Settings → Row
 row_for command.Synth s = reads_first (synth_row (rows_method s.method))
@@ -56,18 +66,18 @@ row_for command.Esop s = reads_first (esop_row s.to s.goal)
 row_for command.Templates s = reads_first (templates_row s.library)
 row_for command.Decompose s = reads_first (decompose_row s.aux)
 row_for command.Map s = reads_first (map_row s.blocks s.aux)
-row_for command.Cost s = reads_first (cost_row s.origin)
+row_for command.Cost s = reads_first (cost_row s.origin s.report)
 row_for command.Simulate s = answers_as_it_reads (simulate_row s.all)
 row_for command.ToReal s = reads_first toreal_row
 row_for command.Flow s = reads_first (flow_row s.origin (flow_synthesis s.method) s.simplify s.blocks s.aux)
 row_for command.Demo s = reads_first (demo_row s.lines s.seed)
 row_for command.Fold s = reads_first fold_row
 row_for command.Reduce s = reads_first (reduce_row s.goal)
-row_for command.Check s = reads_first (check_row s.checked)
+row_for command.Check s = reads_first (row_of_check s.origin s.checked)
 row_for command.Single s = reads_first single_row
 row_for command.Route s = reads_first route_row
 row_for command.Draw s = reads_first (draw_row s.origin s.picture s.wrap)
-row_for command.Compare s = reads_first (compare_row s.origin s.all)
+row_for command.Compare s = reads_first (compare_row s.origin s.all s.nodes)
 row_for command.Resynth s = reads_first (resynth_row (resynth_goal s.goal) s.marks)
 row_for command.Compute s = reads_first (compute_row s.lines)
 row_for command.Optimal s = reads_first (optimal_row s.gates)

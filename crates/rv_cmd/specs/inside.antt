@@ -3,3 +3,4 @@ pub mod Naming
 pub mod Products
 pub mod Sending
 pub mod Simulating
+pub mod Told

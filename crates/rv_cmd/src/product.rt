@@ -20,7 +20,7 @@ use rv_perm::{PermSpec, write_perm};
 use rv_pla::write_esop_pla;
 use rv_qasm::write_qasm;
 use rv_real::write_real;
-use rv_words::PictureForm;
+use rv_words::{PictureForm, ReportForm};
 
 /// What a command makes of its inputs, and is to be written.
 #[derive(Drop)]
@@ -37,10 +37,10 @@ pub(crate) enum Product {
     Expansion(Expansion),
     /// The network of a circuit with one operation for a gate, which is made as it is written, in OpenQASM 2.0.
     Toffolis(Toffolis),
-    /// What a circuit costs.
-    CircuitCost(CircuitCost),
-    /// What a network costs.
-    NetCost(NetCost),
+    /// What a circuit costs, in a form.
+    CircuitCost(ReportForm, CircuitCost),
+    /// What a network costs, in a form.
+    NetCost(ReportForm, NetCost),
     /// What each step makes of a generated permutation.
     Summary(Summary),
     /// Whether a network on so many lines does exactly what a circuit does.
@@ -98,8 +98,8 @@ impl Product {
             Product::Network(net) => write_qasm(net, out),
             Product::Expansion(expansion) => expansion.write(out),
             Product::Toffolis(toffolis) => toffolis.write(out),
-            Product::CircuitCost(cost) => put_circuit_cost(cost, out),
-            Product::NetCost(cost) => put_net_cost(cost, out),
+            Product::CircuitCost(form, cost) => put_circuit_cost(*form, cost, out),
+            Product::NetCost(form, cost) => put_net_cost(*form, cost, out),
             Product::Summary(summary) => put_summary(summary, out),
             Product::Verdict(lines, verdict) => put_verdict(*lines, *verdict, out),
             Product::Witness(lines, word) => put_witness(*lines, *word, out),

@@ -79,6 +79,7 @@ fn first_apart_drawn(
     b: &Circuit,
     all: bool,
     inputs: u8,
+    nodes: u32,
 ) -> Result<Option<u64>, DiagramFault>
     requires few { inputs ≤ MOST_LINES }
     requires outputs { (size_of (asked all a.now)).outputs ≡ (size_of (asked all b.now)).outputs }
@@ -86,7 +87,7 @@ fn first_apart_drawn(
         (λ k. AreSame (asked all a.now) (asked all b.now) (word_of inputs k))) }
 {
     for number in 0..way_count(inputs) {
-        let way = way_of(inputs, number);
+        let way = way_of(inputs, number, nodes);
         let by = if way.by_second { b } else { a };
         let order = circuit_order(alloc, way.order, by, all)?;
         let mut diagram = diagram_for(alloc, way, order)?;
@@ -101,12 +102,14 @@ fn first_apart_drawn(
 
 /// Compares the functions of two circuits on all input words; with `all`, on all their lines, without marks.
 ///
-/// Only where there are more than [`MOST_INPUTS`] inputs it may end without an answer.
+/// Diagrams may have so many nodes, at most [`MOST_NODES`](rv_diagram::MOST_NODES). Only where there are more than
+/// [`MOST_INPUTS`] inputs it may end without an answer.
 pub fn compare_circuits(
     alloc: Global,
     a: &Circuit,
     b: &Circuit,
     all: bool,
+    nodes: u32,
 ) -> Result<Comparison, CompareFault>
     ensures exact { IfOk result (λ given. (answer : AnyComparison) → (given ≡ answer)
         ↔ CircuitsAnswer (asked all a.now) (asked all b.now) answer) }
@@ -120,7 +123,7 @@ pub fn compare_circuits(
     }
     let inputs = input_count(a, all);
     if inputs >= LEAST_DRAWN {
-        match first_apart_drawn(alloc, a, b, all, inputs) {
+        match first_apart_drawn(alloc, a, b, all, inputs, nodes) {
             Ok(found) => return Ok(answer_of(found)),
             Err(fault) => {
                 if inputs > MOST_INPUTS {

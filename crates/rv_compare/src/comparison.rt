@@ -2,7 +2,7 @@ ghost use Rattle.std.specs.Prelude.{◌≡◌};
 ghost use Rattle.rv_compare.specs.Compare.{of_failing};
 ghost use Rattle.rv_compare.specs.declared.comparison.CompareFault.TheVariants.{Mem};
 
-use rv_diagram::{DiagramFault, MOST_NODES};
+use rv_diagram::DiagramFault;
 use std::alloc::AllocError;
 use thiserror::Error;
 
@@ -35,8 +35,8 @@ pub(crate) fn answer_of(found: Option<u64>) -> Comparison
 /// Why there is no answer.
 #[derive(Clone, Copy, Debug, PartialEq, Eq, Error)]
 pub enum CompareFault {
-    /// There are more than [`MOST_INPUTS`] inputs, and no diagram of at most [`MOST_NODES`] nodes tells.
-    #[error("undecided with {MOST_NODES} nodes")]
+    /// There are more than [`MOST_INPUTS`] inputs, and no diagram of so few nodes tells.
+    #[error("undecided by small diagrams")]
     Undecided,
     #[error("out of memory")]
     Mem,

@@ -112,6 +112,7 @@ fn first_apart_drawn(
     logic: &Logic,
     all: bool,
     inputs: u8,
+    nodes: u32,
 ) -> Result<Option<u64>, DiagramFault>
     requires few { inputs ≤ MOST_LINES }
     requires inputs { inputs ≡ length logic.now.inputs }
@@ -120,7 +121,7 @@ fn first_apart_drawn(
         (λ k. GivesOutputs (asked all circuit.now) logic.now (word_of inputs k))) }
 {
     for number in 0..way_count(inputs) {
-        let way = way_of(inputs, number);
+        let way = way_of(inputs, number, nodes);
         let order = order_beside(alloc, way, circuit, logic, all)?;
         let mut diagram = diagram_for(alloc, way, order)?;
         match apart_in(alloc, &mut diagram, circuit, logic, all, inputs) {
@@ -155,12 +156,14 @@ fn compare_rows(
 /// Compares the function of a circuit with that of a logic network on all input words. With `all`, the inputs and
 /// outputs of the circuit are all its lines.
 ///
-/// Where there are more than [`MOST_INPUTS`] inputs it may end without an answer. It takes 32 bytes for each signal.
+/// Diagrams may have so many nodes, at most [`MOST_NODES`](rv_diagram::MOST_NODES). Where there are more than
+/// [`MOST_INPUTS`] inputs it may end without an answer. It takes 32 bytes for each signal.
 pub fn compare_logic(
     alloc: Global,
     circuit: &Circuit,
     logic: &Logic,
     all: bool,
+    nodes: u32,
 ) -> Result<Comparison, CompareFault>
     ensures exact { IfOk result (λ given. (answer : AnyComparison) → (given ≡ answer)
         ↔ LogicAnswer (asked all circuit.now) logic.now answer) }
@@ -172,7 +175,7 @@ pub fn compare_logic(
     }
     let inputs = input_count(circuit, all);
     if inputs >= LEAST_DRAWN {
-        match first_apart_drawn(alloc, circuit, logic, all, inputs) {
+        match first_apart_drawn(alloc, circuit, logic, all, inputs, nodes) {
             Ok(found) => return Ok(answer_of(found)),
             Err(fault) => {
                 if inputs > MOST_INPUTS {

@@ -23,6 +23,9 @@ pub(crate) struct Way {
 // Steps for each node.
 const STEPS: u64 = 16;
 
+// So many places are for the nodes of the largest diagram.
+const MOST_PLACE_BITS: u32 = 23;
+
 // How many ways go with small diagrams.
 const SMALL: u8 = 6;
 
@@ -31,8 +34,8 @@ pub(crate) fn way_count(inputs: u8) -> u8 {
     if inputs <= MOST_INPUTS { 1 } else { 8 }
 }
 
-/// The way of a number.
-pub(crate) fn way_of(inputs: u8, number: u8) -> Way {
+/// The way of a number, by diagrams of at most so many nodes.
+pub(crate) fn way_of(inputs: u8, number: u8, most: u32) -> Way {
     let (by_second, order) = match number {
         0 | 6 => (false, Order::DepthFirst),
         1 | 7 => (false, Order::DeepestFirst),
@@ -41,13 +44,14 @@ pub(crate) fn way_of(inputs: u8, number: u8) -> Way {
         4 => (false, Order::FirstUse),
         _ => (true, Order::FirstUse),
     };
-    let nodes = if inputs <= MOST_INPUTS {
+    let usual = if inputs <= MOST_INPUTS {
         1 << 12
     } else if number < SMALL {
         1 << 16
     } else {
         MOST_NODES
     };
+    let nodes = usual.min(most as usize);
     Way {
         by_second,
         order,
@@ -103,6 +107,12 @@ fn logic_order(
     network_order(alloc, order, &signals)
 }
 
+// How many places there are for nodes: the least power of two above their number.
+fn places_for(nodes: usize) -> usize {
+    let bits = usize::BITS - nodes.leading_zeros();
+    1 << bits.min(MOST_PLACE_BITS)
+}
+
 /// A diagram without nodes, with an order of bits.
 pub(crate) fn diagram_for(
     alloc: Global,
@@ -111,7 +121,8 @@ pub(crate) fn diagram_for(
 ) -> Result<Diagram, AllocError>
     ensures { IfOk result (λ diagram. diagram ≡ []) }
 {
-    let places = way.nodes.saturating_mul(2);
-    let diagram = Diagram::new(alloc, order, way.nodes, places, way.nodes / 2, way.steps)?;
+    let places = places_for(way.nodes);
+    let answers = (places / 4).max(1);
+    let diagram = Diagram::new(alloc, order, way.nodes, places, answers, way.steps)?;
     Ok(diagram)
 }

@@ -10,6 +10,7 @@ ghost use Rattle.rv_compute.specs.inside.Held.{line_count};
 use crate::run::{all_fit, circuit_with};
 use rv_blif::Logic;
 use rv_compare::{CompareFault, Comparison, compare_logic};
+use rv_diagram::MOST_NODES;
 use rv_forms::{computes, follows};
 use rv_gate::{Circuit, MOST_GATES, MOST_LINES};
 use rv_planner::{Plan, Plans};
@@ -19,7 +20,7 @@ use std::alloc::{AllocError, Global};
 fn gives(alloc: Global, logic: &Logic, circuit: &Circuit) -> Result<bool, AllocError>
     ensures { IfOk result (λ same. IsTrue same → Gives logic.now circuit.now) }
 {
-    match compare_logic(alloc, circuit, logic, false) {
+    match compare_logic(alloc, circuit, logic, false, MOST_NODES as u32) {
         Ok(Comparison::Same) => Ok(true),
         Err(CompareFault::Mem) => Err(AllocError),
         _ => Ok(false),

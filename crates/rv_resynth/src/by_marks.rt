@@ -8,6 +8,7 @@ use crate::marked_search::found_by_marks;
 use crate::replacing::all_fit;
 use crate::resynthesis::{frame_of, is_no_dearer, with_gates};
 use rv_compare::{Comparison, compare_circuits};
+use rv_diagram::MOST_NODES;
 use rv_gate::{Circuit, Gate, MOST_GATES};
 use rv_search::Goal;
 use std::alloc::{AllocError, Global};
@@ -17,7 +18,7 @@ fn has_function(alloc: Global, circuit: &Circuit, new: &Circuit) -> bool
     ensures { IsTrue result → (x : List Bool) → length x ≡ input_count circuit.now.constants
         → AreSame circuit.now new.now x }
 {
-    match compare_circuits(alloc, circuit, new, false) {
+    match compare_circuits(alloc, circuit, new, false, MOST_NODES as u32) {
         Ok(Comparison::Same) => true,
         _ => false,
     }

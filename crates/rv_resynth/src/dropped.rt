@@ -6,6 +6,7 @@ ghost use Rattle.rv_gate.specs.declared.word.TheConstants.{MOST_LINES};
 use crate::replacing::all_fit;
 use crate::resynthesis::{frame_of, with_gates};
 use rv_compare::{Comparison, compare_circuits};
+use rv_diagram::MOST_NODES;
 use rv_gate::{Circuit, Gate, MOST_GATES, MOST_LINES, Mark, Shape};
 use rv_many::{Row, act_on_all, constant_row, number_row};
 use std::alloc::{AllocError, Global};
@@ -171,7 +172,7 @@ fn telling(alloc: Global, circuit: &Circuit, gates: &[Gate]) -> Result<Option<u3
     let copy = Vec::from_slice(alloc, gates)?;
     let frame = frame_of(alloc, circuit)?;
     let new = with_gates(circuit, frame, copy);
-    match compare_circuits(alloc, circuit, &new, false) {
+    match compare_circuits(alloc, circuit, &new, false, MOST_NODES as u32) {
         Ok(Comparison::Same) => Ok(None),
         Ok(Comparison::Differs(word)) => Ok(Some((word / BLOCK).min(u64::from(u32::MAX)) as u32)),
         _ => Ok(Some(0)),

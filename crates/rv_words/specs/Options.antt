@@ -1,18 +1,18 @@
 -- The options, each by its place in their list.
 use Rattle.std.specs.Prelude.{ℕ, Bool, List, [], ◌∷◌, ◌==◌, ◌&&◌, not, codes, slice_index_or}
-use Rattle.rv_words.specs.declared.options.TheConstants.{METHOD, TO, FROM, LIBRARY, AUX, LINES, SEED, ALL, SIMPLIFY, WRAP, GOAL, EFFORT, MARKS, BLOCKS, AS, GATES, BY}
+use Rattle.rv_words.specs.declared.options.TheConstants.{METHOD, TO, FROM, LIBRARY, AUX, LINES, SEED, ALL, SIMPLIFY, WRAP, GOAL, EFFORT, MARKS, BLOCKS, AS, GATES, BY, NODES}
 
 abbrev pub option_names : List (List ℕ)
 option_names = codes "method" ∷ codes "to" ∷ codes "from" ∷ codes "library" ∷ codes "aux" ∷ codes "lines" ∷ codes "seed"
     ∷ codes "all" ∷ codes "simplify" ∷ codes "wrap" ∷ codes "goal" ∷ codes "effort" ∷ codes "marks" ∷ codes "blocks"
-    ∷ codes "as" ∷ codes "gates" ∷ codes "by" ∷ []
+    ∷ codes "as" ∷ codes "gates" ∷ codes "by" ∷ codes "nodes" ∷ []
 
 abbrev pub places : List ℕ
 places = METHOD ∷ TO ∷ FROM ∷ LIBRARY ∷ AUX ∷ LINES ∷ SEED ∷ ALL ∷ SIMPLIFY ∷ WRAP
-    ∷ GOAL ∷ EFFORT ∷ MARKS ∷ BLOCKS ∷ AS ∷ GATES ∷ BY ∷ []
+    ∷ GOAL ∷ EFFORT ∷ MARKS ∷ BLOCKS ∷ AS ∷ GATES ∷ BY ∷ NODES ∷ []
 
 abbrev pub option_name : ℕ → List ℕ
-option_name place = slice_index_or option_names place (codes "by")
+option_name place = slice_index_or option_names place (codes "nodes")
 
 -- `all`, `simplify` and `marks` are flags, and the other options take a value
 abbrev pub takes_value : ℕ → Bool

@@ -14,7 +14,7 @@ use Rattle.rv_words.specs.declared.asked.Settings.{Settings}
 use Rattle.rv_words.specs.Line.{value_of, refusal}
 use Rattle.rv_words.specs.Table.{command_of, usage_of}
 use Rattle.rv_words.specs.Given.{Given, command_text, first_not_used, names_given, is_flag_given, library_name, names_for}
-use Rattle.rv_words.specs.Values.{IsLineCount, Values, values_in}
+use Rattle.rv_words.specs.Values.{IsLineCount, IsNodeCount, Values, values_in}
 
 -- the bytes of the arguments
 abbrev pub texts : List (String Global) → List (List ℕ)
@@ -55,6 +55,8 @@ read_inputs command g values =
       picture = values.picture;
       gates = values.gates;
       checked = values.checked;
+      report = values.report;
+      nodes = values.nodes;
     }))
 
 abbrev pub read_by_values : Command → Given → Result Values ℕ → Result Settings ArgumentFault
@@ -82,6 +84,7 @@ pub record IsAsked (s : Settings) : Type 0 where
   pub inputs : length s.inputs ≡ (usage_of s.command).most
   pub once : count_by is_standard s.inputs + standard_libraries s.library ≤ 1
   pub lines : IsLineCount s.command s.lines
+  pub nodes : IsNodeCount s.nodes
 
 -- arguments that something refuses are not understood
 abbrev pub unless_not_understood : Kinds → Result Settings ArgumentFault → Result Settings ArgumentFault

@@ -4,7 +4,7 @@ use Rattle.std.specs.List.{list_any}
 use Rattle.std.specs.Str.{bytes_eq}
 use Rattle.rv_words.specs.declared.command.Command.{Command}
 use Rattle.rv_words.specs.declared.command.Command.TheVariants.{Synth, Embed, Esop, Templates, Decompose, Map, Cost, Simulate, ToReal, Flow, Demo, Fold, Reduce, Check, Single, Route, Draw, Compare, Resynth, Compute, Optimal, Realize}
-use Rattle.rv_words.specs.declared.options.TheConstants.{METHOD, TO, FROM, LIBRARY, AUX, LINES, SEED, ALL, SIMPLIFY, WRAP, GOAL, EFFORT, MARKS, BLOCKS, AS, GATES, BY}
+use Rattle.rv_words.specs.declared.options.TheConstants.{METHOD, TO, FROM, LIBRARY, AUX, LINES, SEED, ALL, SIMPLIFY, WRAP, GOAL, EFFORT, MARKS, BLOCKS, AS, GATES, BY, NODES}
 
 -- a command's name, how many inputs it takes at the least and at the most, and the places of the options that it uses
 pub record Usage : Type 0 where
@@ -23,18 +23,18 @@ usage_of Esop = row (codes "esop") 0 1 (TO ∷ GOAL ∷ EFFORT ∷ SEED ∷ [])
 usage_of Templates = row (codes "templates") 0 1 (LIBRARY ∷ [])
 usage_of Decompose = row (codes "decompose") 0 1 (AUX ∷ [])
 usage_of Map = row (codes "map") 0 1 (AUX ∷ BLOCKS ∷ [])
-usage_of Cost = row (codes "cost") 0 1 (FROM ∷ [])
+usage_of Cost = row (codes "cost") 0 1 (FROM ∷ AS ∷ [])
 usage_of Simulate = row (codes "simulate") 1 2 (ALL ∷ [])
 usage_of ToReal = row (codes "toreal") 0 1 []
 usage_of Flow = row (codes "flow") 0 1 (METHOD ∷ FROM ∷ AUX ∷ SIMPLIFY ∷ BLOCKS ∷ [])
 usage_of Demo = row (codes "demo") 0 0 (LINES ∷ SEED ∷ [])
 usage_of Fold = row (codes "fold") 0 1 []
 usage_of Reduce = row (codes "reduce") 0 1 (GOAL ∷ EFFORT ∷ SEED ∷ [])
-usage_of Check = row (codes "check") 1 2 (BY ∷ [])
+usage_of Check = row (codes "check") 1 2 (BY ∷ FROM ∷ [])
 usage_of Single = row (codes "single") 0 1 []
 usage_of Route = row (codes "route") 0 1 []
 usage_of Draw = row (codes "draw") 0 1 (FROM ∷ WRAP ∷ AS ∷ [])
-usage_of Compare = row (codes "compare") 1 2 (FROM ∷ ALL ∷ [])
+usage_of Compare = row (codes "compare") 1 2 (FROM ∷ ALL ∷ NODES ∷ [])
 usage_of Resynth = row (codes "resynth") 0 1 (GOAL ∷ EFFORT ∷ SEED ∷ MARKS ∷ [])
 usage_of Compute = row (codes "compute") 0 1 (LINES ∷ GOAL ∷ EFFORT ∷ SEED ∷ [])
 usage_of Optimal = row (codes "optimal") 0 1 (GATES ∷ [])

@@ -4,6 +4,7 @@ use Rattle.rv_reader.specs.Rules.{◌>>=◌, found_or}
 use Rattle.std.specs.Str.{bytes_eq}
 use Rattle.rv_text.specs.Decimal.{is_short_decimal, decimal_value}
 use Rattle.rv_gate.specs.declared.word.TheConstants.{MOST_LINES}
+use Rattle.rv_diagram.specs.declared.diagram.TheConstants.{MOST_NODES}
 use Rattle.rv_perm.specs.declared.perm.TheConstants.{MOST_DEMO_LINES}
 use Rattle.rv_words.specs.declared.choice.TheConstants.{MOST_EFFORT}
 use Rattle.rv_tbs.specs.declared.method.Method.TheVariants.{Best, Out, Both}
@@ -12,7 +13,7 @@ use Rattle.rv_mct.specs.declared.aux.Aux.TheVariants.{Borrowed, Clean}
 use Rattle.rv_optimal.specs.declared.library.Library.{Library}
 use Rattle.rv_optimal.specs.declared.library.Library.TheVariants.{Mixed, Positive}
 use Rattle.rv_words.specs.declared.command.Command.{Command}
-use Rattle.rv_words.specs.declared.command.Command.TheVariants.{Compare, Compute, Demo, Flow, Map, Realize, Reduce, Resynth}
+use Rattle.rv_words.specs.declared.command.Command.TheVariants.{Compare, Compute, Cost, Demo, Flow, Map, Realize, Reduce, Resynth}
 use Rattle.rv_words.specs.declared.command.Blocks.{Blocks}
 use Rattle.rv_words.specs.declared.command.Blocks.TheVariants.{Exact, Relative, Toffoli, Near, Joined}
 use Rattle.rv_words.specs.declared.command.CheckedBy.{CheckedBy}
@@ -23,9 +24,11 @@ use Rattle.rv_words.specs.declared.command.Goal.{Goal}
 use Rattle.rv_words.specs.declared.command.Goal.TheVariants.{Cubes, Cx, Depth, Gates, Lines, Ops, Quantum, T}
 use Rattle.rv_words.specs.declared.command.PictureForm.{PictureForm}
 use Rattle.rv_words.specs.declared.command.PictureForm.TheVariants.{Text, Svg, Latex}
+use Rattle.rv_words.specs.declared.command.ReportForm.{ReportForm}
+use Rattle.rv_words.specs.declared.command.ReportForm.TheVariants as report
 use Rattle.rv_words.specs.declared.command.Form.{Form}
 use Rattle.rv_words.specs.declared.command.Form.TheVariants.{Real, Pla, Qasm, Perm, Blif}
-use Rattle.rv_words.specs.declared.options.TheConstants.{METHOD, TO, FROM, AUX, LINES, SEED, WRAP, GOAL, EFFORT, BLOCKS, AS, GATES, BY}
+use Rattle.rv_words.specs.declared.options.TheConstants.{METHOD, TO, FROM, AUX, LINES, SEED, WRAP, GOAL, EFFORT, BLOCKS, AS, GATES, BY, NODES}
 use Rattle.rv_words.specs.Given.{Given}
 
 -- `flow` also takes single-target gates, which `synth` leaves to `single`
@@ -154,6 +157,13 @@ picture_of value =
     else (if bytes_eq value (codes "latex") then Some Latex
     else None))
 
+abbrev pub report_of : List ℕ → Option ReportForm
+report_of value =
+    if bytes_eq value (codes "text") then Some report.Text
+    else (if bytes_eq value (codes "json") then Some report.Json
+    else (if bytes_eq value (codes "csv") then Some report.Csv
+    else None))
+
 abbrev pub checked_of : List ℕ → Option CheckedBy
 checked_of value =
     if bytes_eq value (codes "words") then Some Words
@@ -166,13 +176,20 @@ gates_of value =
     else (if bytes_eq value (codes "mpmct") then Some Mixed
     else None)
 
--- the number of one to five decimal digits
-abbrev pub number_written : List ℕ → Option ℕ
-number_written text = if is_short_decimal 5 text then Some (decimal_value text) else None
+-- the number of one to so many decimal digits
+abbrev pub number_written : ℕ → List ℕ → Option ℕ
+number_written digits text = if is_short_decimal digits text then Some (decimal_value text) else None
 
+abbrev number_within : ℕ → ℕ → Option ℕ → Option ℕ
+number_within least most number = option_and_then (λ n. if nat_le least n && nat_le n most then Some n else None) number
+
+-- of at most five digits
 abbrev pub number_in : ℕ → ℕ → List ℕ → Option ℕ
-number_in least most text =
-    option_and_then (λ n. if nat_le least n && nat_le n most then Some n else None) (number_written text)
+number_in least most text = number_within least most (number_written 5 text)
+
+-- of at most seven digits
+abbrev pub count_in : ℕ → ℕ → List ℕ → Option ℕ
+count_in least most text = number_within least most (number_written 7 text)
 
 -- the value of the option at a place, its default where it isn't given; of a bad value the place is told
 abbrev pub chosen : {X : Type 0} → ℕ → X → (List ℕ → Option X) → Option (List ℕ) → Result X ℕ
@@ -227,14 +244,26 @@ effort_in command g = chosen EFFORT (usual_effort command) (number_in 0 MOST_EFF
 abbrev pub blocks_in : Command → Given → Result Blocks ℕ
 blocks_in command g = chosen BLOCKS Exact (blocks_of command) (g (codes "blocks"))
 
-abbrev pub picture_in : Given → Result PictureForm ℕ
-picture_in g = chosen AS Text picture_of (g (codes "as"))
+-- `cost` writes no picture
+abbrev pub picture_in : Command → Given → Result PictureForm ℕ
+picture_in Cost g = Ok Text
+picture_in command g = chosen AS Text picture_of (g (codes "as"))
+
+abbrev pub report_in : Command → Given → Result ReportForm ℕ
+report_in Cost g = chosen AS report.Text report_of (g (codes "as"))
+report_in command g = Ok report.Text
 
 abbrev pub gates_in : Given → Result Library ℕ
 gates_in g = chosen GATES Positive gates_of (g (codes "gates"))
 
 abbrev pub checked_in : Given → Result CheckedBy ℕ
 checked_in g = chosen BY Words checked_of (g (codes "by"))
+
+abbrev pub IsNodeCount : ℕ → Type 0
+IsNodeCount nodes = (1 ≤ nodes) × (nodes ≤ MOST_NODES)
+
+abbrev pub nodes_in : Given → Result ℕ ℕ
+nodes_in g = chosen NODES MOST_NODES (count_in 1 MOST_NODES) (g (codes "nodes"))
 
 -- the values of the options that take one of a list or a range
 pub record Values : Type 0 where
@@ -251,6 +280,8 @@ pub record Values : Type 0 where
   pub picture : PictureForm
   pub gates : Library
   pub checked : CheckedBy
+  pub report : ReportForm
+  pub nodes : ℕ
 
 -- all values, or the place of the first that is bad
 unfoldable pub values_in : Command → Given → Result Values ℕ
@@ -265,9 +296,11 @@ values_in command g = do
   goal ← goal_in command g
   effort ← effort_in command g
   blocks ← blocks_in command g
-  picture ← picture_in g
+  picture ← picture_in command g
   gates ← gates_in g
   checked ← checked_in g
+  report ← report_in command g
+  nodes ← nodes_in g
   Ok (record {
     method = method;
     to = to;
@@ -282,4 +315,6 @@ values_in command g = do
     picture = picture;
     gates = gates;
     checked = checked;
+    report = report;
+    nodes = nodes;
   })

@@ -1,19 +1,21 @@
 // The values of the options. Of a bad value the option's place is told.
 ghost use Rattle.std.specs.Prelude.{◌≡◌, IfOk};
 ghost use Rattle.clap.specs.Matches.{first_value, found_of};
-ghost use Rattle.rv_words.specs.Values.{IsLineCount, aux_in, aux_of, blocks_in, blocks_of, checked_in, checked_of};
+ghost use Rattle.rv_words.specs.Values.{IsLineCount, IsNodeCount, aux_in, aux_of, blocks_in, blocks_of, checked_in, checked_of};
 ghost use Rattle.rv_words.specs.Values.{effort_in, form_to};
 ghost use Rattle.rv_words.specs.Values.{form_from, gates_in, gates_of};
 ghost use Rattle.rv_words.specs.Values.{goal_in, goal_of, lines_in, method_in, most_lines, picture_in, picture_of};
+ghost use Rattle.rv_words.specs.Values.{nodes_in, report_in, report_of};
 ghost use Rattle.rv_words.specs.Values.{usual_effort, usual_goal, usual_lines, usual_seed};
 ghost use Rattle.rv_words.specs.Values.{method_of, origin_in, seed_in, to_in, usual_form, values_in, wrap_in};
 
-use crate::number::number_in;
+use crate::number::{count_in, number_in};
 use crate::options::{
-    AS, AUX, BLOCKS, BY, EFFORT, FROM, GATES, GOAL, LINES, METHOD, SEED, TO, WRAP,
+    AS, AUX, BLOCKS, BY, EFFORT, FROM, GATES, GOAL, LINES, METHOD, NODES, SEED, TO, WRAP,
 };
-use crate::{Blocks, CheckedBy, Command, Form, Goal, PictureForm, Synthesis};
+use crate::{Blocks, CheckedBy, Command, Form, Goal, PictureForm, ReportForm, Synthesis};
 use clap::ArgMatches;
+use rv_diagram::MOST_NODES;
 use rv_gate::MOST_LINES;
 use rv_mct::Aux;
 use rv_optimal::Library;
@@ -40,6 +42,8 @@ pub(crate) struct Values {
     pub(crate) picture: PictureForm,
     pub(crate) gates: Library,
     pub(crate) checked: CheckedBy,
+    pub(crate) report: ReportForm,
+    pub(crate) nodes: u32,
 }
 
 impl Model for Values {
@@ -61,6 +65,8 @@ impl Model for Values {
       picture = v.picture;
       gates = v.gates;
       checked = v.checked;
+      report = v.report;
+      nodes = v.nodes;
     } };
 }
 
@@ -231,6 +237,17 @@ fn picture_of(value: &str) -> Option<PictureForm>
     }
 }
 
+fn report_of(value: &str) -> Option<ReportForm>
+    ensures { result ≡ report_of value.now }
+{
+    match value {
+        "text" => Some(ReportForm::Text),
+        "json" => Some(ReportForm::Json),
+        "csv" => Some(ReportForm::Csv),
+        _ => None,
+    }
+}
+
 fn checked_of(value: &str) -> Option<CheckedBy>
     ensures { result ≡ checked_of value.now }
 {
@@ -368,12 +385,27 @@ fn blocks_in(matches: &ArgMatches<'_>, command: Command) -> Result<Blocks, u8>
     }
 }
 
-fn picture_in(matches: &ArgMatches<'_>) -> Result<PictureForm, u8>
-    ensures { result ≡ picture_in (first_value (found_of matches.now)) }
+fn picture_in(matches: &ArgMatches<'_>, command: Command) -> Result<PictureForm, u8>
+    ensures { result ≡ picture_in command (first_value (found_of matches.now)) }
 {
+    if let Command::Cost = command {
+        return Ok(PictureForm::Text);
+    }
     match matches.get_str("as") {
         Some(value) => picture_of(value).ok_or(AS),
         None => Ok(PictureForm::Text),
+    }
+}
+
+fn report_in(matches: &ArgMatches<'_>, command: Command) -> Result<ReportForm, u8>
+    ensures { result ≡ report_in command (first_value (found_of matches.now)) }
+{
+    let Command::Cost = command else {
+        return Ok(ReportForm::Text);
+    };
+    match matches.get_str("as") {
+        Some(value) => report_of(value).ok_or(AS),
+        None => Ok(ReportForm::Text),
     }
 }
 
@@ -395,11 +427,23 @@ fn checked_in(matches: &ArgMatches<'_>) -> Result<CheckedBy, u8>
     }
 }
 
+fn nodes_in(matches: &ArgMatches<'_>) -> Result<u32, u8>
+    ensures value { result ≡ nodes_in (first_value (found_of matches.now)) }
+    ensures within { IfOk result IsNodeCount }
+{
+    let most = MOST_NODES as u32;
+    match matches.get_str("nodes") {
+        Some(value) => count_in(1, most, value).ok_or(NODES),
+        None => Ok(most),
+    }
+}
+
 // All values, or the place of the first that is bad.
 #[tactic(auto, unfolding(crate::specs::Values::values_in))]
 pub(crate) fn values_in(matches: &ArgMatches<'_>, command: Command) -> Result<Values, u8>
     ensures value { result ≡ values_in command (first_value (found_of matches.now)) }
-    ensures within { IfOk result (λ v. IsLineCount command v.lines) }
+    ensures lines { IfOk result (λ v. IsLineCount command v.lines) }
+    ensures nodes { IfOk result (λ v. IsNodeCount v.nodes) }
 {
     Ok(Values {
         method: method_in(matches, command)?,
@@ -412,8 +456,10 @@ pub(crate) fn values_in(matches: &ArgMatches<'_>, command: Command) -> Result<Va
         goal: goal_in(matches, command)?,
         effort: effort_in(matches, command)?,
         blocks: blocks_in(matches, command)?,
-        picture: picture_in(matches)?,
+        picture: picture_in(matches, command)?,
         gates: gates_in(matches)?,
         checked: checked_in(matches)?,
+        report: report_in(matches, command)?,
+        nodes: nodes_in(matches)?,
     })
 }

@@ -5,8 +5,8 @@ ghost use Rattle.std.specs.Str.{bytes_eq};
 ghost use Rattle.rv_words.specs.Table.{command_of, is_used, needs_goal, usage_of};
 
 use crate::options::{
-    ALL, AS, AUX, BLOCKS, BY, EFFORT, FROM, GATES, GOAL, LIBRARY, LINES, MARKS, METHOD, SEED,
-    SIMPLIFY, TO, WRAP,
+    ALL, AS, AUX, BLOCKS, BY, EFFORT, FROM, GATES, GOAL, LIBRARY, LINES, MARKS, METHOD, NODES,
+    SEED, SIMPLIFY, TO, WRAP,
 };
 use rv_tbs::Method;
 
@@ -97,18 +97,18 @@ pub(crate) fn usage_of(command: Command) -> Usage
         Command::Templates => row("templates", 0, 1, &[LIBRARY]),
         Command::Decompose => row("decompose", 0, 1, &[AUX]),
         Command::Map => row("map", 0, 1, &[AUX, BLOCKS]),
-        Command::Cost => row("cost", 0, 1, &[FROM]),
+        Command::Cost => row("cost", 0, 1, &[FROM, AS]),
         Command::Simulate => row("simulate", 1, 2, &[ALL]),
         Command::ToReal => row("toreal", 0, 1, &[]),
         Command::Flow => row("flow", 0, 1, &[METHOD, FROM, AUX, SIMPLIFY, BLOCKS]),
         Command::Demo => row("demo", 0, 0, &[LINES, SEED]),
         Command::Fold => row("fold", 0, 1, &[]),
         Command::Reduce => row("reduce", 0, 1, &[GOAL, EFFORT, SEED]),
-        Command::Check => row("check", 1, 2, &[BY]),
+        Command::Check => row("check", 1, 2, &[BY, FROM]),
         Command::Single => row("single", 0, 1, &[]),
         Command::Route => row("route", 0, 1, &[]),
         Command::Draw => row("draw", 0, 1, &[FROM, WRAP, AS]),
-        Command::Compare => row("compare", 1, 2, &[FROM, ALL]),
+        Command::Compare => row("compare", 1, 2, &[FROM, ALL, NODES]),
         Command::Resynth => row("resynth", 0, 1, &[GOAL, EFFORT, SEED, MARKS]),
         Command::Compute => row("compute", 0, 1, &[LINES, GOAL, EFFORT, SEED]),
         Command::Optimal => row("optimal", 0, 1, &[GATES]),
@@ -256,4 +256,15 @@ pub enum PictureForm {
     Svg,
     /// LaTeX, by the package quantikz.
     Latex,
+}
+
+/// The form of a report of costs.
+#[derive(Clone, Copy)]
+pub enum ReportForm {
+    /// A line for each number.
+    Text,
+    /// An object of JSON, in a line.
+    Json,
+    /// Comma-separated values: a line of names and one of numbers.
+    Csv,
 }

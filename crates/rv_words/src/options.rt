@@ -36,9 +36,11 @@ pub(crate) const GATES: u8 = 15;
 
 pub(crate) const BY: u8 = 16;
 
-pub(crate) static PLACES: [u8; 17] = [
+pub(crate) const NODES: u8 = 17;
+
+pub(crate) static PLACES: [u8; 18] = [
     METHOD, TO, FROM, LIBRARY, AUX, LINES, SEED, ALL, SIMPLIFY, WRAP, GOAL, EFFORT, MARKS, BLOCKS,
-    AS, GATES, BY,
+    AS, GATES, BY, NODES,
 ];
 
 /// What the option at a place is called.
@@ -62,7 +64,8 @@ pub fn option_name(place: u8) -> &'static str
         BLOCKS => "blocks",
         AS => "as",
         GATES => "gates",
-        _ => "by",
+        BY => "by",
+        _ => "nodes",
     }
 }
 

@@ -2,7 +2,7 @@ ghost use Rattle.std.specs.Prelude.{◌≡◌, ◌≢◌, [], Err, IfOk, true};
 ghost use Rattle.clap.specs.Words.{first_value, found_of, takes};
 ghost use Rattle.rv_words.specs.Line.{value_of, line, refusal, whole};
 ghost use Rattle.rv_words.specs.Given.{names_for, library_name};
-ghost use Rattle.rv_words.specs.Values.{IsLineCount};
+ghost use Rattle.rv_words.specs.Values.{IsLineCount, IsNodeCount};
 ghost use Rattle.rv_words.specs.Settings.{IsAnswer, IsAsked, fault_of_error, read, read_by, read_inputs, settings_of};
 ghost use Rattle.rv_words.specs.Settings.{standard_libraries, texts};
 ghost use Rattle.rv_words.specs.declared.fault.ArgumentFault.TheVariants.{NotUnderstood};
@@ -86,7 +86,8 @@ fn read_inputs(
     command: Command,
     values: Values,
 ) -> Result<Settings, ArgumentFault>
-    requires { IsLineCount command values.lines }
+    requires lines { IsLineCount command values.lines }
+    requires nodes { IsNodeCount values.nodes }
     ensures answer { IsAnswer (read_inputs command (first_value (found_of matches.now)) values) result }
     ensures asked { IfOk result IsAsked }
 {
@@ -120,6 +121,8 @@ fn read_inputs(
         picture: values.picture,
         gates: values.gates,
         checked: values.checked,
+        report: values.report,
+        nodes: values.nodes,
     })
 }
 

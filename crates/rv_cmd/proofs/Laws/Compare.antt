@@ -76,14 +76,14 @@ logic-made c network inputs answer made counted is what =
 
 -- ---- where there is no answer
 
-untold-by : {X : Type 0} (all : Bool) (c : Cascade) (other : X) (of : CompareFault) → EndsFor (asked all c) of → IsUntoldOf 2 [] (LacksAnswer all c other) (no_answer of)
-untold-by all c other fault.Undecided many = inr (omega arith, tt, (refl, refl, many))
-untold-by all c other fault.Mem ends = inl tt
+untold-by : {X : Type 0} (nodes : ℕ) (all : Bool) (c : Cascade) (other : X) (of : CompareFault) → EndsFor (asked all c) of → IsUntoldOf 2 [] (LacksAnswer nodes all c other) (no_answer nodes of)
+untold-by nodes all c other fault.Undecided many = inr (omega arith, tt, (refl, refl, many))
+untold-by nodes all c other fault.Mem ends = inl tt
 
-pub compare-untold : {X : Type 0} (all : Bool) (c : Cascade) (other : X) (of : CompareFault) (refusal : Refusal) → EndsFor (asked all c) of → refusal ≡ no_answer of
-    → IsUntoldOf 2 [] (LacksAnswer all c other) refusal
-compare-untold all c other of refusal ends is =
-    let P : Refusal → Type 0 = IsUntoldOf 2 [] (LacksAnswer all c other) in subst P (sym is) (untold-by all c other of ends)
+pub compare-untold : {X : Type 0} (nodes : ℕ) (all : Bool) (c : Cascade) (other : X) (of : CompareFault) (refusal : Refusal) → EndsFor (asked all c) of → refusal ≡ no_answer nodes of
+    → IsUntoldOf 2 [] (LacksAnswer nodes all c other) refusal
+compare-untold nodes all c other of refusal ends is =
+    let P : Refusal → Type 0 = IsUntoldOf 2 [] (LacksAnswer nodes all c other) in subst P (sym is) (untold-by nodes all c other of ends)
 
 pub many-ends : (c : Cascade) (of : CompareFault) → HasManyInputs c → EndsFor c of
 many-ends c fault.Undecided many = many

@@ -6,7 +6,6 @@ use Rattle.rv_gate.specs.Marks.{input_count}
 use Rattle.rv_perm.specs.Marked.{Marked}
 use Rattle.rv_pla.specs.Pla.{TwoLevel}
 use Rattle.rv_blif.specs.Logic.{Logic}
-use Rattle.rv_diagram.specs.declared.diagram.TheConstants.{MOST_NODES}
 use Rattle.rv_compare.specs.Compare.{AreSame, GivesAllowed, GivesImage, GivesOutputs, HasManyInputs, IsAnswer, Size}
 use Rattle.rv_compare.specs.Compare.{asked, asked_perm}
 use Rattle.rv_compare.specs.Compare.{circuits_answer, logic_answer, perm_answer, size_by, size_for, size_in, size_of, table_answer}
@@ -29,14 +28,14 @@ use Rattle.rv_cmd.specs.Row.{ReadsFirst, always_told, two}
 
 -- A circuit of more inputs than are compared on all words may remain undecided: no diagram of at most so many nodes
 -- tells. It never does where there are at most 24 inputs.
-abbrev pub IsUndecided : Cascade → Refusal → Type 0
-IsUndecided c (Refused input why) = (input ≡ 0) × (why ≡ Undecided MOST_NODES Nodes) × HasManyInputs c
-IsUndecided c OutOfMemory = ⊥
+abbrev pub IsUndecided : ℕ → Cascade → Refusal → Type 0
+IsUndecided nodes c (Refused input why) = (input ≡ 0) × (why ≡ Undecided nodes Nodes) × HasManyInputs c
+IsUndecided nodes c OutOfMemory = ⊥
 
 -- a fault of a comparison, as a refusal
-abbrev pub no_answer : CompareFault → Refusal
-no_answer fault.Undecided = Refused 0 (Undecided MOST_NODES Nodes)
-no_answer fault.Mem = OutOfMemory
+abbrev pub no_answer : ℕ → CompareFault → Refusal
+no_answer nodes fault.Undecided = Refused 0 (Undecided nodes Nodes)
+no_answer nodes fault.Mem = OutOfMemory
 
 -- ---- the report
 
@@ -132,8 +131,8 @@ abbrev pub with_logic : {X : Type 0} → (Cascade → Logic → X) → Bool → 
 with_logic said all c network = said (asked all c) network
 
 -- why there may be no report of a circuit and another side
-abbrev pub LacksAnswer : {X : Type 0} → Bool → Cascade → X → Refusal → Type 0
-LacksAnswer all c other = IsUndecided (asked all c)
+abbrev pub LacksAnswer : {X : Type 0} → ℕ → Bool → Cascade → X → Refusal → Type 0
+LacksAnswer nodes all c other = IsUndecided nodes (asked all c)
 
 -- what the text means
 abbrev pub MeansCircuits : Bool → Cascade → Cascade → List ℕ → Type 0
@@ -148,14 +147,14 @@ MeansTable all c pla = TellsTable (asked all c) pla
 abbrev pub MeansLogic : Bool → Cascade → Logic → List ℕ → Type 0
 MeansLogic all c network = TellsLogic (asked all c) network
 
--- by the form of the second input
-abbrev pub compare_row : Form → Bool → ReadsFirst
-compare_row form.Pla all =
+-- by the form of the second input, with diagrams of at most so many nodes
+abbrev pub compare_row : Form → Bool → ℕ → ReadsFirst
+compare_row form.Pla all nodes =
     two circuit table (with_table table_report all) (with_table table_differs all) always_told (MeansTable all)
-compare_row form.Perm all =
+compare_row form.Perm all nodes =
     two circuit permutation (with_perm perm_report all) (with_perm perm_differs all) always_told (MeansPerm all)
-compare_row form.Blif all =
-    two circuit logic (with_logic logic_report all) (with_logic logic_differs all) (LacksAnswer all) (MeansLogic all)
-compare_row _ all =
-    two circuit circuit (with_circuit circuits_report all) (with_circuit circuits_differ all) (LacksAnswer all)
+compare_row form.Blif all nodes =
+    two circuit logic (with_logic logic_report all) (with_logic logic_differs all) (LacksAnswer nodes all) (MeansLogic all)
+compare_row _ all nodes =
+    two circuit circuit (with_circuit circuits_report all) (with_circuit circuits_differ all) (LacksAnswer nodes all)
     (MeansCircuits all)

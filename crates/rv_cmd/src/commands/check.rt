@@ -2,12 +2,14 @@ ghost use Rattle.std.specs.Prelude.{◌≡◌, length};
 ghost use Rattle.rv_io.specs.Sink.{Sends};
 ghost use Rattle.rv_io.specs.Writer.{Adds};
 ghost use Rattle.rv_cmd.specs.Commands.Check.{IsUndecidedByPaths, TellsByPaths, TellsVerdict, check_differs};
-ghost use Rattle.rv_cmd.specs.Commands.Check.{check_report, check_row, lines_said, no_verdict, paths_limits};
+ghost use Rattle.rv_cmd.specs.Commands.{row_of_check};
+ghost use Rattle.rv_cmd.specs.Commands.Check.{check_report, lines_said, no_verdict, paths_limits};
 ghost use Rattle.rv_cmd.specs.Commands.Check.{says_different, verdict_said, verdict_text, witness_text};
 ghost use Rattle.rv_cmd.specs.Names.{names_read};
 ghost use Rattle.rv_cmd.specs.Row.{always_told};
 ghost use Rattle.rv_cmd.specs.inside.Making.{Makes};
 
+use crate::commands::check_networks::OfNetworks;
 use crate::making::{TwoInputs, TwoSearch, of_two, told_of_two};
 use crate::product::{Made, Product};
 use rv_check::{CheckFault, MOST_CHECKED_LINES, Verdict, check as checked};
@@ -17,22 +19,25 @@ use rv_io::{Files, Sink, WriteFault, Writer};
 use rv_qasm::{Program, QasmReader};
 use rv_real::RealReader;
 use rv_sums::{Finding, MOST_STEPS, MOST_TERMS, check_by_paths};
-use rv_words::{CheckedBy, Settings};
+use rv_words::{CheckedBy, Form, Settings};
 use std::alloc::Global;
 
-/// Whether the network of an OpenQASM text does exactly what a circuit does.
+/// Whether the network of an OpenQASM text does exactly what a circuit does, or another network.
 pub(crate) fn check<F: Files>(
     alloc: Global,
     settings: &Settings,
     files: &mut F,
 ) -> Result<Made, Unmade>
     requires { length (names_read settings.now) ≡ 2 }
-    ensures { Makes (check_row settings.now.checked) (names_read settings.now) (F.view files.old) (F.view files.new)
-        result }
+    ensures { Makes (row_of_check settings.now.origin settings.now.checked) (names_read settings.now) (F.view files.old)
+        (F.view files.new) result }
 {
-    match settings.checked {
-        CheckedBy::Words => of_two(alloc, settings, files, &ByWords),
-        CheckedBy::Paths => told_of_two(alloc, settings, files, &ByPaths),
+    match settings.origin {
+        Form::Qasm => told_of_two(alloc, settings, files, &OfNetworks),
+        _ => match settings.checked {
+            CheckedBy::Words => of_two(alloc, settings, files, &ByWords),
+            CheckedBy::Paths => told_of_two(alloc, settings, files, &ByPaths),
+        },
     }
 }
 
@@ -98,8 +103,8 @@ impl TwoSearch for ByPaths {
     }
 }
 
-// A verdict on a network of so many lines, as it is to be written.
-fn told(lines: u8, verdict: Verdict) -> Made
+/// A verdict on a network of so many lines, as it is to be written.
+pub(crate) fn told(lines: u8, verdict: Verdict) -> Made
     ensures product { result.product ≡ Product.Verdict lines verdict }
     ensures differs { result.differs ≡ says_different verdict }
 {
@@ -109,8 +114,8 @@ fn told(lines: u8, verdict: Verdict) -> Made
     }
 }
 
-// What was followed grew to so much.
-fn undecided(count: u64, what: Measure) -> Refusal
+/// What was followed grew to so much.
+pub(crate) fn undecided(count: u64, what: Measure) -> Refusal
     ensures { result ≡ Refusal.Refused 1 (InputFault.Undecided count what) }
 {
     Refusal::Refused {

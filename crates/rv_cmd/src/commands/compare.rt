@@ -18,7 +18,6 @@ use rv_compare::{
     CompareFault, Comparison, compare_circuits, compare_logic, compare_perm, compare_table,
     input_count,
 };
-use rv_diagram::MOST_NODES;
 use rv_faults::{InputFault, Measure, Refusal, Unmade, put_bits};
 use rv_gate::Circuit;
 use rv_io::{Files, Sink, WriteFault, Writer};
@@ -36,15 +35,15 @@ pub(crate) fn compare<F: Files>(
     files: &mut F,
 ) -> Result<Made, Unmade>
     requires { length (names_read settings.now) ≡ 2 }
-    ensures { Makes (compare_row settings.now.origin settings.now.all) (names_read settings.now) (F.view files.old)
-        (F.view files.new) result }
+    ensures { Makes (compare_row settings.now.origin settings.now.all settings.now.nodes) (names_read settings.now)
+        (F.view files.old) (F.view files.new) result }
 {
-    let all = settings.all;
+    let (all, nodes) = (settings.all, settings.nodes);
     match settings.origin {
         Form::Pla => of_two(alloc, settings, files, &WithTable { all }),
         Form::Perm => of_two(alloc, settings, files, &WithPerm { all }),
-        Form::Blif => of_two(alloc, settings, files, &WithLogic { all }),
-        _ => of_two(alloc, settings, files, &WithCircuit { all }),
+        Form::Blif => of_two(alloc, settings, files, &WithLogic { all, nodes }),
+        _ => of_two(alloc, settings, files, &WithCircuit { all, nodes }),
     }
 }
 
@@ -52,6 +51,7 @@ pub(crate) fn compare<F: Files>(
 #[derive(Clone, Copy)]
 struct WithCircuit {
     all: bool,
+    nodes: u32,
 }
 
 impl TwoInputs for WithCircuit {
@@ -63,14 +63,14 @@ impl TwoInputs for WithCircuit {
 
     ghost differs = { λ command. with_circuit circuits_differ command.all };
 
-    ghost Lacks = { λ command. LacksAnswer command.all };
+    ghost Lacks = { λ command. LacksAnswer command.nodes command.all };
 
     ghost Means = { λ command. MeansCircuits command.all };
 
     fn make(&self, alloc: Global, first: &Circuit, second: &Circuit) -> Result<Made, Refusal> {
-        match compare_circuits(alloc, first, second, self.all) {
+        match compare_circuits(alloc, first, second, self.all, self.nodes) {
             Ok(answer) => Ok(told(input_count(first, self.all), answer)),
-            Err(fault) => Err(no_answer(fault)),
+            Err(fault) => Err(no_answer(self.nodes, fault)),
         }
     }
 }
@@ -130,6 +130,7 @@ impl TwoInputs for WithTable {
 #[derive(Clone, Copy)]
 struct WithLogic {
     all: bool,
+    nodes: u32,
 }
 
 impl TwoInputs for WithLogic {
@@ -141,14 +142,14 @@ impl TwoInputs for WithLogic {
 
     ghost differs = { λ command. with_logic logic_differs command.all };
 
-    ghost Lacks = { λ command. LacksAnswer command.all };
+    ghost Lacks = { λ command. LacksAnswer command.nodes command.all };
 
     ghost Means = { λ command. MeansLogic command.all };
 
     fn make(&self, alloc: Global, circuit: &Circuit, network: &Logic) -> Result<Made, Refusal> {
-        match compare_logic(alloc, circuit, network, self.all) {
+        match compare_logic(alloc, circuit, network, self.all, self.nodes) {
             Ok(answer) => Ok(told(input_count(circuit, self.all), answer)),
-            Err(fault) => Err(no_answer(fault)),
+            Err(fault) => Err(no_answer(self.nodes, fault)),
         }
     }
 }
@@ -174,15 +175,15 @@ fn says_apart(answer: Comparison) -> bool
     }
 }
 
-// Why there is no answer.
-fn no_answer(fault: CompareFault) -> Refusal
-    ensures { result ≡ no_answer fault }
+// Why there is no answer by diagrams of at most so many nodes.
+fn no_answer(nodes: u32, fault: CompareFault) -> Refusal
+    ensures { result ≡ no_answer nodes fault }
 {
     match fault {
         CompareFault::Undecided => Refusal::Refused {
             input: 0,
             why: InputFault::Undecided {
-                count: MOST_NODES as u64,
+                count: u64::from(nodes),
                 what: Measure::Nodes,
             },
         },

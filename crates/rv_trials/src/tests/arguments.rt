@@ -69,7 +69,7 @@ fn arguments_of_another_form_are_not_understood(rt: HostRuntime) {
 
 #[test]
 fn commands_options_and_values_are_those_of_the_table(rt: HostRuntime) {
-    const CASES: [(&str, &str); 15] = [
+    const CASES: [(&str, &str); 20] = [
         ("sort", "unknown command sort"),
         ("synth --aux clean", "option --aux not used by synth"),
         ("synth --simplify", "option --simplify not used by synth"),
@@ -88,6 +88,11 @@ fn commands_options_and_values_are_those_of_the_table(rt: HostRuntime) {
         ("flow --from real", "bad value for --from"),
         ("cost --from perm", "bad value for --from"),
         ("demo --lines 0", "bad value for --lines"),
+        ("cost --as svg", "bad value for --as"),
+        ("draw --as json", "bad value for --as"),
+        ("check c.real --from pla", "bad value for --from"),
+        ("compare c.real --nodes 0", "bad value for --nodes"),
+        ("compare c.real --nodes 4194305", "bad value for --nodes"),
     ];
     expect_not_taken(&rt, rt.alloc(), &CASES);
 }

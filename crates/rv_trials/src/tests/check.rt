@@ -296,3 +296,52 @@ fn sixty_four_lines_are_checked_by_paths(rt: HostRuntime) {
     let wide = fails(5, "c.real: 64 lines are more than 10");
     expect_over_two(&rt, alloc, CHECK, first, second, wide);
 }
+
+// Checks each two networks: the status, and what is told.
+fn expect_alike(rt: &impl Abort, alloc: Global, cases: &[(&str, &str, u8, &str)]) {
+    for (one, other, status, tells) in cases {
+        let first = ("m.qasm", one.as_bytes());
+        let second = ("n.qasm", other.as_bytes());
+        let words = "check --from qasm m.qasm n.qasm";
+        expect_over_two(rt, alloc, words, first, second, told(*status, tells));
+    }
+}
+
+// Roots of two are divided out, and a phase of the whole is not.
+#[test]
+fn two_networks_are_compared(rt: HostRuntime) {
+    const CASES: [(&str, &str, u8, &str); 6] = [
+        (one_qubit!("h q[0]; h q[0];"), one_qubit!(""), 0, "same\n"),
+        (
+            one_qubit!("h q[0]; t q[0];"),
+            one_qubit!("h q[0]; s q[0]; tdg q[0];"),
+            0,
+            "same\n",
+        ),
+        (
+            one_qubit!("t q[0];"),
+            one_qubit!("tdg q[0];"),
+            1,
+            "differs, as at word 1\n",
+        ),
+        (
+            one_qubit!("x q[0]; z q[0]; x q[0]; z q[0];"),
+            one_qubit!(""),
+            1,
+            "differs, as at word 0\n",
+        ),
+        (
+            FIFTEEN_OPERATIONS,
+            network!(3, "ccx q[0],q[1],q[2];\n"),
+            0,
+            "same\n",
+        ),
+        (
+            one_qubit!(""),
+            "OPENQASM 2.0;\nqreg q[2];\n",
+            1,
+            "differs in lines 1 and 2\n",
+        ),
+    ];
+    expect_alike(&rt, rt.alloc(), &CASES);
+}

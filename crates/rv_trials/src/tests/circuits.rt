@@ -224,6 +224,37 @@ fn a_circuit_costs_its_gates_by_their_controls(rt: HostRuntime) {
 }
 
 #[test]
+fn costs_are_written_in_three_forms(rt: HostRuntime) {
+    const CASES: [(&str, &str, u8, &str); 4] = [
+        (
+            "cost --as json",
+            TWO_CONTROLS,
+            0,
+            "{\"lines\":3,\"gates\":1,\"controls\":2,\"quantum\":5,\"depth\":1}\n",
+        ),
+        (
+            "cost --as csv",
+            TWO_CONTROLS,
+            0,
+            "lines,gates,controls,quantum,depth\n3,1,2,5,1\n",
+        ),
+        (
+            "cost --from qasm --as json",
+            FIFTEEN_OPERATIONS,
+            0,
+            "{\"lines\":3,\"operations\":15,\"t\":7,\"h\":2,\"cnot\":6,\"depth\":11,\"t-depth\":4}\n",
+        ),
+        (
+            "cost --from qasm --as csv",
+            FIFTEEN_OPERATIONS,
+            0,
+            "lines,operations,t,h,cnot,depth,t-depth\n3,15,7,2,6,11,4\n",
+        ),
+    ];
+    expect_each(&rt, rt.alloc(), &CASES);
+}
+
+#[test]
 fn a_mapped_circuit_costs_its_operations(rt: HostRuntime) {
     let alloc = rt.alloc();
     let network = output_of(&rt, alloc, "map", FULL_ADDER.as_bytes());

@@ -351,4 +351,7 @@ fn a_wide_circuit_is_compared_with_a_logic_network(rt: HostRuntime) {
         (COPY, ALL, 1, "differs in inputs 1 and 26\n"),
     ];
     expect_compares(&rt, rt.alloc(), "compare --from blif c.real other", &CASES);
+    const FEW: [(&str, &str, u8, &str); 1] = [(FLIPPED, ALL, 5, "c.real: undecided with 16 nodes")];
+    let words = "compare --from blif --nodes 16 c.real other";
+    expect_compares(&rt, rt.alloc(), words, &FEW);
 }

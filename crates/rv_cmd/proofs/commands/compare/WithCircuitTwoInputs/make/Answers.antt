@@ -14,4 +14,4 @@ returns-in-Ok-clause-differs c = c.told.ensures.differs ∙ ap says_apart c.in-O
 
 pub returns-in-Err-clause-unmade : goal.returns-in-Err-clause-unmade
 returns-in-Err-clause-unmade c =
-    compare-untold c.args.self.now.all c.args.first.now c.args.second.now c.in-Err.fault c.no_answer.result (many-ends (asked c.args.self.now.all c.args.first.now) c.in-Err.fault c.in-Err.ensures.ends) c.no_answer.ensures
+    compare-untold c.args.self.now.nodes c.args.self.now.all c.args.first.now c.args.second.now c.in-Err.fault c.no_answer.result (many-ends (asked c.args.self.now.all c.args.first.now) c.in-Err.fault c.in-Err.ensures.ends) c.no_answer.ensures

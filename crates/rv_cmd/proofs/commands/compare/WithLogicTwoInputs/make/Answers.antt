@@ -15,4 +15,4 @@ returns-in-Ok-clause-differs c = c.told.ensures.differs ∙ ap says_apart c.in-O
 
 pub returns-in-Err-clause-unmade : goal.returns-in-Err-clause-unmade
 returns-in-Err-clause-unmade c =
-    compare-untold c.args.self.now.all c.args.circuit.now c.args.network.now c.in-Err.fault c.no_answer.result c.in-Err.ensures.ends c.no_answer.ensures
+    compare-untold c.args.self.now.nodes c.args.self.now.all c.args.circuit.now c.args.network.now c.in-Err.fault c.no_answer.result c.in-Err.ensures.ends c.no_answer.ensures

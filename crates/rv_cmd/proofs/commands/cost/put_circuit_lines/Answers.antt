@@ -1,8 +1,8 @@
-use Rattle.std.proofs.Common.{ap, codes}
+use Rattle.std.proofs.Common.{ℕ, ap, codes}
 use Rattle.rv_io.proofs.Adding.{adds_as, adds_then}
 use Rattle.rv_io.proofs.Written.{sends_added}
-use Rattle.rv_cmd.specs.Commands.Cost.{circuit_cost_text, report_line}
-use Rattle.rv_cmd.proofs.commands.cost.put_circuit_cost.Goals as goal
+use Rattle.rv_cmd.specs.Commands.Cost.{circuit_cost_lines, report_line}
+use Rattle.rv_cmd.proofs.commands.cost.put_circuit_lines.Goals as goal
 
 pub returns : goal.returns
 returns g c =
@@ -10,5 +10,5 @@ returns g c =
     let gates = adds_as (ap (report_line (codes "gates")) c.from-2.ensures) c.put_line-2.ensures in
     let controls = adds_as (ap (report_line (codes "controls")) c.from-3.ensures) c.put_line-3.ensures in
     let depth = adds_as (ap (report_line (codes "depth")) c.from-4.ensures) c.put_line-5.ensures in
-    sends_added (circuit_cost_text c.args.cost.now) c.finish.result c.new-writer.ensures.empty
+    sends_added (circuit_cost_lines c.args.cost.now) c.finish.result c.new-writer.ensures.empty
     (adds_then lines (adds_then gates (adds_then controls (adds_then c.put_line-4.ensures depth)))) c.finish.ensures
