@@ -4,3 +4,4 @@ pub mod Shorter
 pub mod Gates
 pub mod Ends
 pub mod Words
+pub mod Taken

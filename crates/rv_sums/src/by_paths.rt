@@ -9,6 +9,7 @@ use crate::differs::differs;
 use crate::fault::PathFault;
 use crate::same::{flips, is_same};
 use crate::suspects::suspects;
+use crate::taking::Reach;
 use rv_gate::{Circuit, MOST_LINES, Word};
 use rv_net::Net;
 use std::alloc::{AllocError, Global};
@@ -21,6 +22,29 @@ pub const MOST_STEPS: u64 = 4_000_000_000;
 
 /// How many words are tried by themselves.
 const MOST_WORDS: u8 = 24;
+
+// How far the search goes for flips that are taken early.
+const NEAR: Reach = Reach {
+    window: 64,
+    ahead: 40,
+    share: 16,
+    steps: MOST_STEPS / 10,
+};
+
+// Flips are taken in their order.
+const IN_ORDER: Reach = Reach {
+    window: 1,
+    ahead: 0,
+    share: 1,
+    steps: MOST_STEPS / 10,
+};
+
+const FAR: Reach = Reach {
+    window: 200,
+    ahead: 100,
+    share: 16,
+    steps: MOST_STEPS / 10 * 8,
+};
 
 // What a fault finds.
 fn finding_of(fault: PathFault) -> Result<Finding, AllocError>
@@ -35,14 +59,33 @@ fn finding_of(fault: PathFault) -> Result<Finding, AllocError>
 }
 
 // Whether the sum over all words is that of each word to itself.
-fn are_same(alloc: Global, circuit: &Circuit, net: &Net) -> Result<bool, PathFault>
+fn are_same(alloc: Global, circuit: &Circuit, net: &Net, reach: Reach) -> Result<bool, PathFault>
     requires { length circuit.now.names ≡ net.now.lines }
     ensures { IfOk result (λ same. IsTrue same → Denotes net.now.lines net.now.ops (run circuit.now.gates)) }
 {
     let flips = flips(alloc, circuit)?;
     let lines = net.lines();
-    let same = is_same(alloc, lines, net.ops(), &flips)?;
+    let same = is_same(alloc, lines, net.ops(), &flips, reach)?;
     Ok(same)
+}
+
+// The same by the first search that comes to an end, and which that is.
+fn are_same_by_some(alloc: Global, circuit: &Circuit, net: &Net) -> Result<(bool, Reach), PathFault>
+    requires { length circuit.now.names ≡ net.now.lines }
+    ensures { IfOk result (λ r. IsTrue r.0 → Denotes net.now.lines net.now.ops (run circuit.now.gates)) }
+{
+    match are_same(alloc, circuit, net, NEAR) {
+        Ok(same) => return Ok((same, NEAR)),
+        Err(PathFault::Mem) => return Err(PathFault::Mem),
+        Err(_) => {}
+    }
+    match are_same(alloc, circuit, net, IN_ORDER) {
+        Ok(same) => return Ok((same, IN_ORDER)),
+        Err(PathFault::Mem) => return Err(PathFault::Mem),
+        Err(_) => {}
+    }
+    let same = are_same(alloc, circuit, net, FAR)?;
+    Ok((same, FAR))
 }
 
 // Whether the network differs at the word with this number, as the sum from this word shows.
@@ -84,13 +127,18 @@ fn try_words(alloc: Global, circuit: &Circuit, net: &Net) -> Result<Option<u64>,
 }
 
 // Tries the words at which what is left of the sum shows that they may differ.
-fn try_suspects(alloc: Global, circuit: &Circuit, net: &Net) -> Result<Option<u64>, PathFault>
+fn try_suspects(
+    alloc: Global,
+    circuit: &Circuit,
+    net: &Net,
+    reach: Reach,
+) -> Result<Option<u64>, PathFault>
     requires { length circuit.now.names ≡ net.now.lines }
     ensures { IfOk result (λ o. IfSome o (λ number. IsRight circuit.now net.now (Differs number))) }
 {
     let flips = flips(alloc, circuit)?;
     let lines = net.lines();
-    let suspects = suspects(alloc, lines, net.ops(), &flips)?;
+    let suspects = suspects(alloc, lines, net.ops(), &flips, reach)?;
     for number in &suspects {
         let found = differs_at(alloc, circuit, net, *number)?;
         if found {
@@ -101,11 +149,16 @@ fn try_suspects(alloc: Global, circuit: &Circuit, net: &Net) -> Result<Option<u6
 }
 
 // What is found where the sum over all words is another one.
-fn other_sum(alloc: Global, circuit: &Circuit, net: &Net) -> Result<Finding, AllocError>
+fn other_sum(
+    alloc: Global,
+    circuit: &Circuit,
+    net: &Net,
+    reach: Reach,
+) -> Result<Finding, AllocError>
     requires { length circuit.now.names ≡ net.now.lines }
     ensures { IfOk result (IsRight circuit.now net.now) }
 {
-    match try_suspects(alloc, circuit, net) {
+    match try_suspects(alloc, circuit, net, reach) {
         Ok(Some(number)) => Ok(Finding::Differs(number)),
         Ok(None) => Ok(Finding::Paths(0)),
         Err(fault) => finding_of(fault),
@@ -123,9 +176,9 @@ pub fn check_by_paths(alloc: Global, circuit: &Circuit, net: &Net) -> Result<Fin
     if let Some(number) = try_words(alloc, circuit, net)? {
         return Ok(Finding::Differs(number));
     }
-    match are_same(alloc, circuit, net) {
-        Ok(true) => Ok(Finding::Same),
-        Ok(false) => other_sum(alloc, circuit, net),
+    match are_same_by_some(alloc, circuit, net) {
+        Ok((true, _)) => Ok(Finding::Same),
+        Ok((false, reach)) => other_sum(alloc, circuit, net, reach),
         Err(fault) => finding_of(fault),
     }
 }

@@ -1,18 +1,19 @@
 // Whether from one word the amplitude isn't that of the circuit.
-ghost use Rattle.std.specs.Prelude.{◌≡◌, ◌≢◌, ◌<◌, ◌≤◌, List, Bool, All, false, length, IfOk, IfSome, IsTrue};
+ghost use Rattle.std.specs.Prelude.{◌≡◌, ◌≢◌, ◌<◌, ◌≤◌, List, Bool, All, false, length, IfOk, IsTrue};
 ghost use Rattle.rv_net.specs.Amplitude.{amplitude, count_h};
 ghost use Rattle.rv_net.specs.Cyclotomic.{power, root2};
 ghost use Rattle.rv_net.specs.Op.{OpFitsIn};
 ghost use Rattle.rv_terms.specs.Products.{odd};
-ghost use Rattle.rv_sums.specs.inside.State.{IsTurnedBy, word_at};
+ghost use Rattle.rv_sums.specs.inside.State.{word_at};
 
+use crate::apart::is_apart;
 use crate::fault::PathFault;
 use crate::following::through_from;
-use crate::path_sum::{ALL_PATHS, constant};
+use crate::path_sum::constant;
 use crate::same::count_h;
 use rv_gate::Word;
 use rv_net::Op;
-use rv_terms::{Phases, Product, Sum};
+use rv_terms::Sum;
 use std::alloc::Global;
 
 fn is_nought(sum: &Sum) -> bool
@@ -50,35 +51,6 @@ fn end_elsewhere(alloc: Global, sums: &[Sum], image: Word) -> Result<bool, PathF
     Ok(false)
 }
 
-// Whether each path ends at the image.
-fn end_at(alloc: Global, sums: &[Sum], image: Word) -> Result<bool, PathFault>
-    requires { length sums.now ≡ length image }
-    ensures { IfOk result (λ here. IsTrue here → (x v : List Bool) → word_at sums.now x v ≡ image) }
-{
-    for line in 0..image.len() {
-        let bit = image.bit(line);
-        let here = is_bit(alloc, &sums[usize::from(line)], bit)?;
-        if !here {
-            return Ok(false);
-        }
-    }
-    Ok(true)
-}
-
-// What is wanting to the power of each path, if it's always the same and isn't 0.
-fn wanting(alloc: Global, phases: &Phases) -> Result<Option<u8>, PathFault>
-    ensures { IfOk result (λ o. IfSome o (IsTurnedBy phases.now)) }
-{
-    for back in 1..8u8 {
-        let mut left = phases.copy(alloc)?;
-        left.add(Product::ONE, back)?;
-        if left.is_nothing() {
-            return Ok(Some(back));
-        }
-    }
-    Ok(None)
-}
-
 // Whether the amplitude from the word to the image isn't that of a permutation which takes it there, as the sum over
 // paths from this word shows.
 pub(crate) fn differs(alloc: Global, word: Word, image: Word, ops: &[Op]) -> Result<bool, PathFault>
@@ -92,20 +64,7 @@ pub(crate) fn differs(alloc: Global, word: Word, image: Word, ops: &[Op]) -> Res
     if elsewhere {
         return Ok(true);
     }
-    let here = end_at(alloc, &state.sums, image)?;
-    if !here {
-        return Ok(false);
-    }
-    if state.scale > ALL_PATHS {
-        return Ok(false);
-    }
     let roots = count_h(ops);
-    if roots != (ALL_PATHS - state.scale) as usize {
-        return Ok(false);
-    }
-    let wanting = wanting(alloc, &state.phases)?;
-    match wanting {
-        Some(_) => Ok(true),
-        None => Ok(false),
-    }
+    let apart = is_apart(alloc, &state, image, roots)?;
+    Ok(apart)
 }

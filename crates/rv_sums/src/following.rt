@@ -1,14 +1,15 @@
 // Operations and flips, followed one after another.
-ghost use Rattle.std.specs.Prelude.{◌≡◌, ◌<◌, ◌≤◌, ◌∷◌, [], List, Bool, All, length, IfOk, IfSome, IsTrue};
+ghost use Rattle.std.specs.Prelude.{◌≡◌, ◌<◌, ◌≤◌, ◌∷◌, [], List, Bool, All, length, IfOk, IfSome};
 ghost use Rattle.rv_gate.specs.Every.{Every};
 ghost use Rattle.rv_gate.specs.Gate.{IsFlipOn};
 ghost use Rattle.rv_gate.specs.declared.word.TheConstants.{MOST_LINES};
 ghost use Rattle.rv_net.specs.Op.{OpFitsIn};
-ghost use Rattle.rv_sums.specs.inside.State.{AreCopies, Leads, Reached, ReachedFrom, Takes};
+ghost use Rattle.rv_sums.specs.inside.State.{AreCopies, Leads, Reached, ReachedFrom};
 
 use crate::by_paths::{MOST_STEPS, MOST_TERMS};
 use crate::fault::PathFault;
 use crate::path_sum::PathSum;
+use crate::taking::{Following, Reach};
 use rv_gate::{Gate, MOST_LINES, Shape, Word};
 use rv_net::Op;
 use rv_terms::{Product, Sum};
@@ -37,7 +38,7 @@ fn distance(sum: &Sum, line: u8) -> usize
 }
 
 impl PathSum {
-    fn copy(&self, alloc: Global) -> Result<PathSum, PathFault>
+    pub(crate) fn copy(&self, alloc: Global) -> Result<PathSum, PathFault>
         ensures { IfOk result (Leads [] [] self.now) }
     {
         let sums = copy_all(alloc, &self.sums)?;
@@ -49,19 +50,31 @@ impl PathSum {
         })
     }
 
-    // How far the sum is from that of each word to itself.
-    fn weight(&self) -> usize {
-        let mut weight = self.phases.len();
+    // How many products of the lines' sums are others than the lines.
+    fn away(&self) -> usize {
+        let mut away: usize = 0;
         for line in 0..MOST_LINES {
             if let Some(sum) = self.sums.get(usize::from(line)) {
-                weight = weight.saturating_add(distance(sum, line));
+                away = away.saturating_add(distance(sum, line));
             }
         }
-        weight
+        away
+    }
+
+    // How far the sum is from that of each word to itself. A product of a line's sum weighs as much as so many of the
+    // phases.
+    pub(crate) fn weight(&self, share: usize) -> usize {
+        let away = self.away();
+        self.phases.len().saturating_add(away.saturating_mul(share))
+    }
+
+    // How many products there are.
+    pub(crate) fn size(&self) -> usize {
+        self.weight(1)
     }
 
     // Whether the product of a flip's positive controls stands in the sum of its target.
-    fn leads(&self, gate: Gate) -> bool {
+    pub(crate) fn leads(&self, gate: Gate) -> bool {
         match gate.shape() {
             Shape::Flip { want, target, .. } => match self.sums.get(usize::from(target)) {
                 Some(sum) => sum.has(Product {
@@ -74,62 +87,8 @@ impl PathSum {
         }
     }
 
-    // The sum after a flip more, if it's smaller.
-    fn smaller(&self, alloc: Global, gate: Gate) -> Result<Option<PathSum>, PathFault>
-        requires few { length self.now.sums.items ≤ MOST_LINES }
-        requires flip { IsFlipOn (length self.now.sums.items) gate }
-        ensures { IfOk result (λ o. IfSome o (Leads [] (gate ∷ []) self.now)) }
-    {
-        if !self.leads(gate) {
-            return Ok(None);
-        }
-        let mut next = self.copy(alloc)?;
-        match next.take_flip(alloc, gate) {
-            Ok(()) => {}
-            Err(PathFault::Mem) => return Err(PathFault::Mem),
-            Err(_) => return Ok(None),
-        }
-        if next.weight() >= self.weight() {
-            return Ok(None);
-        }
-        Ok(Some(next))
-    }
-
-    // Takes flips in their order, while the sum becomes smaller. Answers where it stops.
-    fn advance(&mut self, alloc: Global, flips: &[Gate], taken: usize) -> Result<usize, PathFault>
-        requires few { length self.old.sums.items ≤ MOST_LINES }
-        requires each { Every (IsFlipOn (length self.old.sums.items)) flips.now }
-        ensures { IfOk result (λ now. Takes flips.now taken now self.old self.new) }
-    {
-        let mut now = taken;
-        'flips: while now < flips.len() {
-            let smaller = self.smaller(alloc, flips[now])?;
-            let Some(next) = smaller else {
-                return Ok(now);
-            };
-            *self = next;
-            now += 1;
-        }
-        Ok(now)
-    }
-
-    // Takes all flips that are left.
-    fn finish(&mut self, alloc: Global, flips: &[Gate], taken: usize) -> Result<usize, PathFault>
-        requires few { length self.old.sums.items ≤ MOST_LINES }
-        requires each { Every (IsFlipOn (length self.old.sums.items)) flips.now }
-        ensures takes { IfOk result (λ now. Takes flips.now taken now self.old self.new) }
-        ensures all { IfOk result (λ now. length flips.now ≤ now) }
-    {
-        let mut now = taken;
-        'flips: while now < flips.len() {
-            self.take_flip(alloc, flips[now])?;
-            now += 1;
-        }
-        Ok(now)
-    }
-
     // One operation more, and after H without the path bits that can be taken away.
-    fn operate(&mut self, alloc: Global, op: Op) -> Result<(), PathFault>
+    pub(crate) fn operate(&mut self, alloc: Global, op: Op) -> Result<(), PathFault>
         requires { OpFitsIn op (length self.old.sums.items) }
         ensures { IfOk result (λ _. Leads (op ∷ []) [] self.old self.new) }
     {
@@ -153,11 +112,11 @@ impl PathSum {
 
     // The steps so far, if there may be so many, and so many terms.
     fn within(&self, steps: u64) -> Result<u64, PathFault> {
-        let weight = self.weight();
-        if weight > MOST_TERMS {
+        let size = self.size();
+        if size > MOST_TERMS {
             return Err(PathFault::Terms);
         }
-        let steps = steps.saturating_add(weight as u64);
+        let steps = steps.saturating_add(size as u64);
         if steps > MOST_STEPS {
             return Err(PathFault::Steps);
         }
@@ -171,25 +130,21 @@ pub(crate) fn through(
     lines: u8,
     ops: &[Op],
     flips: &[Gate],
+    reach: Reach,
 ) -> Result<PathSum, PathFault>
     requires few { lines ≤ MOST_LINES }
     requires fits { All (λ op. OpFitsIn op lines) ops.now }
     requires each { Every (IsFlipOn lines) flips.now }
     ensures { IfOk result (Reached lines ops.now [] flips.now []) }
 {
-    let mut state = PathSum::start(alloc, lines)?;
-    let mut taken = 0usize;
-    let mut steps = 0u64;
+    let mut state = Following::start(alloc, lines, reach)?;
     'places: for place in 0..ops.len() {
-        state.operate(alloc, ops[place])?;
-        taken = state.advance(alloc, flips, taken)?;
-        steps = state.within(steps)?;
+        state.operate(alloc, flips, ops[place])?;
     }
-    let end = state.finish(alloc, flips, taken)?;
-    prove!(end >= flips.len());
-    state.open()?;
-    state.shorten(alloc)?;
-    Ok(state)
+    state.finish(alloc, flips)?;
+    state.sum.open()?;
+    state.sum.shorten(alloc)?;
+    Ok(state.sum)
 }
 
 // The sum from one word, after all operations.

@@ -59,16 +59,16 @@ fn turn_all(alloc: Global, sums: &[Sum], line: u8, with: &Sum) -> Result<Vec<Sum
 
 impl PathSum {
     fn put_flip(
-        &mut self,
+        &self,
         alloc: Global,
         care: LineSet,
         want: LineSet,
         target: u8,
-    ) -> Result<(), PathFault>
-        requires few { length self.old.sums.items ≤ MOST_LINES }
-        requires target { target < length self.old.sums.items }
+    ) -> Result<PathSum, PathFault>
+        requires few { length self.now.sums.items ≤ MOST_LINES }
+        requires target { target < length self.now.sums.items }
         requires free { IsFalse (has care target) }
-        ensures { IfOk result (λ _. Leads [] (Flip care want target ∷ []) self.old self.new) }
+        ensures { IfOk result (Leads [] (Flip care want target ∷ []) self.now) }
     {
         let lines = self.sums.len() as u8;
         let mut with = holding(alloc, lines, care, want)?;
@@ -76,20 +76,24 @@ impl PathSum {
         with.add(product)?;
         let sums = turn_all(alloc, &self.sums, target, &with)?;
         let phases = self.phases.replaced_line(alloc, target, &with)?;
-        self.sums = sums;
-        self.phases = phases;
-        Ok(())
+        Ok(PathSum {
+            sums,
+            phases,
+            scale: self.scale,
+        })
     }
 
-    // One flip of the circuit more.
-    pub(crate) fn take_flip(&mut self, alloc: Global, gate: Gate) -> Result<(), PathFault>
-        requires few { length self.old.sums.items ≤ MOST_LINES }
-        requires flip { IsFlipOn (length self.old.sums.items) gate }
-        ensures { IfOk result (λ _. Leads [] (gate ∷ []) self.old self.new) }
+    // The sum after one flip of the circuit more. What is no flip on its lines isn't taken.
+    pub(crate) fn with_flip(&self, alloc: Global, gate: Gate) -> Result<PathSum, PathFault>
+        ensures { IfOk result (Leads [] (gate ∷ []) self.now) }
     {
+        let lines = self.sums.len();
+        if lines > usize::from(MOST_LINES) || !gate.fits(lines as u8) {
+            return Err(PathFault::Steps);
+        }
         match gate.shape() {
             Shape::Flip { care, want, target } => self.put_flip(alloc, care, want, target),
-            Shape::Swap { .. } | Shape::Peres { .. } => unreachable!(),
+            Shape::Swap { .. } | Shape::Peres { .. } => Err(PathFault::Steps),
         }
     }
 }

@@ -1,6 +1,7 @@
 //! A network checked against a circuit by sums over paths.
 #![tactic(auto)]
 
+mod apart;
 mod by_paths;
 mod differs;
 mod fault;
@@ -8,11 +9,13 @@ mod finding;
 mod following;
 mod free;
 mod gates;
+mod left;
 mod moving;
 mod path_sum;
 mod same;
 mod shorter;
 mod suspects;
+mod taking;
 
 pub use by_paths::{MOST_STEPS, MOST_TERMS, check_by_paths};
 pub use finding::Finding;

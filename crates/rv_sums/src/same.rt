@@ -13,6 +13,7 @@ ghost use Rattle.rv_sums.specs.inside.State.{AreFlips, word_at};
 use crate::fault::PathFault;
 use crate::following::through;
 use crate::path_sum::ALL_PATHS;
+use crate::taking::Reach;
 use rv_gate::{Circuit, Gate, MOST_LINES};
 use rv_mct::flips_of;
 use rv_net::Op;
@@ -83,13 +84,14 @@ pub(crate) fn is_same(
     lines: u8,
     ops: &[Op],
     flips: &[Gate],
+    reach: Reach,
 ) -> Result<bool, PathFault>
     requires few { lines ≤ MOST_LINES }
     requires fits { All (λ op. OpFitsIn op lines) ops.now }
     requires each { Every (IsFlipOn lines) flips.now }
     ensures { IfOk result (λ same. IsTrue same → Denotes lines ops.now (run flips.now)) }
 {
-    let state = through(alloc, lines, ops, flips)?;
+    let state = through(alloc, lines, ops, flips, reach)?;
     if !state.phases.is_nothing() {
         return Ok(false);
     }

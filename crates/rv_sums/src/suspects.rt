@@ -8,6 +8,7 @@ ghost use Rattle.rv_net.specs.Op.{OpFitsIn};
 use crate::fault::PathFault;
 use crate::following::through;
 use crate::path_sum::PathSum;
+use crate::taking::Reach;
 use rv_gate::{Gate, LineSet, MOST_LINES, Word};
 use rv_net::Op;
 use rv_terms::{Product, Sum};
@@ -75,12 +76,13 @@ pub(crate) fn suspects(
     lines: u8,
     ops: &[Op],
     flips: &[Gate],
+    reach: Reach,
 ) -> Result<Vec<u64>, PathFault>
     requires few { lines ≤ MOST_LINES }
     requires fits { All (λ op. OpFitsIn op lines) ops.now }
     requires each { Every (IsFlipOn lines) flips.now }
 {
-    let state = through(alloc, lines, ops, flips)?;
+    let state = through(alloc, lines, ops, flips, reach)?;
     let sets = suspect_lines(alloc, &state)?;
     let mut numbers = Vec::new(alloc);
     for set in &sets {

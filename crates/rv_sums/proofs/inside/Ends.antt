@@ -20,11 +20,12 @@ use Rattle.rv_terms.specs.Products.{odd}
 use Rattle.rv_terms.specs.Phases.{power as phase}
 use Rattle.rv_terms.specs.declared.sum.Sum.{Sum}
 use Rattle.rv_sums.specs.inside.Paths.{is_h, rooted}
-use Rattle.rv_sums.specs.inside.State.{AreFlips, IsStart, Leads, Reached, Takes, spare, word_at}
+use Rattle.rv_sums.specs.inside.State.{AreFlips, IsStart, Leads, Moves, Reached, left_of, spare, word_at}
 use Rattle.rv_sums.specs.declared.path_sum.PathSum.{PathSum}
+use Rattle.rv_sums.specs.declared.taking.Following.{Following}
 use Rattle.rv_sums.proofs.Paths.{ended}
 use Rattle.rv_sums.proofs.Turns.{rooted_cancels, rooted_more, rooted_nought, rooted_power, turns_none}
-use Rattle.rv_sums.proofs.inside.Gates.{reached_op, reached_same}
+use Rattle.rv_sums.proofs.inside.Gates.{reached_same}
 use Rattle.rv_sums.proofs.inside.States.{take_sums, take_whole, word_at-take}
 
 -- flips can be run back
@@ -64,23 +65,22 @@ pub here_ops : (ops : List Op) (k : ℕ) (op : Op) → k < length ops → op ≡
 here_ops ops k op lt is =
     drop-cons ops k op lt ∙ ap₂ (λ h j. h ∷ drop j ops) (sym is) (let e : suc k ≡ k + 1 = omega arith in e)
 
-pub reached_round : (lines : ℕ) (ops : List Op) (flips : List Shape) (place : ℕ) (op : Op) (taken now : ℕ) (s t u : PathSum)
-    → place < length ops → op ≡ get_or ops place op → Leads (op ∷ []) [] s t → Takes flips taken now t u
-    → Reached lines ops (drop place ops) flips (drop taken flips) s
-    → Reached lines ops (drop (place + 1) ops) flips (drop now flips) u
-reached_round lines ops flips place op taken now s t u lt is leads takes r =
-    let P : List Op → Type 0 = λ rest. Reached lines ops rest flips (drop taken flips) s in
-    takes.reached lines ops (drop (place + 1) ops) flips
-    (reached_op lines ops (drop (place + 1) ops) op flips (drop taken flips) s t leads (subst P (here_ops ops place op lt is) r))
+pub reached_round : (lines : ℕ) (ops : List Op) (flips : List Shape) (place : ℕ) (op : Op) (s t : Following)
+    → place < length ops → op ≡ get_or ops place op → Moves (op ∷ []) flips s t
+    → Reached lines ops (drop place ops) flips (left_of flips s.left) s.sum
+    → Reached lines ops (drop (place + 1) ops) flips (left_of flips t.left) t.sum
+reached_round lines ops flips place op s t lt is moves r =
+    let P : List Op → Type 0 = λ rest. Reached lines ops rest flips (left_of flips s.left) s.sum in
+    moves.reached lines ops (drop (place + 1) ops) flips (subst P (here_ops ops place op lt is) r)
 
-pub reached_end : (lines : ℕ) (ops : List Op) (flips : List Shape) (place taken now : ℕ) (s t u : PathSum)
-    → length ops ≤ place → Takes flips taken now s t → length flips ≤ now → Leads [] [] t u
-    → Reached lines ops (drop place ops) flips (drop taken flips) s → Reached lines ops [] flips [] u
-reached_end lines ops flips place taken now s t u all takes done leads r =
-    let P : List Op → Type 0 = λ rest. Reached lines ops rest flips (drop now flips) t in
-    let Q : List Shape → Type 0 = λ left. Reached lines ops [] flips left t in
-    reached_same lines ops [] flips [] t u leads
-    (subst Q (drop_of_length-le flips done) (subst P (drop_of_length-le ops all) (takes.reached lines ops (drop place ops) flips r)))
+pub reached_end : (lines : ℕ) (ops : List Op) (flips : List Shape) (place : ℕ) (s t : Following) (u : PathSum)
+    → length ops ≤ place → Moves [] flips s t → left_of flips t.left ≡ [] → Leads [] [] t.sum u
+    → Reached lines ops (drop place ops) flips (left_of flips s.left) s.sum → Reached lines ops [] flips [] u
+reached_end lines ops flips place s t u all moves none leads r =
+    let P : List Op → Type 0 = λ rest. Reached lines ops rest flips (left_of flips t.left) t.sum in
+    let Q : List Shape → Type 0 = λ left. Reached lines ops [] flips left t.sum in
+    reached_same lines ops [] flips [] t.sum u leads
+    (subst Q none (subst P (drop_of_length-le ops all) (moves.reached lines ops (drop place ops) flips r)))
 
 -- ---- sums that are lines
 

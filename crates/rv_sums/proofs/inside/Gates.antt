@@ -21,7 +21,7 @@ use Rattle.rv_terms.specs.Products.{odd}
 use Rattle.rv_terms.specs.Phases.{power}
 use Rattle.rv_terms.specs.declared.sum.Sum.{Sum}
 use Rattle.rv_sums.specs.inside.Paths.{rooted}
-use Rattle.rv_sums.specs.inside.State.{AreCopies, AreFlips, AreTurned, Leads, Reached, Stands, Takes, spare, word_at}
+use Rattle.rv_sums.specs.inside.State.{AreCopies, AreFlips, AreTurned, Leads, Reached, Stands, spare, word_at}
 use Rattle.rv_sums.specs.declared.path_sum.PathSum.{PathSum}
 use Rattle.rv_sums.proofs.Sums.{same_sum}
 
@@ -45,10 +45,7 @@ gate_leads care want t with old new lt free is turned phases scale = record {
       (sym (turned.ends y v (omega arith) ∙ ap (λ u. word_at old.sums.items u v) (back v)))));
 }
 
--- ---- flips that are left
-
-pub takes_none : (flips : List Shape) (taken : ℕ) (s : PathSum) → Takes flips taken taken s s
-takes_none flips taken s = record { lines = refl; reached = λ lines ops rest gates r. r }
+-- ---- one thing more
 
 -- a state of the same meaning
 pub reached_same : (lines : ℕ) (ops rest : List Op) (gates left : List Shape) (old new : PathSum) → Leads [] [] old new
@@ -82,17 +79,6 @@ reached_flip lines ops rest gates left g old new leads r = record {
       subst P back
       (leads.stands rest (act g u) z (amplitude ops w z) (lb ∙ sym r.lines_are)
       (r.stands w (act g u) z lw lb (ap (run left) back ∙ same)));
-}
-
-pub takes_more : (flips : List Shape) (taken place : ℕ) (g : Shape) (first old new : PathSum) → place < length flips → g ≡ get_or flips place g
-    → Leads [] (g ∷ []) old new → Takes flips taken place first old → Takes flips taken (place + 1) first new
-takes_more flips taken place g first old new lt is leads before = record {
-  lines = leads.lines ∙ before.lines;
-  reached = λ lines ops rest gates r.
-      let here : drop place flips ≡ g ∷ drop (place + 1) flips =
-      drop-cons flips place g lt ∙ ap₂ (λ h k. h ∷ drop k flips) (sym is) (let e : suc place ≡ place + 1 = omega arith in e) in
-      let P : List Shape → Type 0 = λ l. Reached lines ops rest gates l old in
-      reached_flip lines ops rest gates (drop (place + 1) flips) g old new leads (subst P here (before.reached lines ops rest gates r));
 }
 
 -- ---- the flips of a circuit
@@ -139,12 +125,6 @@ copy_leads old new sums phases scale = record {
   stands = λ rest x z whole len stands.
       ap (λ d. rooted d whole) scale ∙ stands
       ∙ ap (rooted spare) (same_sum 64 _ _ (λ v e. ap₂ (λ n u. times_w_power n (amplitude rest u z)) (sym (phases x v)) (sym (sums.ends x v))));
-}
-
-pub leads_both : (g : Shape) (s t u : PathSum) → Leads [] [] s t → Leads [] (g ∷ []) t u → Leads [] (g ∷ []) s u
-leads_both g s t u first second = record {
-  lines = second.lines ∙ first.lines;
-  stands = λ rest x z whole len stands. second.stands rest x z whole (len ∙ sym first.lines) (first.stands rest x z whole len stands);
 }
 
 pub leads_shorter : (op : Op) (s t u : PathSum) → Leads (op ∷ []) [] s t → Leads [] [] t u → Leads (op ∷ []) [] s u

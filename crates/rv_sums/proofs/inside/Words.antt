@@ -1,5 +1,5 @@
 -- A sum over paths from one word.
-use Rattle.std.proofs.Common.{◌≡◌, ◌≢◌, ℕ, zero, suc, ◌+◌, ◌-◌, ◌%◌, ◌^◌, ◌<◌, ◌≤◌, Bool, true, false, not, cond, List, [], ◌∷◌, ◌++◌, length, drop, take, get_or, refl, sym, ap, ap₂, ◌∙◌, arith, subst, pos}
+use Rattle.std.proofs.Common.{◌≡◌, ◌≢◌, ℕ, ◌+◌, ◌*◌, ◌%◌, ◌^◌, ◌<◌, ◌≤◌, Bool, false, not, cond, List, [], ◌∷◌, ◌++◌, length, drop, take, get_or, refl, sym, ap, ap₂, ◌∙◌, arith, subst, pos}
 use Rattle.std.proofs.Math.ListN.{drop_of_length-le}
 use Rattle.std.proofs.lemmas.List.{take_more}
 use Rattle.rv_gate.specs.Circuit.{Cascade}
@@ -11,24 +11,25 @@ use Rattle.rv_net.specs.Op.{Network}
 use Rattle.rv_sums.specs.Finding.{Breaks}
 use Rattle.rv_gate.proofs.Words.{same_word-false, same_word-same}
 use Rattle.rv_net.specs.Amplitude.{amplitude, count_h}
-use Rattle.rv_net.specs.Cyclotomic.{Cyclotomic, nought, power, root2, times_w, times_w_power, unity}
+use Rattle.rv_net.specs.Cyclotomic.{Cyclotomic, doubled, nought, power, root2, times_w_power, unity}
 use Rattle.rv_net.specs.declared.op.Op.{Op}
 use Rattle.rv_net.proofs.Cyclotomic.{times_w_power-zero}
 use Rattle.rv_net.proofs.Matrix.{sum_over_words-zero}
 use Rattle.rv_net.proofs.Step.{Word, bit}
-use Rattle.rv_terms.specs.Products.{odd, parity, value}
+use Rattle.rv_terms.specs.Products.{odd, parity}
 use Rattle.rv_terms.specs.Phases.{power as phase}
-use Rattle.rv_terms.specs.declared.phases.Phases.{Phases}
 use Rattle.rv_terms.specs.declared.product.Product.{Product}
 use Rattle.rv_terms.specs.declared.sum.Sum.{Sum}
 use Rattle.rv_sums.specs.inside.Paths.{over_paths, rooted}
-use Rattle.rv_sums.specs.inside.State.{IsStartAt, IsTurnedBy, Leads, ReachedFrom, spare, word_at}
+use Rattle.rv_ends.specs.Ends.{amount, over_all}
+use Rattle.rv_ends.specs.declared.amount.Amount.{Amount}
+use Rattle.rv_sums.specs.inside.State.{IsStartAt, Leads, ReachedFrom, spare, value_of, word_at}
 use Rattle.rv_sums.specs.declared.path_sum.PathSum.{PathSum}
 use Rattle.rv_sums.proofs.Paths.{ended}
 use Rattle.rv_sums.proofs.Sums.{same_sum}
-use Rattle.rv_sums.proofs.Turns.{rooted_cancels, rooted_more, rooted_nought, rooted_power, turns_none}
-use Rattle.rv_sums.proofs.inside.Ends.{at_end, here_ops}
-use Rattle.rv_sums.proofs.inside.States.{bit-word_at_as, take_sums, take_whole, word_at-take}
+use Rattle.rv_sums.proofs.Turns.{rooted_cancels, rooted_doubled, rooted_more, rooted_nought, rooted_power, turns_none}
+use Rattle.rv_sums.proofs.inside.Ends.{here_ops}
+use Rattle.rv_sums.proofs.inside.States.{bit-word_at_as, take_whole}
 
 pub from_start : (word : Word) (ops : List Op) (s : PathSum) → IsStartAt word s → ReachedFrom word ops ops s
 from_start word ops s start = record {
@@ -83,36 +84,29 @@ elsewhere_differs word image ops s r len other e =
     rooted_cancels s.scale _ _ (r.stands image image len ∙ ap (rooted spare) none ∙ rooted_nought spare ∙ sym (rooted_nought s.scale)) in
     power_some (count_h ops) (sym e ∙ zero_is)
 
-pub turn_moves : (p : ℕ) → 0 < p → p < 8 → times_w_power p unity ≢ unity
-unfolding times_w_power times_w unity
-turn_moves zero some few e = absurd (omega arith)
-turn_moves (suc zero) some few e = let f : pos 0 ≡ pos 1 = ap (λ (u : Cyclotomic). u.a) e in cc
-turn_moves (suc (suc zero)) some few e = let f : pos 0 ≡ pos 1 = ap (λ (u : Cyclotomic). u.a) e in cc
-turn_moves (suc (suc (suc zero))) some few e = let f : pos 0 ≡ pos 1 = ap (λ (u : Cyclotomic). u.a) e in cc
-turn_moves (suc (suc (suc (suc zero)))) some few e = let f = ap (λ (u : Cyclotomic). u.a) e in cc
-turn_moves (suc (suc (suc (suc (suc zero))))) some few e = let f : pos 0 ≡ pos 1 = ap (λ (u : Cyclotomic). u.a) e in cc
-turn_moves (suc (suc (suc (suc (suc (suc zero)))))) some few e = let f : pos 0 ≡ pos 1 = ap (λ (u : Cyclotomic). u.a) e in cc
-turn_moves (suc (suc (suc (suc (suc (suc (suc zero))))))) some few e = let f : pos 0 ≡ pos 1 = ap (λ (u : Cyclotomic). u.a) e in cc
-turn_moves (suc (suc (suc (suc (suc (suc (suc (suc n)))))))) some few e = absurd (omega arith)
-
-opposite : (p back : ℕ) → 0 < back → back < 8 → (p + back) % 8 ≡ 0 → p % 8 ≡ (8 - back) % 8
-opposite p back some few e = omega arith
-
--- each path ends at the image, with a phase that isn't 0
-pub turned_differs : (word image : Word) (ops : List Op) (s : PathSum) (back : ℕ) → ReachedFrom word ops [] s → length image ≡ length word
-    → ((x v : Word) → word_at s.sums.items x v ≡ image) → IsTurnedBy s.phases back → s.scale + count_h ops ≡ spare + 128
+-- the sum over the paths that are left isn't the power of the root of two that is asked for
+pub apart_differs : (word image bits : Word) (ops : List Op) (s : PathSum) (sums : List Sum) (paths : List ℕ) (n k : ℕ) (sum asked : Amount)
+    → ReachedFrom word ops [] s → length image ≡ length word → sums ≡ s.sums.items → bits ≡ image → length paths ≡ n
+    → ((x : Word) → doubled (length paths) (over_all sums s.phases x bits) ≡ doubled 64 (amount sum))
+    → amount asked ≡ power root2 k → s.scale + n * 2 + count_h ops ≡ spare + 128 + k → amount sum ≢ amount asked
     → amplitude ops word image ≢ power root2 (count_h ops)
 unfolding amplitude
-turned_differs word image ops s back r len ends turned all e =
-    let p : ℕ = 8 - back in
-    let whole : amplitude ops word image ≡ rooted (count_h ops) (times_w_power p (amplitude [] image image)) =
-    at_end s.scale (count_h ops) p (amplitude ops word image) image image all
-    (r.stands image image len
-    ∙ ap (rooted spare) (ended [] image image p (phase s.phases image) (word_at s.sums.items image) (λ v l. ends image v)
-    (λ v l. opposite (phase s.phases image v) back turned.some turned.few (turned.phases_are image v)))) in
-    let one : amplitude [] image image ≡ unity = ap (λ b. cond b unity nought) (same_word-same image) in
-    turn_moves p (omega (arith, turned.some, turned.few)) (omega (arith, turned.some))
-    (rooted_cancels (count_h ops) _ _ (ap (λ u. rooted (count_h ops) (times_w_power p u)) (sym one) ∙ sym whole ∙ e ∙ rooted_power (count_h ops)))
+apart_differs word image bits ops s sums paths n k sum asked r len same_sums same_bits few ends is all other e =
+    let h : ℕ = count_h ops in
+    let m : ℕ = length paths in
+    let v : Cyclotomic = value_of s [] image image in
+    let whole : v ≡ over_all sums s.phases image bits = ap₂ (λ l z. over_all l s.phases image z) (sym same_sums) (sym same_bits) in
+    let one : rooted (s.scale + h) unity ≡ rooted spare v =
+    sym (rooted_more s.scale h unity) ∙ ap (rooted s.scale) (sym (rooted_power h) ∙ sym e) ∙ r.stands image image len in
+    let twice : rooted (2 * m) v ≡ rooted 128 (amount sum) =
+    rooted_doubled m v ∙ ap (doubled m) whole ∙ ends image ∙ sym (rooted_doubled 64 (amount sum)) in
+    let left : rooted (spare + 128) (rooted k unity) ≡ rooted (spare + 128) (amount sum) =
+    rooted_more (spare + 128) k unity
+    ∙ ap (λ d. rooted d unity) (let d : spare + 128 + k ≡ 2 * m + (s.scale + h) = omega (arith, all, few) in d)
+    ∙ sym (rooted_more (2 * m) (s.scale + h) unity) ∙ ap (rooted (2 * m)) one ∙ rooted_more (2 * m) spare v
+    ∙ ap (λ d. rooted d v) (let d : 2 * m + spare ≡ spare + 2 * m = omega arith in d) ∙ sym (rooted_more spare (2 * m) v)
+    ∙ ap (rooted spare) twice ∙ rooted_more spare 128 (amount sum) in
+    other (sym (rooted_cancels (spare + 128) (rooted k unity) (amount sum) left) ∙ sym (rooted_power k) ∙ sym is)
 
 -- ---- sums that are a bit
 
@@ -136,23 +130,14 @@ line_differs sums line at sum image lt same is bits x v e =
 pub same_bit : (a b o one : Bool) → o ≡ xor a one → one ≡ b → o ≡ false → a ≡ b
 same_bit a b o one e f g = grind arith
 
--- one line more that ends at the image
-pub end_more : (sums : List Sum) (k at : ℕ) (sum : Sum) (x v image : Word) → k < length sums → k < length image → at ≡ k
-    → sum ≡ get_or sums at sum → odd sum x v ≡ bit image k → word_at (take k sums) x v ≡ take k image
-    → word_at (take (k + 1) sums) x v ≡ take (k + 1) image
-end_more sums k at sum x v image ls li same is here before =
-    word_at-take sums k sum x v ls (is ∙ ap (λ j. get_or sums j sum) same) ∙ ap₂ (λ l b. l ++ b ∷ []) before here ∙ sym (take_more image k false li)
+-- the bits of a word, one more
+pub bits_more : (bits bits2 image : Word) (line : ℕ) (b : Bool) → line < length image → bits2 ≡ bits ++ b ∷ [] → b ≡ bit image line
+    → bits ≡ take line image → bits2 ≡ take (line + 1) image
+bits_more bits bits2 image line b lt more is before =
+    more ∙ ap₂ (λ l c. l ++ c ∷ []) before is ∙ sym (take_more image line false lt)
 
-pub end_all : (sums : List Sum) (k : ℕ) (x v image : Word) → length sums ≡ length image → length image ≤ k
-    → word_at (take k sums) x v ≡ take k image → word_at sums x v ≡ image
-end_all sums k x v image same le before =
-    ap (λ l. word_at l x v) (sym (take_sums sums k (omega arith))) ∙ before ∙ take_whole image k le
-
-pub wanting_is : (phases left more : Phases) (one : Product) (back : ℕ) (x v : Word) → value one x v ≡ true
-    → phase left x v ≡ phase phases x v → phase more x v ≡ (phase left x v + cond (value one x v) back 0) % 8 → phase more x v ≡ 0
-    → (phase phases x v + back) % 8 ≡ 0
-wanting_is phases left more one back x v is_one same added none =
-    sym (added ∙ ap₂ (λ n b. (n + cond b back 0) % 8) same is_one) ∙ none
+pub bits_all : (bits image : Word) (line : ℕ) → length image ≤ line → bits ≡ take line image → bits ≡ image
+bits_all bits image line le before = before ∙ take_whole image line le
 
 -- an amplitude that isn't a permutation's breaks
 pub breaks_at : (c : Cascade) (net : Network) (lines number : ℕ) (word image : Word) (ops : List Op) → lines ≡ net.lines

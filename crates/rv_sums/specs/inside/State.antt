@@ -13,7 +13,9 @@ use Rattle.rv_terms.specs.Phases.{power}
 use Rattle.rv_terms.specs.declared.phases.Phases.{Phases}
 use Rattle.rv_terms.specs.declared.sum.Sum.{Sum}
 use Rattle.rv_sums.specs.inside.Paths.{is_h, over_paths, rooted}
+use Rattle.rv_sums.specs.declared.left.Left.{Left}
 use Rattle.rv_sums.specs.declared.path_sum.PathSum.{PathSum}
+use Rattle.rv_sums.specs.declared.taking.Following.{Following}
 
 -- where the path v from the word x ends
 abbrev pub word_at : List Sum → List Bool → List Bool → List Bool
@@ -134,20 +136,19 @@ pub record AreFlips (lines : ℕ) (gates flips : List Shape) : Type 0 where
   pub each : Every (IsFlipOn lines) flips
   pub run_is : (word : List Bool) → length word ≡ lines → run flips word ≡ run gates word
 
--- From one state to another, flips are taken, so that others are left.
-pub record Takes (flips : List Shape) (taken now : ℕ) (old new : PathSum) : Type 0 where
-  pub lines : length new.sums.items ≡ length old.sums.items
+-- the flips that are left: those of a window, and then all from a place on
+abbrev pub left_of : List Shape → Left → List Shape
+left_of flips l = l.window.items ++ drop l.next flips
+
+-- Of these flips, from one state to another, some are taken, and operations by the network.
+pub record Moves (done : List Op) (flips : List Shape) (old new : Following) : Type 0 where
+  pub lines : length new.sum.sums.items ≡ length old.sum.sums.items
   pub reached :
       (lines : ℕ) (ops rest : List Op) (gates : List Shape)
-      → Reached lines ops rest gates (drop taken flips) old → Reached lines ops rest gates (drop now flips) new
+      → Reached lines ops (done ++ rest) gates (left_of flips old.left) old.sum
+      → Reached lines ops rest gates (left_of flips new.left) new.sum
 
 -- the same sums, by what they are
 pub record AreCopies (old new : List Sum) : Type 0 where
   pub lines : length new ≡ length old
   pub ends : (x v : List Bool) → word_at new x v ≡ word_at old x v
-
--- the power is always the same, and isn't 0
-pub record IsTurnedBy (phases : Phases) (back : ℕ) : Type 0 where
-  pub some : 0 < back
-  pub few : back < 8
-  pub phases_are : (x v : List Bool) → (power phases x v + back) % 8 ≡ 0
