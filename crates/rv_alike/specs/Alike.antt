@@ -2,19 +2,12 @@
 use Rattle.std.specs.Prelude.{◌≡◌, ◌<◌, ◌^◌, ◌&&◌, ◌==◌, Bool, List, length}
 use Rattle.std.specs.List.{list_all}
 use Rattle.rv_gate.specs.Word.{word_of}
-use Rattle.rv_net.specs.Amplitude.{amplitude, count_h}
-use Rattle.rv_net.specs.Cyclotomic.{Cyclotomic, power, root2, times}
 use Rattle.rv_net.specs.Op.{Network}
-use Rattle.rv_net.specs.declared.op.Op.{Op}
 use Rattle.rv_check.specs.Check.{are_same}
 use Rattle.rv_check.specs.Reduced.{words}
+use Rattle.rv_reduce.specs.ByGoal.{over_both}
 use Rattle.rv_sums.specs.declared.finding.Finding.{Finding}
 use Rattle.rv_sums.specs.declared.finding.Finding.TheVariants.{Same, Differs, Terms, Steps, Paths}
-
--- An amplitude over the roots of two of its own network and of another: both networks have the same amplitude if these
--- are equal the one way and the other.
-abbrev pub over_both : List Op → List Op → List Bool → List Bool → Cyclotomic
-over_both ops others x y = times (power root2 (count_h others)) (amplitude ops x y)
 
 -- from the word x both have the same amplitudes, with no phase left free
 abbrev pub AreAlikeFrom : Network → Network → List Bool → Type 0

@@ -1,5 +1,6 @@
 -- Reductions by a goal: of two networks with the same amplitudes, one that is no worse.
-use Rattle.std.proofs.Common.{◌+◌, ◌≤◌, List, [], length, append-nil, refl, sym, ap, ◌∙◌, inl, inr, arith}
+use Rattle.std.proofs.Common.{◌≡◌, ◌+◌, ◌≤◌, Bool, true, false, IsTrue, List, [], length, if◌then◌else◌, append-nil, refl, sym, ap, ◌∙◌, inl, inr, arith}
+use Rattle.std.proofs.lemmas.Bool.{false≢true}
 use Rattle.std.specs.Prelude.{count_by}
 use Rattle.rv_net.specs.Amplitude.{amplitude}
 use Rattle.rv_net.specs.Cyclotomic.{doubled}
@@ -8,13 +9,11 @@ use Rattle.rv_net.specs.declared.net.TheConstants.{MOST_OPS}
 use Rattle.rv_net.specs.declared.op.Op.{Op}
 use Rattle.rv_net.proofs.Cyclotomic.{doubled-more, doubled-none}
 use Rattle.rv_reduce.specs.StandsFor.{StandsFor}
-use Rattle.rv_reduce.specs.ByGoal.{HasFewCnots, IsNoWorse, IsReductionBy, KeepsAmplitudes}
+use Rattle.rv_reduce.specs.Blocks.{begun, in_blocks, takes_blocks}
+use Rattle.rv_reduce.specs.ByGoal.{HasFewCnots, Improves, IsReductionBy, KeepsAmplitudes}
 use Rattle.rv_reduce.specs.declared.goal.Goal.{Goal}
-use Rattle.rv_reduce.proofs.Carrying.{keeps-carries, keeps-denotes}
-
-pub better : (goal : Goal) (net result : Network) → KeepsAmplitudes net result → IsNoWorse goal net.ops result.ops → IsReductionBy goal net result
-better goal net result keeps no_worse =
-    record { keeps = keeps; no_worse = no_worse; denotes = keeps-denotes net result keeps; carries = keeps-carries net result keeps }
+use Rattle.rv_reduce.proofs.Blocks.{blocks_amplitude, blocks_count_h, blocks_plain, gate_count}
+use Rattle.rv_reduce.proofs.Carrying.{Rescaled, keeps-rescaled, rescaled-carries, rescaled-denotes, rescaled-same}
 
 -- ---- the same network
 
@@ -27,10 +26,12 @@ keeps-itself net valid = record {
   hadamards = omega arith;
 }
 
-pub unchanged : (goal : Goal) (net : Network) → IsNetwork net → IsReductionBy goal net net
+pub unchanged : (goal : Goal) (net : Network) → IsNetwork net → Improves goal net net
 unchanged goal net valid =
-    better goal net net (keeps-itself net valid)
-    (record { measure = omega arith; t_gates = omega arith; three_lines = omega arith; cnots = inl (omega arith) })
+    record {
+      keeps = keeps-itself net valid;
+      no_worse = record { measure = omega arith; t_gates = omega arith; three_lines = omega arith; cnots = inl (omega arith) };
+    }
 
 -- ---- one after another
 
@@ -49,15 +50,17 @@ cnots-twice goal a b c one two (inl f) (inl s) = inl (omega (arith, f, s))
 cnots-twice goal a b c one two (inr f) s = inr (f.0, omega (arith, f.1, two))
 cnots-twice goal a b c one two (inl f) (inr s) = inr (s.0, omega (arith, s.1, one))
 
-pub further : (goal : Goal) (net mid result : Network) → IsReductionBy goal net mid → IsReductionBy goal mid result → IsReductionBy goal net result
+pub further : (goal : Goal) (net mid result : Network) → Improves goal net mid → Improves goal mid result → Improves goal net result
 further goal net mid result first second =
-    better goal net result (keeps-twice net mid result first.keeps second.keeps)
-    (record {
-      measure = omega (arith, first.no_worse.measure, second.no_worse.measure);
-      t_gates = omega (arith, first.no_worse.t_gates, second.no_worse.t_gates);
-      three_lines = omega (arith, first.no_worse.three_lines, second.no_worse.three_lines);
-      cnots = cnots-twice goal net.ops mid.ops result.ops first.no_worse.t_gates second.no_worse.t_gates first.no_worse.cnots second.no_worse.cnots;
-    })
+    record {
+      keeps = keeps-twice net mid result first.keeps second.keeps;
+      no_worse = record {
+        measure = omega (arith, first.no_worse.measure, second.no_worse.measure);
+        t_gates = omega (arith, first.no_worse.t_gates, second.no_worse.t_gates);
+        three_lines = omega (arith, first.no_worse.three_lines, second.no_worse.three_lines);
+        cnots = cnots-twice goal net.ops mid.ops result.ops first.no_worse.t_gates second.no_worse.t_gates first.no_worse.cnots second.no_worse.cnots;
+      };
+    }
 
 -- ---- operations that stand for others
 
@@ -72,3 +75,33 @@ standing-keeps net ops valid few stands = record {
       ∙ sym (doubled-none _);
   hadamards = omega (arith, stands.hadamards);
 }
+
+-- ---- from the network that a goal begins with
+
+abbrev started : Bool → Network → Network
+started blocks net = if blocks then record net { ops = in_blocks net.ops } else net
+
+rescaled : (blocks : Bool) (net result : Network) → IsNetwork net → KeepsAmplitudes (started blocks net) result → Rescaled net result
+rescaled false net result valid keeps = keeps-rescaled net result keeps
+rescaled true net result valid keeps = record {
+  up = gate_count net.ops;
+  down = keeps.pairs;
+  amplitudes = λ x y len. sym (blocks_amplitude net.lines net.ops x y len valid.fitting) ∙ keeps.amplitudes x y len;
+  lines = keeps.lines;
+  hadamards = omega (arith, blocks_count_h net.ops, keeps.hadamards);
+}
+
+none_left : (blocks : Bool) (net result : Network) → gate_count result.ops ≤ gate_count (started blocks net).ops → IsTrue blocks → gate_count result.ops ≡ 0
+none_left true net result few is = omega (arith, few, blocks_plain net.ops)
+none_left false net result few is = absurd (false≢true is)
+
+pub reduction-by : (goal : Goal) (net result : Network) → IsNetwork net → Improves goal (begun goal net) result → IsReductionBy goal net result
+reduction-by goal net result valid improves =
+    let blocks : Bool = takes_blocks goal net.ops in
+    let scale : Rescaled net result = rescaled blocks net result valid improves.keeps in record {
+      improves = improves;
+      plain = none_left blocks net result improves.no_worse.three_lines;
+      amplitudes = rescaled-same net result scale;
+      denotes = rescaled-denotes net result scale;
+      carries = rescaled-carries net result scale;
+    }

@@ -1,13 +1,13 @@
 -- Reductions compose: folding and joining keep all amplitudes, and cancelling all but factors of two.
-use Rattle.std.proofs.Common.{◌≡◌, ◌+◌, ap, sym, ◌∙◌, arith}
+use Rattle.std.proofs.Common.{◌≡◌, ◌+◌, ap, sym, refl, ◌∙◌, arith}
 use Rattle.rv_net.specs.Cyclotomic.{doubled}
-use Rattle.rv_net.specs.Op.{Network}
+use Rattle.rv_net.specs.Op.{IsNetwork, Network}
 use Rattle.rv_fold.specs.Folded.{IsFoldingOf}
 use Rattle.rv_pairs.specs.Cancelled.{IsCancellingOf, IsPair, Keeps}
 use Rattle.rv_turns.specs.Joined.{IsJoiningOf}
 use Rattle.rv_reduce.specs.ByGoal.{KeepsAmplitudes}
 use Rattle.rv_reduce.specs.Reduced.{IsReductionOf}
-use Rattle.rv_reduce.proofs.Carrying.{keeps-carries, keeps-denotes}
+use Rattle.rv_reduce.proofs.Carrying.{Rescaled, keeps-rescaled, rescaled-carries, rescaled-denotes}
 use Rattle.rv_net.proofs.Cyclotomic.{doubled-more, doubled-none}
 
 keeps-keeps : (net mid result : Network) → Keeps net mid → Keeps mid result → Keeps net result
@@ -58,8 +58,8 @@ amplitudes-kept net result keeps = record {
 
 reduction : (net result : Network) → Keeps net result → ¬ IsPair result.ops → IsReductionOf net result
 reduction net result keeps settled =
-    let kept = amplitudes-kept net result keeps in
-    record { keeps = keeps; settled = settled; denotes = keeps-denotes net result kept; carries = keeps-carries net result kept }
+    let scale : Rescaled net result = keeps-rescaled net result (amplitudes-kept net result keeps) in
+    record { keeps = keeps; settled = settled; denotes = rescaled-denotes net result scale; carries = rescaled-carries net result scale }
 
 pub cancelling-reduces : (net result : Network) → IsCancellingOf net result → IsReductionOf net result
 cancelling-reduces net result c = reduction net result c.keeps c.settled
@@ -67,6 +67,23 @@ cancelling-reduces net result c = reduction net result c.keeps c.settled
 -- a reduction after another
 pub reduces-twice : (net mid result : Network) → IsReductionOf net mid → IsReductionOf mid result → IsReductionOf net result
 reduces-twice net mid result first second = reduction net result (keeps-keeps net mid result first.keeps second.keeps) second.settled
+
+pub keeps-reduces : (net mid result : Network) → Keeps net mid → IsReductionOf mid result → IsReductionOf net result
+keeps-reduces net mid result first second = reduction net result (keeps-keeps net mid result first second.keeps) second.settled
+
+pub reduces-itself : (net : Network) → IsNetwork net → ¬ IsPair net.ops → IsReductionOf net net
+reduces-itself net valid settled =
+    reduction net net
+    (record {
+      pairs = 0;
+      lines = refl;
+      valid = valid;
+      amplitudes = λ x y len. sym (doubled-none _);
+      hadamards = omega arith;
+      operations = omega arith;
+      t_gates = omega arith;
+      three_lines = omega arith;
+    }) settled
 
 -- one round
 pub round-reduces : (net folded joined result : Network) → IsFoldingOf net folded → IsJoiningOf folded joined → IsCancellingOf joined result → IsReductionOf net result

@@ -1,3 +1,4 @@
+pub mod Blocks
 pub mod Carrying
 pub mod Laws
 pub mod ByGoal

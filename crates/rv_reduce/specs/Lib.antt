@@ -1,4 +1,5 @@
 pub mod Reduced
+pub mod Blocks
 pub mod Cnots
 pub mod ByGoal
 pub mod StandsFor

@@ -1,9 +1,11 @@
-ghost use Rattle.std.specs.Prelude.{◌≡◌, IfOk, IfSome};
-ghost use Rattle.rv_reduce.specs.ByGoal.{IsReductionBy, KeepsAmplitudes};
+ghost use Rattle.std.specs.Prelude.{IfOk, IfSome};
+ghost use Rattle.rv_reduce.specs.ByGoal.{Improves, IsReductionBy, KeepsAmplitudes};
 
+use crate::Goal;
+use crate::expanding::begun;
 use crate::measures::is_no_worse;
 use crate::pieces::found_for;
-use crate::{Goal, reduce};
+use crate::reducing::shortened;
 use rv_hadamards::fewer_hadamards;
 use rv_net::{MOST_OPS, Net};
 use std::alloc::{AllocError, Global};
@@ -11,19 +13,10 @@ use std::alloc::{AllocError, Global};
 // How often a better network is searched for.
 const ROUNDS: u16 = 3;
 
-fn copy(alloc: Global, net: &Net) -> Result<Net, AllocError>
-    ensures { IfOk result (λ copy. copy ≡ net.now) }
-{
-    net.recall_invariant();
-    let mut ops = Vec::with_capacity(alloc, net.ops().len())?;
-    ops.extend_from_slice(net.ops())?;
-    Ok(Net::of_ops(net.lines(), ops))
-}
-
 // The second network, unless it is worse.
 fn no_worse(goal: Goal, before: Net, after: Net) -> Net
     requires { KeepsAmplitudes before after }
-    ensures { IsReductionBy goal before result }
+    ensures { Improves goal before result }
 {
     before.recall_invariant();
     if is_no_worse(goal, &before, &after) {
@@ -35,15 +28,15 @@ fn no_worse(goal: Goal, before: Net, after: Net) -> Net
 
 // With what cancels and what is joined left out.
 fn tidied(alloc: Global, goal: Goal, net: Net) -> Result<Net, AllocError>
-    ensures { IfOk result (IsReductionBy goal net) }
+    ensures { IfOk result (Improves goal net) }
 {
-    let reduced = reduce(alloc, &net)?;
+    let reduced = shortened(alloc, &net)?;
     Ok(no_worse(goal, net, reduced))
 }
 
 // With fewer H.
 fn opened(alloc: Global, goal: Goal, net: Net) -> Result<Net, AllocError>
-    ensures { IfOk result (IsReductionBy goal net) }
+    ensures { IfOk result (Improves goal net) }
 {
     let fewer = fewer_hadamards(alloc, &net)?;
     Ok(no_worse(goal, net, fewer))
@@ -70,7 +63,7 @@ fn found(
 
 // What a search finds, where it is the same and no worse.
 fn searched(alloc: Global, goal: Goal, net: Net, effort: u16, seed: u16) -> Result<Net, AllocError>
-    ensures { IfOk result (IsReductionBy goal net) }
+    ensures { IfOk result (Improves goal net) }
 {
     net.recall_invariant();
     match found(alloc, goal, &net, effort, seed)? {
@@ -79,9 +72,30 @@ fn searched(alloc: Global, goal: Goal, net: Net, effort: u16, seed: u16) -> Resu
     }
 }
 
-/// A network with the amplitudes of this one, but for a factor of two for each pair of `H` less. It has no more of what
+// What is found in rounds, each from the best so far.
+fn improved(
+    alloc: Global,
+    goal: Goal,
+    begun: Net,
+    effort: u16,
+    seed: u16,
+) -> Result<Net, AllocError>
+    ensures { IfOk result (Improves goal begun) }
+{
+    let reduced = tidied(alloc, goal, begun)?;
+    let opened = opened(alloc, goal, reduced)?;
+    let mut best = tidied(alloc, goal, opened)?;
+    for round in 0..ROUNDS {
+        let other = searched(alloc, goal, best, effort, seed.wrapping_add(round))?;
+        best = tidied(alloc, goal, other)?;
+    }
+    Ok(best)
+}
+
+/// A network with the amplitudes of this one, where the root of two is divided out of each `H`. It has no more of what
 /// the goal names, no more T, no more Toffoli and Fredkin gates, and no more CNOT, unless T is the goal and there are
-/// fewer.
+/// fewer. Where a goal counts more than operations, Toffoli and Fredkin gates are counted as their exact blocks of
+/// Clifford and T operations, and none is left, unless the blocks were too many.
 ///
 /// More effort and another seed may find a better one. The only refusal is want of memory.
 pub fn reduce_for(
@@ -93,13 +107,8 @@ pub fn reduce_for(
 ) -> Result<Net, AllocError>
     ensures { IfOk result (IsReductionBy goal net.now) }
 {
-    let given = copy(alloc, net)?;
-    let reduced = tidied(alloc, goal, given)?;
-    let opened = opened(alloc, goal, reduced)?;
-    let mut best = tidied(alloc, goal, opened)?;
-    for round in 0..ROUNDS {
-        let other = searched(alloc, goal, best, effort, seed.wrapping_add(round))?;
-        best = tidied(alloc, goal, other)?;
-    }
+    net.recall_invariant();
+    let begun = begun(alloc, goal, net)?;
+    let best = improved(alloc, goal, begun, effort, seed)?;
     Ok(best)
 }

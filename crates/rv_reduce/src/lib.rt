@@ -5,6 +5,7 @@
 #![tactic(auto)]
 
 mod by_goal;
+mod expanding;
 mod goal;
 mod measures;
 mod pieces;

@@ -1,9 +1,13 @@
 ghost use Rattle.std.specs.Prelude.{IfOk};
 ghost use Rattle.rv_fold.specs.Folded.{IsFoldingOf};
+ghost use Rattle.rv_pairs.specs.Cancelled.{IsPair};
 ghost use Rattle.rv_reduce.specs.Reduced.{IsReductionOf};
 ghost use Rattle.rv_turns.specs.Joined.{IsJoiningOf};
 
+use crate::Goal;
+use crate::measures::is_no_worse;
 use rv_fold::fold;
+use rv_hadamards::fewer_hadamards;
 use rv_net::Net;
 use rv_pairs::cancel;
 use rv_turns::join_turns;
@@ -45,11 +49,8 @@ fn is_worth(before: usize, after: usize, cancelled: usize) -> bool {
     after < before && (before < SHORT || cancelled > before / 100)
 }
 
-/// A network with the amplitudes of this one, but for a factor of two for each pair of `H` less, with no more
-/// operations and no more T, and with nothing left to cancel.
-///
-/// The only refusal is want of memory.
-pub fn reduce(alloc: Global, net: &Net) -> Result<Net, AllocError>
+// In rounds, with nothing left to cancel.
+pub(crate) fn shortened(alloc: Global, net: &Net) -> Result<Net, AllocError>
     ensures { IfOk result (IsReductionOf net.now) }
 {
     let mut reduced = cancel(alloc, net)?;
@@ -63,4 +64,34 @@ pub fn reduce(alloc: Global, net: &Net) -> Result<Net, AllocError>
         }
     }
     Ok(reduced)
+}
+
+// The same from a network with fewer `H`, unless there is none or it leads to a worse one.
+fn opened(alloc: Global, net: Net) -> Result<Net, AllocError>
+    requires { ¬ IsPair net.ops }
+    ensures { IfOk result (IsReductionOf net) }
+{
+    net.recall_invariant();
+    let fewer = fewer_hadamards(alloc, &net)?;
+    if fewer.ops().len() == net.ops().len() {
+        return Ok(net);
+    }
+    let other = shortened(alloc, &fewer)?;
+    if is_no_worse(Goal::Ops, &net, &other) {
+        Ok(other)
+    } else {
+        Ok(net)
+    }
+}
+
+/// A network with the amplitudes of this one, but for a factor of two for each pair of `H` less, with no more
+/// operations and no more T, and with nothing left to cancel.
+///
+/// The only refusal is want of memory.
+pub fn reduce(alloc: Global, net: &Net) -> Result<Net, AllocError>
+    ensures { IfOk result (IsReductionOf net.now) }
+{
+    let reduced = shortened(alloc, net)?;
+    let opened = opened(alloc, reduced)?;
+    Ok(opened)
 }

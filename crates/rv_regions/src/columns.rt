@@ -370,24 +370,30 @@ impl Step {
             let Some(group) = self.groups.get(place).copied() else {
                 return Ok(());
             };
-            let is_enough = group.most <= self.best.score || is_quick && self.best.score > 0;
-            if is_enough || self.left == 0 {
+            if is_quick && self.best.score > 0 || self.left == 0 {
                 return Ok(());
             }
-            self.try_group(group, random)?;
+            if group.most > self.best.score {
+                self.try_group(group, random)?;
+            }
         }
         Ok(())
     }
 
-    /// Takes the best step. Whether there is one, and how much work is left.
+    /// Takes the best step, of those that are as good the first one in the usual order or in any. Whether there is
+    /// one, and how much work is left.
     pub(crate) fn take(
         &mut self,
         alloc: Global,
+        is_shuffled: bool,
         random: &mut Random,
     ) -> Result<(bool, usize), AllocError> {
         self.begin(alloc)?;
         self.push_pairs()?;
         self.push_groups(random)?;
+        if is_shuffled {
+            self.groups.sort_unstable_by_key(|group| group.tie);
+        }
         self.look(random)?;
         Ok((self.apply()?, self.left))
     }

@@ -29,6 +29,13 @@ impl Plan {
         }
     }
 
+    pub(crate) fn copy(&self) -> Result<Plan, AllocError> {
+        Ok(Plan {
+            flips: self.flips.clone()?,
+            ends: self.ends.clone()?,
+        })
+    }
+
     pub(crate) fn push(&mut self, control: u8, target: u8) -> Result<(), AllocError> {
         self.flips.push(Flip { control, target })?;
         Ok(())

@@ -1,8 +1,10 @@
 use crate::absorb::absorb;
 use crate::complete::complete;
 use crate::flow::{Flow, flow_of};
+use crate::plan::Plan;
 use crate::polish::Polish;
-use crate::table::table_of;
+use crate::random::Random;
+use crate::table::{Table, table_of};
 use crate::todd::Lowering;
 use crate::writing::written;
 use rv_net::Op;
@@ -33,6 +35,14 @@ const MORE_WINDOWS: usize = 2;
 const MOST_ROUNDS: usize = 4;
 
 const FEW_ROUNDS: usize = 2;
+
+// So often the plan of a short network is renewed in the end for each effort, where T are to be fewer.
+const RENEWALS: usize = 2;
+
+// One term in so many is left out at a time, with so many windows for each flip.
+const RENEWED: usize = 32;
+
+const RENEWING: usize = 4;
 
 fn has_three_lines(op: Op) -> bool {
     match op {
@@ -75,6 +85,9 @@ fn is_better(ops: &[Op], others: &[Op]) -> bool {
 // Work on so many words for each T and effort, in a network of one piece.
 const WORDS: usize = 1 << 17;
 
+// So many searches for fewer odd terms for each effort.
+const SEARCHES: usize = 20;
+
 // What a search may take: how often a network is begun, times its operations; how many windows there are for each flip;
 // how many searches for fewer odd terms, and how many words these may work on for each of them.
 #[derive(Clone, Copy)]
@@ -85,6 +98,7 @@ struct Effort {
     words: usize,
     seed: u64,
     lightens: bool,
+    renewals: usize,
 }
 
 // For a network of so many pieces. Sums that are new to the lines take more windows.
@@ -94,10 +108,11 @@ fn effort_of(goal: Goal, effort: usize, pieces: usize, seed: u64) -> Effort {
         Goal::T => Effort {
             starts: 2048,
             windows: effort.saturating_mul(if is_one { 2 } else { 1 }),
-            searches: effort.saturating_mul(2),
+            searches: effort.saturating_mul(SEARCHES),
             words: effort.saturating_mul(WORDS) / pieces.max(1),
             seed,
             lightens: true,
+            renewals: effort.saturating_mul(RENEWALS),
         },
         Goal::Cx => Effort {
             starts: 4096,
@@ -106,6 +121,7 @@ fn effort_of(goal: Goal, effort: usize, pieces: usize, seed: u64) -> Effort {
             words: 0,
             seed,
             lightens: false,
+            renewals: 0,
         },
     }
 }
@@ -124,6 +140,9 @@ fn lower(alloc: Global, flow: &mut Flow, effort: Effort) -> Result<(), AllocErro
         flow.set_terms(&first)?;
         let seed = effort.seed.wrapping_mul(1009).wrapping_add(number as u64);
         let mut lowering = Lowering::new(alloc, flow.lines, seed, left, false)?;
+        if number % 2 == 1 {
+            lowering.shuffle();
+        }
         lowering.run(alloc, flow)?;
         left = lowering.left();
         let is_vain = least.0 == most && number >= effort.searches / 4;
@@ -143,6 +162,42 @@ fn lower(alloc: Global, flow: &mut Flow, effort: Effort) -> Result<(), AllocErro
     Ok(())
 }
 
+fn polished(
+    alloc: Global,
+    flow: &Flow,
+    table: &Table,
+    plan: Plan,
+    seed: u64,
+    rounds: usize,
+) -> Result<Plan, AllocError> {
+    let mut polish = Polish::new(alloc, flow, table, plan, seed)?;
+    polish.run(flow, table, rounds)?;
+    Ok(polish.into_plan())
+}
+
+// A plan that is polished without some of the terms, and then with all of them: those stand where they fit best. A sign
+// wants no flips, so that is what they are for a time.
+fn renewed(
+    alloc: Global,
+    flow: &mut Flow,
+    table: &Table,
+    plan: &Plan,
+    seed: u64,
+) -> Result<Plan, AllocError> {
+    let terms = flow.terms.clone()?;
+    let mut random = Random::new(seed);
+    for place in 0..flow.terms.len() {
+        if random.below(RENEWED) == 0 {
+            flow.set_power(place, 4);
+        }
+    }
+    let rounds = plan.len().saturating_mul(RENEWING);
+    let some = polished(alloc, flow, table, plan.copy()?, seed, rounds)?;
+    flow.set_terms(&terms)?;
+    let whole = complete(alloc, flow, table, some)?;
+    polished(alloc, flow, table, whole, seed, rounds.saturating_mul(2))
+}
+
 fn reworked(
     alloc: Global,
     lines: usize,
@@ -155,9 +210,14 @@ fn reworked(
     let table = table_of(alloc, &flow)?;
     let plan = complete(alloc, &flow, &table, plan)?;
     let rounds = plan.len().max(FEW_FLIPS).saturating_mul(effort.windows);
-    let mut polish = Polish::new(alloc, &flow, &table, plan, effort.seed)?;
-    polish.run(&flow, &table, rounds)?;
-    let plan = polish.into_plan();
+    let mut plan = polished(alloc, &flow, &table, plan, effort.seed, rounds)?;
+    for number in 0..effort.renewals {
+        let seed = effort.seed.wrapping_mul(1013).wrapping_add(number as u64);
+        let next = renewed(alloc, &mut flow, &table, &plan, seed)?;
+        if next.len() <= plan.len() {
+            plan = next;
+        }
+    }
     written(alloc, &flow, &table, &plan)
 }
 
@@ -205,6 +265,7 @@ fn improved(
     let starts = (effort.starts / ops.len().max(1)).clamp(1, MOST_STARTS);
     let mut best = ops.to_vec(alloc)?;
     let mut start = effort;
+    start.renewals = 0;
     start.searches = effort.searches.saturating_add(starts.saturating_sub(1)) / starts.max(1);
     start.words = effort.words / starts.max(1);
     for number in 0..starts {
@@ -217,7 +278,14 @@ fn improved(
     }
     let mut last = effort;
     last.windows = effort.windows.saturating_mul(MORE_WINDOWS);
-    in_rounds(alloc, lines, &best, last, MOST_ROUNDS)
+    last.renewals = 0;
+    let best = in_rounds(alloc, lines, &best, last, MOST_ROUNDS)?;
+    if effort.renewals == 0 || starts < 2 {
+        return Ok(best);
+    }
+    last.windows = effort.windows;
+    last.renewals = effort.renewals;
+    in_rounds(alloc, lines, &best, last, 1)
 }
 
 fn append(list: &mut Vec<Op>, ops: &[Op]) -> Result<(), AllocError> {

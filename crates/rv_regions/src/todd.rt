@@ -25,6 +25,7 @@ pub(crate) struct Lowering {
     random: Random,
     left: usize,
     lightens: bool,
+    is_shuffled: bool,
 }
 
 fn pair(low: usize, high: usize) -> usize {
@@ -54,7 +55,13 @@ impl Lowering {
             random: Random::new(seed),
             left,
             lightens,
+            is_shuffled: false,
         })
+    }
+
+    /// Takes steps in any order.
+    pub(crate) fn shuffle(&mut self) {
+        self.is_shuffled = true;
     }
 
     pub(crate) fn left(&self) -> usize {
@@ -129,7 +136,7 @@ impl Lowering {
         let (is_less, left) = if is_lightening {
             step.take_lighter(alloc, &sets, &mut self.random)?
         } else {
-            step.take(alloc, &mut self.random)?
+            step.take(alloc, self.is_shuffled, &mut self.random)?
         };
         self.left = left;
         let mut found = step.into_columns();
