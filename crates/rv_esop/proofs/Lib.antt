@@ -1,3 +1,4 @@
+pub mod AllFlips
 mod Marks
 mod Rewriting
 pub mod inside

@@ -2,7 +2,7 @@
 use Rattle.std.specs.Prelude.{ℕ, ◌≡◌, ◌≤◌, Bool, false, List, [], ◌∷◌, ◌++◌, All, length, if◌then◌else◌, count_ones}
 use Rattle.std.specs.List.{sum_by}
 use Rattle.rv_gate.specs.Circuit.{Cascade}
-use Rattle.rv_gate.specs.Gate.{run, controls, xor}
+use Rattle.rv_gate.specs.Gate.{IsFlip, run, controls, xor}
 use Rattle.rv_gate.specs.declared.gate.Shape.{Shape}
 use Rattle.rv_pla.specs.Cube.{matches}
 use Rattle.rv_pla.specs.declared.cube.Cube.{Cube}
@@ -36,9 +36,9 @@ gate_cost goal gate = flip_cost goal (count_ones (controls gate))
 abbrev pub cost_of : Goal → List Shape → ℕ
 cost_of goal gates = sum_by (gate_cost goal) gates
 
--- no gate has more controls than a flip of a cube can have
+-- each gate is a flip, under no more controls than one of a cube can have
 abbrev pub AreShort : List Shape → Type 0
-AreShort gates = All (λ gate. count_ones (controls gate) ≤ MOST_INPUTS) gates
+AreShort gates = All (λ gate. IsFlip gate × (count_ones (controls gate) ≤ MOST_INPUTS)) gates
 
 -- a circuit on the lines for so many inputs and outputs
 abbrev pub IsOnLines : ℕ → ℕ → Cascade → Type 0

@@ -1,6 +1,6 @@
 // Flips of many controls in parts, over lines that they don't touch, which are given back whatever they hold.
 ghost use Rattle.std.specs.Prelude.{◌≡◌, ◌≤◌, ◌++◌, ◌∷◌, [], length, All, OnOk, IfOk};
-ghost use Rattle.rv_gate.specs.Gate.{FitsIn};
+ghost use Rattle.rv_gate.specs.Gate.{FitsIn, IsFlip};
 ghost use Rattle.rv_esop.specs.Parts.{ActSame, AppendsSame, Rewrites};
 ghost use Rattle.rv_esop.specs.Shared.{cost_of};
 
@@ -107,7 +107,9 @@ fn in_parts(alloc: Global, circuit: &Circuit, goal: Goal) -> Result<Circuit, Pus
 /// it doesn't touch, and these end as they began, whatever they hold. It is the circuit itself where there would be
 /// more than `MOST_GATES` gates.
 pub fn with_parts(alloc: Global, circuit: Circuit, goal: Goal) -> Result<Circuit, AllocError>
+    requires { All IsFlip circuit.gates }
     ensures same { IfOk result (Rewrites circuit) }
+    ensures flips { IfOk result (λ c. All IsFlip c.gates) }
     ensures no_dearer { IfOk result (λ c. cost_of goal c.gates ≤ cost_of goal circuit.gates) }
 {
     if !matches!(goal, Goal::Quantum) {

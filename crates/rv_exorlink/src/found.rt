@@ -4,8 +4,8 @@ ghost use Rattle.rv_gate.specs.Word.{has, word_of};
 ghost use Rattle.rv_pla.specs.Cube.{IsCube};
 ghost use Rattle.rv_pla.specs.FreeEntries.{IsAllowed};
 ghost use Rattle.rv_cube.specs.Esop.{IsTerm};
-ghost use Rattle.rv_cube.specs.First.{values_of};
-ghost use Rattle.rv_cube.specs.ReductionFor.{IsRight};
+ghost use Rattle.rv_cube.specs.First.{first_of, values_of};
+ghost use Rattle.rv_cube.specs.ReductionFor.{IsRight, reduced_for};
 ghost use Rattle.rv_cube.specs.declared.list.TheConstants.{MOST_CUBES};
 ghost use Rattle.rv_exorlink.specs.Found.{IsFound, MayReplace};
 ghost use Rattle.rv_exorlink.specs.Weight.{IsNoWorse};
@@ -189,21 +189,23 @@ fn first_list(
 }
 
 /// A list of cubes for a PLA, found by a search for one that weighs little by the goal. The value has the bit of each
-/// entry that isn't free. It is no worse than the reduced list, with which the search begins.
+/// entry that isn't free. It is no worse than the reduced list, which is given, and with which the search begins.
 ///
 /// The search ends after `effort` rounds without gain, and with it its work is bounded; 0 is no search. `seed` chooses
 /// the random numbers. Fails only for want of memory.
 pub fn found_list(
     alloc: Global,
     pla: &Pla,
+    reduced: &CubeList,
     goal: Goal,
     effort: u16,
     seed: u16,
 ) -> Result<CubeList, AllocError>
+    requires list { reduced.now ≡ record (first_of pla.now) { cubes = reduced_for pla.now (first_of pla.now).cubes } }
+    requires right { IsRight pla.now reduced.now.cubes }
     ensures { IfOk result (IsFound goal pla.now) }
 {
-    let mut reduced = CubeList::from_pla(alloc, pla)?;
-    reduced.reduce_for(pla)?;
+    reduced.recall_invariant();
     let free = Free::of(alloc, pla)?;
     let mut cubes = first_list(alloc, pla, &free, reduced.cubes(), goal)?;
     shorten(alloc, &mut cubes, pla.inputs(), &free, goal, effort, seed)?;

@@ -27,8 +27,7 @@ returns c =
     c.in_ok-cubes.ensures c.inputs.ensures.value
     c.in_ok-free.ensures c.in_ok-shorten.ensures.same c.in_ok-shorten.ensures.better in
     let e : c.cubes.result.now ≡ reduced_for pla (first_of pla).cubes =
-    c.cubes.ensures.value ∙ ap (λ (l : Esop). l.cubes) c.in_ok-reduce_for.ensures.ok
-    ∙ ap (λ (l : Esop). reduced_for pla l.cubes) c.in_ok-reduced.ensures.list in
+    c.cubes.ensures.value ∙ ap (λ (l : Esop). l.cubes) c.requires.list in
     let P : List Cube → Type 0 = λ l. MayReplace c.args.goal pla l new in
     found c.args.goal pla new c.from_terms.result (subst P e m)
     (c.from_terms.ensures
