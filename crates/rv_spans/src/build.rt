@@ -247,14 +247,12 @@ fn put_outputs(
     Ok(Some(places))
 }
 
-// T gates of gates, about, and a little for each gate.
+// T gates of gates, about.
 fn price_of(gates: &[Gate]) -> u64 {
     let mut price = 0u64;
     for gate in gates {
-        let t = t_of(gate.controls().count_ones() as usize).unsigned_abs();
-        price = price
-            .saturating_add(t.saturating_mul(1024))
-            .saturating_add(1);
+        let t = t_of(gate.controls().count_ones() as usize);
+        price = price.saturating_add(t.unsigned_abs());
     }
     price
 }

@@ -1,8 +1,10 @@
 // Many short searches, of which the best is kept.
 use crate::beam::{Beam, Way};
 use crate::build::{Found, built};
+use crate::count::counted;
 use crate::pack::{Weights, packed, store_of};
 use crate::random::Random;
+use crate::rows::multiplied;
 use crate::step::Step;
 use crate::task::Task;
 use crate::worth::{ONE, Scale};
@@ -18,7 +20,10 @@ const FIRST: u64 = 5;
 const WORK: u64 = 170_000_000;
 
 // The least price of a level.
-const T: u64 = 7 << 10;
+const T: u64 = 7;
+
+// So many circuits of the least price are kept.
+const MOST_FOUND: usize = 24;
 
 // Products have at most so many forms together, less one for each.
 const MOST_LEVEL: usize = 60;
@@ -136,23 +141,40 @@ fn level_of(steps: &[Step]) -> usize {
     level
 }
 
-// What was found so far, and the steps that make it.
+// What was found so far, all of the same price, and the steps that make the first of it.
 #[derive(Drop)]
 struct Record {
     steps: Vec<Step>,
-    found: Option<Found>,
+    found: Vec<Found>,
     level: usize,
     // so many turns in a row found nothing better, and the work that they did
     idle: usize,
     idle_work: u64,
+    // whether products were packed
+    has_packed: bool,
 }
 
 impl Record {
+    fn new(alloc: Global) -> Record {
+        Record {
+            steps: Vec::new(alloc),
+            found: Vec::new(alloc),
+            level: MOST_LEVEL,
+            idle: 0,
+            idle_work: 0,
+            has_packed: false,
+        }
+    }
+
     fn price(&self) -> u64 {
-        match &self.found {
+        match self.found.first() {
             None => u64::MAX,
             Some(found) => found.price,
         }
+    }
+
+    fn holds(&self, found: &Found) -> bool {
+        self.found.iter().any(|other| *other.gates == *found.gates)
     }
 
     // The first steps of those found, some of them: none where nothing was found.
@@ -189,7 +211,7 @@ impl Record {
         Ok(())
     }
 
-    // Keeps what steps make, where it is cheaper.
+    // Keeps what steps make, where it is cheaper, and besides the others where it is as cheap.
     fn keep(
         &mut self,
         alloc: Global,
@@ -202,10 +224,16 @@ impl Record {
         };
         if found.price < self.price() {
             self.steps = Vec::from_slice(alloc, steps)?;
-            self.level = level_of(steps).min((found.price.saturating_sub(T) / T) as usize);
-            self.found = Some(found);
+            self.level = level_of(steps).min((found.price.saturating_sub(1) / T) as usize);
             self.idle = 0;
             self.idle_work = 0;
+            self.found.clear();
+            self.found.push(found)?;
+        } else if found.price == self.price()
+            && self.found.len() < MOST_FOUND
+            && !self.holds(&found)
+        {
+            self.found.push(found)?;
         }
         Ok(())
     }
@@ -235,19 +263,23 @@ impl Record {
         };
         let mut beam = Beam::new(alloc, task, way, Vec::new(alloc))?;
         beam.run(alloc, task, random)?;
-        let more = self.pack(
-            alloc,
-            whole,
-            task,
-            most_dimension,
-            search.lines,
-            &beam,
-            random,
-        )?;
-        Ok(beam.work.max(1 << 16).saturating_add(more))
+        let mut work = beam.work.max(1 << 16);
+        for steps in &beam.ways {
+            let more = self.pack(
+                alloc,
+                whole,
+                task,
+                most_dimension,
+                search.lines,
+                steps,
+                random,
+            )?;
+            work = work.saturating_add(more);
+        }
+        Ok(work)
     }
 
-    // Keeps what the products of a beam over more coordinates make over these. Gives the work.
+    // Keeps what the products of steps over more coordinates make over these. Gives the work.
     fn pack(
         &mut self,
         alloc: Global,
@@ -255,32 +287,56 @@ impl Record {
         task: &Task,
         most_dimension: usize,
         lines: u8,
-        beam: &Beam,
+        steps: &[Step],
         random: &mut Random,
     ) -> Result<u64, AllocError> {
         let mut work = 0u64;
-        for steps in &beam.ways {
-            let Some(store) = store_of(alloc, task, steps)? else {
-                continue;
-            };
-            for weights in WEIGHTS {
-                let most = self.level;
-                let found = packed(
-                    alloc,
-                    task,
-                    &store,
-                    most_dimension,
-                    weights,
-                    most,
-                    random,
-                    &mut work,
-                )?;
-                if let Some(own) = found {
-                    self.keep(alloc, whole, lines, &own)?;
-                }
+        let Some(store) = store_of(alloc, task, steps)? else {
+            return Ok(0);
+        };
+        for weights in WEIGHTS {
+            let most = self.level;
+            let found = packed(
+                alloc,
+                task,
+                &store,
+                most_dimension,
+                weights,
+                most,
+                random,
+                &mut work,
+            )?;
+            if let Some(own) = found {
+                self.has_packed = true;
+                self.keep(alloc, whole, lines, &own)?;
             }
         }
         Ok(work)
+    }
+
+    // Keeps what adding rows makes, if it is enough.
+    fn multiply(&mut self, alloc: Global, whole: &Task, lines: u8) -> Result<(), AllocError> {
+        match multiplied(alloc, whole)? {
+            Some(steps) => self.keep(alloc, whole, lines, &steps),
+            None => Ok(()),
+        }
+    }
+
+    // Keeps what counting makes, if it is enough. Gives the work.
+    fn count(
+        &mut self,
+        alloc: Global,
+        whole: &Task,
+        task: &Task,
+        most_dimension: usize,
+        lines: u8,
+        random: &mut Random,
+    ) -> Result<u64, AllocError> {
+        let Some(steps) = counted(alloc, task)? else {
+            return Ok(0);
+        };
+        self.keep(alloc, whole, lines, &steps)?;
+        self.pack(alloc, whole, task, most_dimension, lines, &steps, random)
     }
 }
 
@@ -291,21 +347,18 @@ fn search_on(
     task: &Task,
     most_dimension: usize,
     search: Search,
+    record: Record,
 ) -> Result<Record, AllocError> {
     let mut random = Random::new(u64::from(search.seed).wrapping_add(FIRST));
-    let mut record = Record {
-        steps: Vec::new(alloc),
-        found: None,
-        level: MOST_LEVEL,
-        idle: 0,
-        idle_work: 0,
-    };
+    let mut record = record;
     let effort = usize::from(search.effort);
     let most_work = u64::from(search.effort).saturating_mul(WORK);
-    let mut left = most_work;
+    let lines = search.lines;
+    let work = record.count(alloc, whole, task, most_dimension, lines, &mut random)?;
+    let mut left = most_work.saturating_sub(work);
     for turn in 0..WIDE_TURNS {
         // Where nothing was packed at first, there are too many products.
-        if left > most_work / 2 && (turn == 0 || record.found.is_some()) {
+        if left > most_work / 2 && (turn == 0 || record.has_packed) {
             let work = record.widely(
                 alloc,
                 whole,
@@ -339,14 +392,24 @@ fn search_on(
 }
 
 /// The cheapest gates that are found for a table, on lines of which the first are its inputs and the others begin
-/// with 0. Nothing promises that they do what is asked.
-pub fn found(alloc: Global, whole: &Task, search: Search) -> Result<Option<Found>, AllocError> {
+/// with 0: those of several circuits that are as cheap. Nothing promises that they do what is asked.
+pub fn all_found(alloc: Global, whole: &Task, search: Search) -> Result<Vec<Found>, AllocError> {
     let task = whole.independent(alloc)?;
     let lines = usize::from(search.lines);
     let others = whole.outputs.saturating_sub(task.outputs);
     let most_dimension = lines.saturating_sub(others).max(whole.inputs);
-    if most_dimension > MOST_COORDINATES || lines < whole.inputs || lines > 64 {
-        return Ok(None);
+    let mut record = Record::new(alloc);
+    if lines < whole.inputs || lines > 64 {
+        return Ok(record.found);
     }
-    Ok(search_on(alloc, whole, &task, most_dimension, search)?.found)
+    record.multiply(alloc, whole, search.lines)?;
+    if most_dimension > MOST_COORDINATES {
+        return Ok(record.found);
+    }
+    Ok(search_on(alloc, whole, &task, most_dimension, search, record)?.found)
+}
+
+/// The gates of one of them.
+pub fn found(alloc: Global, whole: &Task, search: Search) -> Result<Option<Found>, AllocError> {
+    Ok(all_found(alloc, whole, search)?.pop())
 }
