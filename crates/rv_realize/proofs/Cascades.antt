@@ -1,9 +1,9 @@
 -- The cascade of a list of cubes gives what a table asks for which the list is right.
-use Rattle.std.proofs.Common.{◌≡◌, ◌∙◌, ℕ, zero, suc, ◌+◌, ◌<◌, ◌≤◌, Bool, true, false, List, [], ◌∷◌, ◌++◌, length, replicate, ap, ap₂, refl, sym, subst, arith, length-append}
+use Rattle.std.proofs.Common.{◌≡◌, ◌∙◌, ℕ, zero, suc, ◌+◌, ◌<◌, ◌≤◌, Bool, true, false, List, ◌++◌, length, replicate, ap, ap₂, sym, subst, arith, length-append}
 use Rattle.std.specs.Prelude.{IsTrue}
 use Rattle.std.proofs.lemmas.List.{length-replicate}
 use Rattle.rv_gate.specs.Circuit.{Cascade}
-use Rattle.rv_gate.specs.Gate.{run, xor}
+use Rattle.rv_gate.specs.Gate.{run}
 use Rattle.rv_gate.specs.Marks.{with_constants, without_garbage}
 use Rattle.rv_gate.specs.Word.{bit_of, has}
 use Rattle.rv_gate.specs.declared.circuit.Mark.TheVariants.{Input, Zero}

@@ -4,33 +4,33 @@ use Rattle.std.specs.Prelude.{All}
 use Rattle.std.proofs.Math.Seq.{take-suc}
 use Rattle.std.proofs.lemmas.List.{take_all}
 use Rattle.std.proofs.lemmas.List.Elements.{All-append, All-cons, All-head, All-tail, All-nil}
-use Rattle.rv_gate.specs.Circuit.{Cascade}
 use Rattle.rv_pla.specs.Pla.{TwoLevel}
-use Rattle.rv_realize.specs.Realized.{AreOnMore, HasFewer, HasMore, IsRealized}
+use Rattle.rv_realize.specs.Realized.{AreOnMore, HasFewer, HasMore, IsPoint}
+use Rattle.rv_realize.specs.declared.points.Point.{Point}
 
-alone : (n : ℕ) (c : Cascade) → HasMore n c → All (HasMore n) (c ∷ [])
+alone : (n : ℕ) (c : Point) → HasMore n c → All (HasMore n) (c ∷ [])
 alone n c more = All-cons (HasMore n) c [] more (All-nil (HasMore n))
 
-turned : (c d : Cascade) → HasFewer (length c.names) d → HasMore (length d.names) c
+turned : (c d : Point) → HasFewer (length c.circuit.names) d → HasMore (length d.circuit.names) c
 turned c d fewer = record { more = fewer.fewer }
 
-pub one : (c : Cascade) → AreOnMore (c ∷ [])
-one c = (All-nil (HasMore (length c.names)), tt)
+pub one : (c : Point) → AreOnMore (c ∷ [])
+one c = (All-nil (HasMore (length c.circuit.names)), tt)
 
-pub on_more : (cs : List Cascade) (c : Cascade) → AreOnMore cs → All (HasFewer (length c.names)) cs → AreOnMore (cs ++ c ∷ [])
+pub on_more : (cs : List Point) (c : Point) → AreOnMore cs → All (HasFewer (length c.circuit.names)) cs → AreOnMore (cs ++ c ∷ [])
 on_more [] c rising below = one c
 on_more (d ∷ rest) c rising below = (
-  All-append (HasMore (length d.names)) rest (c ∷ []) rising.0 (alone (length d.names) c (turned c d (All-head (HasFewer (length c.names)) d rest below))),
-  on_more rest c rising.1 (All-tail (HasFewer (length c.names)) d rest below),
+  All-append (HasMore (length d.circuit.names)) rest (c ∷ []) rising.0 (alone (length d.circuit.names) c (turned c d (All-head (HasFewer (length c.circuit.names)) d rest below))),
+  on_more rest c rising.1 (All-tail (HasFewer (length c.circuit.names)) d rest below),
 )
 
-pub realized_more : (pla : TwoLevel) (most : ℕ) (cs : List Cascade) (c : Cascade) → All (IsRealized pla most) cs → IsRealized pla most c
-    → All (IsRealized pla most) (cs ++ c ∷ [])
+pub realized_more : (pla : TwoLevel) (most : ℕ) (cs : List Point) (c : Point) → All (IsPoint pla most) cs → IsPoint pla most c
+    → All (IsPoint pla most) (cs ++ c ∷ [])
 realized_more pla most cs c all one =
-    All-append (IsRealized pla most) cs (c ∷ []) all (All-cons (IsRealized pla most) c [] one (All-nil (IsRealized pla most)))
+    All-append (IsPoint pla most) cs (c ∷ []) all (All-cons (IsPoint pla most) c [] one (All-nil (IsPoint pla most)))
 
 -- one more of them has fewer lines
-pub fewer_more : (n : ℕ) (cs : List Cascade) (k : ℕ) (c : Cascade) → k < length cs → c ≡ get_or cs k c → HasFewer n c
+pub fewer_more : (n : ℕ) (cs : List Point) (k : ℕ) (c : Point) → k < length cs → c ≡ get_or cs k c → HasFewer n c
     → All (HasFewer n) (take k cs) → All (HasFewer n) (take (k + 1) cs)
 fewer_more n cs k c lt is fewer so_far =
     let e : k + 1 ≡ suc k = omega arith in
@@ -38,5 +38,5 @@ fewer_more n cs k c lt is fewer so_far =
     (All-append (HasFewer n) (take k cs) (get_or cs k c ∷ []) so_far
     (All-cons (HasFewer n) (get_or cs k c) [] (subst (HasFewer n) is fewer) (All-nil (HasFewer n))))
 
-pub fewer_all : (n : ℕ) (cs : List Cascade) (k : ℕ) → length cs ≤ k → All (HasFewer n) (take k cs) → All (HasFewer n) cs
+pub fewer_all : (n : ℕ) (cs : List Point) (k : ℕ) → length cs ≤ k → All (HasFewer n) (take k cs) → All (HasFewer n) cs
 fewer_all n cs k le so_far = subst (All (HasFewer n)) (take_all k cs le) so_far

@@ -16,6 +16,7 @@ use Rattle.rv_perm.specs.Perm.{Computes}
 use Rattle.rv_perm.specs.declared.perm.TheConstants.{MOST_PERM_LINES}
 use Rattle.rv_pla.specs.FreeEntries.{HasNoFree}
 use Rattle.rv_pla.specs.Pla.{TwoLevel}
+use Rattle.rv_realize.specs.declared.points.Point.{Point}
 
 -- ---- tables
 
@@ -49,18 +50,23 @@ pub record IsTooLong (pla : TwoLevel) (most : ℕ) : Type 0 where
 
 -- ---- circuits on more and more lines
 
+-- the circuit realizes the table on no more lines than were asked for, and these are at most so many
+pub record IsPoint (pla : TwoLevel) (most : ℕ) (p : Point) : Type 0 where
+  pub realized : IsRealized pla p.lines p.circuit
+  pub few : p.lines ≤ most
+
 -- the circuit has fewer than n lines
-pub record HasFewer (n : ℕ) (c : Cascade) : Type 0 where
-  pub fewer : length c.names < n
+pub record HasFewer (n : ℕ) (p : Point) : Type 0 where
+  pub fewer : length p.circuit.names < n
 
 -- the circuit has more than n lines
-pub record HasMore (n : ℕ) (c : Cascade) : Type 0 where
-  pub more : n < length c.names
+pub record HasMore (n : ℕ) (p : Point) : Type 0 where
+  pub more : n < length p.circuit.names
 
 -- each circuit has more lines than those before it
-abbrev pub AreOnMore : List Cascade → Type 0
+abbrev pub AreOnMore : List Point → Type 0
 AreOnMore [] = Unit {0}
-AreOnMore (c ∷ rest) = All (HasMore (length c.names)) rest × AreOnMore rest
+AreOnMore (p ∷ rest) = All (HasMore (length p.circuit.names)) rest × AreOnMore rest
 
 -- ---- permutations
 

@@ -22,6 +22,6 @@ mod ways;
 
 pub use options::{RealizeFault, RealizeOptions};
 pub use perm::realize_perm;
-pub use points::curve;
+pub use points::{Point, curve};
 pub use rv_price::Goal;
 pub use table::realize;

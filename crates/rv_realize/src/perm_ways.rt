@@ -40,7 +40,7 @@ fn add_spans(
         effort: options.effort / 4,
         seed: options.seed,
     };
-    match by_spans(alloc, &task_of(alloc, spec)?, lines, search)? {
+    match by_spans(alloc, &task_of(alloc, spec)?, lines, search, options.goal)? {
         Some(circuit) => pool.add(circuit),
         None => Ok(()),
     }

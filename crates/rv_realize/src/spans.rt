@@ -1,9 +1,14 @@
 // The circuit of gates that a search over spans finds.
 use crate::cells::at;
 use crate::placing::Placing;
+use crate::rank::is_better;
 use rv_gate::{Circuit, Gate, MOST_LINES, Mark, Names};
-use rv_spans::{Found, Search, Task, found};
+use rv_price::Goal;
+use rv_spans::{Found, Search, Task, all_found};
 use std::alloc::{AllocError, Global};
+
+// So many searches find more than one that is as long.
+const TURNS: u16 = 2;
 
 // What a line is: an input, an output on no input's line, or one to work on.
 fn name_kind(placing: &Placing, inputs: u8, line: u8) -> u8 {
@@ -130,15 +135,48 @@ fn circuit_of(alloc: Global, inputs: u8, found: &Found) -> Result<Option<Circuit
     Ok(None)
 }
 
-/// The circuit that a search over spans finds on so many lines.
+// The better of two circuits, as far as there are any.
+fn better(
+    alloc: Global,
+    goal: Goal,
+    one: Option<Circuit>,
+    other: Option<Circuit>,
+) -> Option<Circuit> {
+    let Some(old) = one else {
+        return other;
+    };
+    match other {
+        Some(new) => {
+            if is_better(alloc, goal, &new, &old) {
+                Some(new)
+            } else {
+                Some(old)
+            }
+        }
+        None => Some(old),
+    }
+}
+
+/// The best circuit that searches over spans find on so many lines: several with other numbers, each with a part of the
+/// effort.
 pub(crate) fn by_spans(
     alloc: Global,
     task: &Task,
     inputs: u8,
     search: Search,
+    goal: Goal,
 ) -> Result<Option<Circuit>, AllocError> {
-    match found(alloc, task, search)? {
-        Some(found) => circuit_of(alloc, inputs, &found),
-        None => Ok(None),
+    let mut best = None;
+    for turn in 0..TURNS {
+        let own = Search {
+            effort: search.effort.div_ceil(TURNS),
+            seed: search.seed.wrapping_mul(TURNS).wrapping_add(turn),
+            ..search
+        };
+        for found in all_found(alloc, task, own)? {
+            let circuit = circuit_of(alloc, inputs, &found)?;
+            best = better(alloc, goal, best, circuit);
+        }
     }
+    Ok(best)
 }

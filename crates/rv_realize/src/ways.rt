@@ -98,7 +98,7 @@ fn add_spans(
             effort: part(options.effort, share),
             seed: options.seed,
         };
-        let found = by_spans(alloc, &task, pla.inputs(), search)?;
+        let found = by_spans(alloc, &task, pla.inputs(), search, options.goal)?;
         if found.is_some() || search.lines <= MOST_SPANNED {
             share = next_share(share);
         }
@@ -139,9 +139,10 @@ fn add_sums(
     if pla.inputs().saturating_add(pla.outputs()) > options.lines {
         return Ok(());
     }
-    add_cascade(pool, cascade(alloc, &reduced_list(alloc, pla)?))?;
+    let reduced = reduced_list(alloc, pla)?;
+    add_cascade(pool, cascade(alloc, &reduced))?;
     let goal = cube_goal(options.goal);
-    let list = found_list(alloc, pla, goal, options.effort, options.seed)?;
+    let list = found_list(alloc, pla, &reduced, goal, options.effort, options.seed)?;
     add_cascade(
         pool,
         shared_cascade(alloc, &list, goal, options.effort, options.seed),
