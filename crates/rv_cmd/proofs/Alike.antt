@@ -13,6 +13,7 @@ use Rattle.rv_words.specs.declared.command.Form.{Form}
 use Rattle.rv_words.specs.declared.command.ReportForm.{ReportForm}
 use Rattle.rv_words.specs.declared.command.PictureForm.{PictureForm}
 use Rattle.rv_words.specs.declared.command.Goal.{Goal}
+use Rattle.rv_price.specs.declared.goal.Goal as search
 use Rattle.rv_words.specs.declared.command.Form.TheVariants as form
 use Rattle.rv_mct.specs.declared.aux.Aux.{Aux}
 use Rattle.rv_flow.specs.declared.synthesis.Synthesis.{Synthesis}
@@ -28,6 +29,7 @@ use Rattle.rv_cmd.specs.Commands.Esop.{esop_row}
 use Rattle.rv_cmd.specs.Commands.Flow.{flow_row, flow_synthesis}
 use Rattle.rv_cmd.specs.Commands.Map.{map_row}
 use Rattle.rv_cmd.specs.Commands.Realize.{realize_row}
+use Rattle.rv_cmd.specs.Goals.{search_goal}
 use Rattle.rv_cmd.specs.Commands.Reduce.{reduce_row}
 use Rattle.rv_cmd.specs.Commands.Simulate.{answered_by, simulated, words_end}
 use Rattle.rv_cmd.specs.Commands.Templates.{templates_row}
@@ -100,12 +102,15 @@ cost_alike form.Qasm how = tt
 cost_alike _ how = tt
 
 flow_alike : (origin : Form) (method : Synthesis) (simplify : Bool) (by : Blocks) (aux : Aux) → NeverDiffers (flow_row origin method simplify by aux)
-flow_alike form.Perm method simplify by aux = tt
-flow_alike _ method simplify by aux = tt
+flow_alike form.Perm method simplify blocks.Joined aux = tt
+flow_alike _ method simplify blocks.Joined aux = tt
+flow_alike form.Perm method simplify _ aux = tt
+flow_alike _ method simplify _ aux = tt
 
-realize_alike : (origin : Form) (most : ℕ) → NeverDiffers (realize_row origin most)
-realize_alike form.Perm most = tt
-realize_alike _ most = tt
+realize_alike : (origin : Form) (curve : Bool) (asked : search.Goal) (seed most : ℕ) → NeverDiffers (realize_row origin curve asked seed most)
+realize_alike form.Perm curve asked seed most = tt
+realize_alike _ true asked seed most = tt
+realize_alike _ false asked seed most = tt
 
 -- ---- `simulate`
 
@@ -151,7 +156,7 @@ rows_alike command.Cost settings other = cost_alike settings.origin settings.rep
 rows_alike command.Draw settings other = draw_alike settings.origin settings.picture settings.wrap
 rows_alike command.Esop settings other = esop_alike settings.to settings.goal
 rows_alike command.Flow settings other = flow_alike settings.origin (flow_synthesis settings.method) settings.simplify settings.blocks settings.aux
-rows_alike command.Realize settings other = realize_alike settings.origin settings.lines
+rows_alike command.Realize settings other = realize_alike settings.origin settings.curve (search_goal settings.goal) settings.seed settings.lines
 rows_alike _ settings other = tt
 
 row-alike : (row : Row) → IsAlikeRow row → (found : List ℕ) (contents : Contents) → IsAlike (outcome row found contents).end

@@ -28,6 +28,7 @@ use Rattle.rv_words.specs.declared.command.Command.TheVariants as command
 use Rattle.rv_words.specs.declared.command.CheckedBy.{CheckedBy}
 use Rattle.rv_words.specs.declared.command.Form.{Form}
 use Rattle.rv_words.specs.declared.command.Form.TheVariants as form
+use Rattle.rv_cmd.specs.Goals.{search_goal}
 use Rattle.rv_cmd.specs.Row.{ReadsFirst, Row, answers_as_it_reads, reads_first}
 use Rattle.rv_cmd.specs.Commands.Check.{check_row}
 use Rattle.rv_cmd.specs.Commands.CheckNetworks.{networks_row}
@@ -78,10 +79,10 @@ row_for command.Single s = reads_first single_row
 row_for command.Route s = reads_first route_row
 row_for command.Draw s = reads_first (draw_row s.origin s.picture s.wrap)
 row_for command.Compare s = reads_first (compare_row s.origin s.all s.nodes)
-row_for command.Resynth s = reads_first (resynth_row (resynth_goal s.goal) s.marks)
+row_for command.Resynth s = reads_first (resynth_row (resynth_goal s.goal) s.effort s.marks)
 row_for command.Compute s = reads_first (compute_row s.lines)
 row_for command.Optimal s = reads_first (optimal_row s.gates)
-row_for command.Realize s = reads_first (realize_row s.origin s.lines)
+row_for command.Realize s = reads_first (realize_row s.origin s.curve (search_goal s.goal) s.seed s.lines)
 
 abbrev pub row_of : Settings → Row
 row_of settings = row_for settings.command settings

@@ -11,6 +11,7 @@ use rv_check::Verdict;
 use rv_compare::Comparison;
 use rv_cost::{CircuitCost, NetCost};
 use rv_cube::CubeList;
+use rv_curve::{Curve, write_curve};
 use rv_expand::{Expansion, Toffolis};
 use rv_flow::Summary;
 use rv_gate::Circuit;
@@ -49,6 +50,8 @@ pub(crate) enum Product {
     Witness(u8, u64),
     /// What was found of a circuit with so many inputs, which was compared.
     Comparison(u8, Comparison),
+    /// What circuits on more and more lines cost.
+    Curve(Curve),
     /// A circuit that is to be drawn, with so many gates in a block at the most, or 0 for one block.
     Drawing {
         circuit: Circuit,
@@ -104,6 +107,7 @@ impl Product {
             Product::Verdict(lines, verdict) => put_verdict(*lines, *verdict, out),
             Product::Witness(lines, word) => put_witness(*lines, *word, out),
             Product::Comparison(inputs, answer) => put_comparison(*inputs, *answer, out),
+            Product::Curve(curve) => write_curve(curve, out),
             Product::Drawing {
                 circuit,
                 picture,

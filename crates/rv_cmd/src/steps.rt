@@ -5,6 +5,7 @@ ghost use Rattle.rv_mct.specs.Extends.{IsPlain};
 ghost use Rattle.rv_mct.specs.Widened.{decomposed};
 ghost use Rattle.rv_cmd.specs.Commands.Decompose.{decomposition_limits};
 ghost use Rattle.rv_cmd.specs.Commands.Embed.{embed_limits};
+ghost use Rattle.rv_cmd.specs.Goals.{search_goal};
 ghost use Rattle.rv_cmd.specs.Limits.{AreKept};
 ghost use Rattle.rv_cmd.specs.inside.Products.{IsRefusalOf};
 
@@ -48,7 +49,9 @@ pub(crate) fn embedding(alloc: Global, pla: &Pla) -> Result<PermSpec, Refusal>
 }
 
 /// What a search is to make small.
-pub(crate) fn search_goal(wish: Option<Wish>) -> Goal {
+pub(crate) fn search_goal(wish: Option<Wish>) -> Goal
+    ensures { result ≡ search_goal wish }
+{
     match wish {
         Some(Wish::Lines) => Goal::Lines,
         Some(Wish::Cx) => Goal::Cx,

@@ -1,9 +1,9 @@
 -- What tables of arguments ask for.
 use Rattle.std.proofs.Common.{◌≡◌, [], ◌∷◌, Err, None, Some, refl, codes}
 use Rattle.clap.proofs.OnLiterals.{clap_on_literals}
-use Rattle.rv_words.specs.declared.command.Command.TheVariants.{Synth, Embed, Esop, Decompose, Map, Simulate, Demo, Fold, Check, Single, Route}
+use Rattle.rv_words.specs.declared.command.Command.TheVariants.{Synth, Embed, Esop, Decompose, Map, Simulate, Demo, Fold, Check, Single, Route, Compute, Realize}
 use Rattle.rv_words.specs.declared.fault.ArgumentFault.TheVariants.{NotUnderstood, UnknownCommand, NotUsed, BadValue, InputCount, TwiceStandard}
-use Rattle.rv_words.specs.declared.options.TheConstants.{METHOD, TO, FROM, AUX, LINES, SEED, ALL, GOAL, EFFORT, BLOCKS, AS, GATES}
+use Rattle.rv_words.specs.declared.options.TheConstants.{METHOD, TO, FROM, AUX, LINES, SEED, ALL, GOAL, EFFORT, BLOCKS, AS, GATES, CURVE}
 use Rattle.rv_words.specs.Line.{value_of, line, refusal}
 use Rattle.rv_words.specs.Values.{number_in, values_in}
 use Rattle.rv_words.specs.Settings.{read, read_by, settings_of}
@@ -159,6 +159,14 @@ cubes_of_networks = refl
 networks_for_realize : settings_of (codes "realize" ∷ codes "--from" ∷ codes "blif" ∷ []) ≡ Err (BadValue FROM)
 unfolding settings_of read read_by values_in refusal value_of line clap_on_literals
 networks_for_realize = refl
+
+curve_of_permutations : settings_of (codes "realize" ∷ codes "--curve" ∷ codes "--from" ∷ codes "perm" ∷ []) ≡ Err (NotUsed Realize CURVE)
+unfolding settings_of read read_by values_in refusal value_of line clap_on_literals
+curve_of_permutations = refl
+
+curve_of_networks : settings_of (codes "compute" ∷ codes "--curve" ∷ []) ≡ Err (NotUsed Compute CURVE)
+unfolding settings_of read read_by values_in refusal value_of line clap_on_literals
+curve_of_networks = refl
 
 unknown_gates : settings_of (codes "optimal" ∷ codes "--gates" ∷ codes "ncv" ∷ []) ≡ Err (BadValue GATES)
 unfolding settings_of read read_by values_in refusal value_of line clap_on_literals

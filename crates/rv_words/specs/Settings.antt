@@ -57,6 +57,7 @@ read_inputs command g values =
       checked = values.checked;
       report = values.report;
       nodes = values.nodes;
+      curve = is_flag_given g (codes "curve");
     }))
 
 abbrev pub read_by_values : Command → Given → Result Values ℕ → Result Settings ArgumentFault

@@ -4,7 +4,7 @@ use Rattle.std.specs.List.{list_any}
 use Rattle.std.specs.Str.{bytes_eq}
 use Rattle.rv_words.specs.declared.command.Command.{Command}
 use Rattle.rv_words.specs.declared.command.Command.TheVariants.{Synth, Embed, Esop, Templates, Decompose, Map, Cost, Simulate, ToReal, Flow, Demo, Fold, Reduce, Check, Single, Route, Draw, Compare, Resynth, Compute, Optimal, Realize}
-use Rattle.rv_words.specs.declared.options.TheConstants.{METHOD, TO, FROM, LIBRARY, AUX, LINES, SEED, ALL, SIMPLIFY, WRAP, GOAL, EFFORT, MARKS, BLOCKS, AS, GATES, BY, NODES}
+use Rattle.rv_words.specs.declared.options.TheConstants.{METHOD, TO, FROM, LIBRARY, AUX, LINES, SEED, ALL, SIMPLIFY, WRAP, GOAL, EFFORT, MARKS, BLOCKS, AS, GATES, BY, NODES, CURVE}
 
 -- a command's name, how many inputs it takes at the least and at the most, and the places of the options that it uses
 pub record Usage : Type 0 where
@@ -38,7 +38,7 @@ usage_of Compare = row (codes "compare") 1 2 (FROM ∷ ALL ∷ NODES ∷ [])
 usage_of Resynth = row (codes "resynth") 0 1 (GOAL ∷ EFFORT ∷ SEED ∷ MARKS ∷ [])
 usage_of Compute = row (codes "compute") 0 1 (LINES ∷ GOAL ∷ EFFORT ∷ SEED ∷ [])
 usage_of Optimal = row (codes "optimal") 0 1 (GATES ∷ [])
-usage_of Realize = row (codes "realize") 0 1 (FROM ∷ LINES ∷ GOAL ∷ EFFORT ∷ SEED ∷ [])
+usage_of Realize = row (codes "realize") 0 1 (FROM ∷ LINES ∷ GOAL ∷ EFFORT ∷ SEED ∷ CURVE ∷ [])
 
 abbrev pub commands : List Command
 commands =

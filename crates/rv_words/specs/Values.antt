@@ -13,7 +13,7 @@ use Rattle.rv_mct.specs.declared.aux.Aux.TheVariants.{Borrowed, Clean}
 use Rattle.rv_optimal.specs.declared.library.Library.{Library}
 use Rattle.rv_optimal.specs.declared.library.Library.TheVariants.{Mixed, Positive}
 use Rattle.rv_words.specs.declared.command.Command.{Command}
-use Rattle.rv_words.specs.declared.command.Command.TheVariants.{Compare, Compute, Cost, Demo, Flow, Map, Realize, Reduce, Resynth}
+use Rattle.rv_words.specs.declared.command.Command.TheVariants.{Compare, Compute, Cost, Demo, Flow, Realize, Reduce, Resynth}
 use Rattle.rv_words.specs.declared.command.Blocks.{Blocks}
 use Rattle.rv_words.specs.declared.command.Blocks.TheVariants.{Exact, Relative, Toffoli, Near, Joined}
 use Rattle.rv_words.specs.declared.command.CheckedBy.{CheckedBy}
@@ -136,18 +136,13 @@ abbrev pub usual_seed : Command → ℕ
 usual_seed Demo = 1
 usual_seed command = 0
 
--- `flow` takes only blocks that are made by a rule
-abbrev joined_for : Command → Option Blocks
-joined_for Map = Some Joined
-joined_for command = None
-
-abbrev pub blocks_of : Command → List ℕ → Option Blocks
-blocks_of command value =
+abbrev pub blocks_of : List ℕ → Option Blocks
+blocks_of value =
     if bytes_eq value (codes "exact") then Some Exact
     else (if bytes_eq value (codes "relative") then Some Relative
     else (if bytes_eq value (codes "toffoli") then Some Toffoli
     else (if bytes_eq value (codes "near") then Some Near
-    else (if bytes_eq value (codes "joined") then joined_for command
+    else (if bytes_eq value (codes "joined") then Some Joined
     else None))))
 
 abbrev pub picture_of : List ℕ → Option PictureForm
@@ -241,8 +236,8 @@ goal_in command g = chosen GOAL (usual_goal command) (λ value. wished (goal_of 
 abbrev pub effort_in : Command → Given → Result ℕ ℕ
 effort_in command g = chosen EFFORT (usual_effort command) (number_in 0 MOST_EFFORT) (g (codes "effort"))
 
-abbrev pub blocks_in : Command → Given → Result Blocks ℕ
-blocks_in command g = chosen BLOCKS Exact (blocks_of command) (g (codes "blocks"))
+abbrev pub blocks_in : Given → Result Blocks ℕ
+blocks_in g = chosen BLOCKS Exact blocks_of (g (codes "blocks"))
 
 -- `cost` writes no picture
 abbrev pub picture_in : Command → Given → Result PictureForm ℕ
@@ -295,7 +290,7 @@ values_in command g = do
   wrap ← wrap_in g
   goal ← goal_in command g
   effort ← effort_in command g
-  blocks ← blocks_in command g
+  blocks ← blocks_in g
   picture ← picture_in command g
   gates ← gates_in g
   checked ← checked_in g

@@ -210,18 +210,15 @@ fn usual_seed(command: Command) -> u16
     }
 }
 
-fn blocks_of(command: Command, value: &str) -> Option<Blocks>
-    ensures { result ≡ blocks_of command value.now }
+fn blocks_of(value: &str) -> Option<Blocks>
+    ensures { result ≡ blocks_of value.now }
 {
     match value {
         "exact" => Some(Blocks::Exact),
         "relative" => Some(Blocks::Relative),
         "toffoli" => Some(Blocks::Toffoli),
         "near" => Some(Blocks::Near),
-        "joined" => match command {
-            Command::Map => Some(Blocks::Joined),
-            _ => None,
-        },
+        "joined" => Some(Blocks::Joined),
         _ => None,
     }
 }
@@ -376,11 +373,11 @@ fn effort_in(matches: &ArgMatches<'_>, command: Command) -> Result<u16, u8>
     }
 }
 
-fn blocks_in(matches: &ArgMatches<'_>, command: Command) -> Result<Blocks, u8>
-    ensures { result ≡ blocks_in command (first_value (found_of matches.now)) }
+fn blocks_in(matches: &ArgMatches<'_>) -> Result<Blocks, u8>
+    ensures { result ≡ blocks_in (first_value (found_of matches.now)) }
 {
     match matches.get_str("blocks") {
-        Some(value) => blocks_of(command, value).ok_or(BLOCKS),
+        Some(value) => blocks_of(value).ok_or(BLOCKS),
         None => Ok(Blocks::Exact),
     }
 }
@@ -455,7 +452,7 @@ pub(crate) fn values_in(matches: &ArgMatches<'_>, command: Command) -> Result<Va
         wrap: wrap_in(matches)?,
         goal: goal_in(matches, command)?,
         effort: effort_in(matches, command)?,
-        blocks: blocks_in(matches, command)?,
+        blocks: blocks_in(matches)?,
         picture: picture_in(matches, command)?,
         gates: gates_in(matches)?,
         checked: checked_in(matches)?,

@@ -5,8 +5,8 @@ ghost use Rattle.std.specs.Str.{bytes_eq};
 ghost use Rattle.rv_words.specs.Table.{command_of, is_used, needs_goal, usage_of};
 
 use crate::options::{
-    ALL, AS, AUX, BLOCKS, BY, EFFORT, FROM, GATES, GOAL, LIBRARY, LINES, MARKS, METHOD, NODES,
-    SEED, SIMPLIFY, TO, WRAP,
+    ALL, AS, AUX, BLOCKS, BY, CURVE, EFFORT, FROM, GATES, GOAL, LIBRARY, LINES, MARKS, METHOD,
+    NODES, SEED, SIMPLIFY, TO, WRAP,
 };
 use rv_tbs::Method;
 
@@ -56,7 +56,7 @@ pub enum Command {
     Compute,
     /// Writes a circuit that computes a permutation, and than which none has fewer gates.
     Optimal,
-    /// Writes a circuit that realizes a table, or computes a permutation, found by a search.
+    /// Writes a circuit that realizes a table, or computes a permutation, found by a search; or what several cost.
     Realize,
 }
 
@@ -112,7 +112,7 @@ pub(crate) fn usage_of(command: Command) -> Usage
         Command::Resynth => row("resynth", 0, 1, &[GOAL, EFFORT, SEED, MARKS]),
         Command::Compute => row("compute", 0, 1, &[LINES, GOAL, EFFORT, SEED]),
         Command::Optimal => row("optimal", 0, 1, &[GATES]),
-        Command::Realize => row("realize", 0, 1, &[FROM, LINES, GOAL, EFFORT, SEED]),
+        Command::Realize => row("realize", 0, 1, &[FROM, LINES, GOAL, EFFORT, SEED, CURVE]),
     }
 }
 

@@ -38,9 +38,11 @@ pub(crate) const BY: u8 = 16;
 
 pub(crate) const NODES: u8 = 17;
 
-pub(crate) static PLACES: [u8; 18] = [
+pub(crate) const CURVE: u8 = 18;
+
+pub(crate) static PLACES: [u8; 19] = [
     METHOD, TO, FROM, LIBRARY, AUX, LINES, SEED, ALL, SIMPLIFY, WRAP, GOAL, EFFORT, MARKS, BLOCKS,
-    AS, GATES, BY, NODES,
+    AS, GATES, BY, NODES, CURVE,
 ];
 
 /// What the option at a place is called.
@@ -65,7 +67,8 @@ pub fn option_name(place: u8) -> &'static str
         AS => "as",
         GATES => "gates",
         BY => "by",
-        _ => "nodes",
+        NODES => "nodes",
+        _ => "curve",
     }
 }
 
@@ -73,5 +76,5 @@ pub fn option_name(place: u8) -> &'static str
 pub(crate) fn takes_value(place: u8) -> bool
     ensures { result ≡ takes_value place }
 {
-    place != ALL && place != SIMPLIFY && place != MARKS
+    place != ALL && place != SIMPLIFY && place != MARKS && place != CURVE
 }

@@ -123,6 +123,7 @@ fn read_inputs(
         checked: values.checked,
         report: values.report,
         nodes: values.nodes,
+        curve: is_flag_given(matches, "curve"),
     })
 }
 

@@ -3,7 +3,7 @@ use Rattle.std.proofs.Common.{◌≡◌, ◌<◌, ◌≤◌, ℕ, Bool, List, []
 use Rattle.std.specs.Prelude.{All, IsOkAnd, IsTrue}
 use Rattle.std.proofs.lemmas.List.Elements.{All-nil, All-cons, All-head, All-tail}
 use Rattle.rv_gate.specs.Circuit as circuits
-use Rattle.rv_gate.specs.Gate.{run}
+use Rattle.rv_gate.specs.Gate.{IsFlip, run}
 use Rattle.rv_gate.specs.Word.{has}
 use Rattle.rv_gate.specs.declared.circuit.TheConstants.{MOST_GATES}
 use Rattle.rv_pla.specs.Cube.{IsCube}
@@ -20,6 +20,7 @@ use Rattle.rv_cube.specs.ReductionFor.{IsRight, IsSettledFor}
 use Rattle.rv_cube.proofs.inside.Entries.{value-sum}
 use Rattle.rv_esop.specs.Cascade.{cascade_of, esop_lines, flip_count, xor_set}
 use Rattle.rv_esop.specs.Shared.{IsOnLines, cost_of}
+use Rattle.rv_esop.proofs.AllFlips.{cascade-flips}
 use Rattle.rv_exorlink.specs.Found.{IsFound}
 use Rattle.rv_exorlink.specs.Weight.{IsNoWorse, most_of}
 use Rattle.rv_exorlink.specs.declared.goal.Goal.{Goal}
@@ -145,9 +146,9 @@ list-answers pla list is value settled valid =
 -- the code found this circuit, on these lines, for this list
 pub found-cascade : (goal : Goal) (pla : TwoLevel) (list : Esop) (circuit : circuits.Cascade) → flip_count (reduced_list pla) ≤ MOST_GATES → IsFound goal pla list
     → IsOnLines list.inputs list.outputs circuit → Adds list circuit → cost_of goal circuit.gates ≤ cost_of goal (cascade_of list).gates
-    → cost_of goal circuit.gates ≤ cost_of goal (cascade_of (reduced_list pla)).gates → circuits.IsCascade circuit
+    → cost_of goal circuit.gates ≤ cost_of goal (cascade_of (reduced_list pla)).gates → All IsFlip circuit.gates → circuits.IsCascade circuit
     → IsProductOf (found_within (cascade_report (reduced_list pla)).limits (text_of circuit)) (IsFoundCascade goal pla) (Circuit circuit)
-found-cascade goal pla list circuit few found lines adds cheap cheaper valid =
+found-cascade goal pla list circuit few found lines adds cheap cheaper flips valid =
     let on : IsOnLines pla.inputs pla.outputs circuit = lines ∙ ap₂ (λ (i o : ℕ). record (esop_lines i o) { gates = circuit.gates }) found.inputs found.outputs in
     record {
       kept = (few, tt);
@@ -160,6 +161,7 @@ found-cascade goal pla list circuit few found lines adds cheap cheaper valid =
         list = list;
         found = found;
         adds = adds;
+        flips = flips;
         no_dearer = cheap;
         no_dearer_than_reduced = cheaper;
         gives = subst (Gives pla) (sym on) (cascade-gives pla list circuit.gates found.inputs found.outputs found.right (subst (Adds list) on adds));
@@ -182,7 +184,8 @@ found-plain goal pla list circuit is right bounded few made adds valid =
     found-cascade goal pla list circuit (subst Few is few) (subst Found (sym is) found)
     (made ∙ ap (λ (c : circuits.Cascade). record (esop_lines list.inputs list.outputs) { gates = c.gates }) (sym made)) adds
     (omega (arith, ap (λ (c : circuits.Cascade). cost_of goal c.gates) made))
-    (omega (arith, ap (λ (c : circuits.Cascade). cost_of goal c.gates) made, ap (λ (e : Esop). cost_of goal (cascade_of e).gates) is)) valid
+    (omega (arith, ap (λ (c : circuits.Cascade). cost_of goal c.gates) made, ap (λ (e : Esop). cost_of goal (cascade_of e).gates) is))
+    (subst (λ (c : circuits.Cascade). All IsFlip c.gates) (sym made) (cascade-flips list)) valid
 
 -- the code found this list
 pub found-list : (goal : Goal) (pla : TwoLevel) (list : Esop) → IsFound goal pla list → IsEsop list
@@ -198,6 +201,7 @@ found-list goal pla list found valid =
         list = list;
         is = refl;
         found = found;
+        valid = valid;
         back = b.back;
         read_back = b.is;
         has_cubes = subst (λ inputs. HasCubes inputs pla.outputs) found.inputs (subst (HasCubes list.inputs) found.outputs b.fact);

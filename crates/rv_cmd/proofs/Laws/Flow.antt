@@ -16,16 +16,17 @@ use Rattle.rv_flow.proofs.Circuits.{circuit-lines}
 use Rattle.rv_faults.specs.declared.fault.Refusal.{Refusal}
 use Rattle.rv_faults.specs.declared.fault.Refusal.TheVariants.{OutOfMemory, Refused}
 use Rattle.rv_words.specs.declared.command.Blocks.{Blocks}
+use Rattle.rv_words.specs.declared.command.Blocks.TheVariants.{Joined}
 use Rattle.rv_words.specs.declared.command.Form.{Form}
 use Rattle.rv_words.specs.declared.command.Form.TheVariants as form
 use Rattle.rv_inputs.specs.Formats.{table}
 use Rattle.rv_cmd.specs.declared.product.Product.{Product}
 use Rattle.rv_cmd.specs.Commands.Embed.{embed_limits}
-use Rattle.rv_cmd.specs.Commands.Flow.{IsFlow, IsFunctionFlow, flow_limits, flow_report, flow_row, function_report}
+use Rattle.rv_cmd.specs.Commands.Flow.{IsFlow, IsFunctionFlow, flow_limits, flow_report, flow_row, function_limits, function_report, joined_row, ruled_row}
 use Rattle.rv_cmd.specs.Commands.Map.{IsMapping, map_limits, map_report, network_limits}
-use Rattle.rv_cmd.specs.Row.{one}
-use Rattle.rv_cmd.specs.Limits.{AreKept, of_lines}
-use Rattle.rv_cmd.specs.inside.Products.{IsProductOf, IsRefusalOf}
+use Rattle.rv_cmd.specs.Row.{always, finds, one}
+use Rattle.rv_cmd.specs.Limits.{AreKept, found_within, of_lines}
+use Rattle.rv_cmd.specs.inside.Products.{IsProductOf, IsRefusalOf, product_text}
 use Rattle.rv_cmd.proofs.Laws.Map.{maps-on}
 use Rattle.rv_cmd.proofs.inside.Limits.{kept-append, refusal-after, refused-after}
 
@@ -65,6 +66,19 @@ module _ (method : Synthesis) (simplify : Bool) (blocks : Blocks) (aux : Aux) wh
         let helpers : helper_count aux (found spec) ≤ 13 = subst (λ d. helper_count aux d ≤ 13) is few in
         record { kept = of_circuit.kept.1; is = of_circuit.is; means = of-circuit spec _ valid helpers of_circuit.means }
 
+    -- or finds it
+    pub flow-found : (result : Result Product Refusal) → IsMarked spec → helper_count aux c ≤ 13
+        → IfOk result (λ product. IsProductOf (found_within (map_limits blocks aux c) (product_text product)) (IsMapping blocks aux c) product)
+        → IfOk result (λ product.
+        IsProductOf (found_within (flow_limits method simplify blocks aux spec) (product_text product)) (IsFlow method simplify blocks aux spec) product)
+    flow-found (Err refused) valid few made = tt
+    flow-found (Ok product) valid few made =
+        let text : List ℕ = product_text product in
+        let Maps : Cascade → Type 0 = λ d. IsProductOf (found_within (map_limits blocks aux d) text) (IsMapping blocks aux d) product in
+        let of_circuit : Maps (found spec) = subst Maps is made in
+        let helpers : helper_count aux (found spec) ≤ 13 = subst (λ d. helper_count aux d ≤ 13) is few in
+        record { kept = of_circuit.kept.1; is = refl; means = of-circuit spec text valid helpers of_circuit.means }
+
     pub flow-refuses : (result : Result Product Refusal) → lines_with_helpers aux c ≤ MOST_LINES → IfErr result (IsRefusalOf 1 (map_limits blocks aux c))
         → IfErr result (IsRefusalOf 1 (flow_limits method simplify blocks aux spec))
     flow-refuses (Ok product) few unmade = tt
@@ -90,15 +104,46 @@ module _ (method : Synthesis) (simplify : Bool) (blocks : Blocks) (aux : Aux) wh
           means = record { embeds = embedding-embeds pla; carried = of_function.means };
         }
 
+    pub function-found : (result : Result Product Refusal)
+        → IfOk result (λ product.
+        IsProductOf (found_within (flow_limits method simplify blocks aux spec) (product_text product)) (IsFlow method simplify blocks aux spec) product)
+        → IfOk result (λ product.
+        IsProductOf (found_within (function_limits method simplify blocks aux pla) (product_text product)) (IsFunctionFlow method simplify blocks aux pla)
+        product)
+    function-found (Err refused) is = tt
+    function-found (Ok made) is =
+        let Flows : Marked → Type 0 = λ s.
+        IsProductOf (found_within (flow_limits method simplify blocks aux s) (product_text made)) (IsFlow method simplify blocks aux s) made in
+        let of_function : Flows (embedding_of pla) = subst Flows embedded is in
+        record {
+          kept = kept-append (embed_limits pla) (flow_limits method simplify blocks aux (embedding_of pla)) kept of_function.kept;
+          is = refl;
+          means = record { embeds = embedding-embeds pla; carried = of_function.means };
+        }
+
     pub function-refuses : (result : Result Product Refusal) → IfErr result (IsRefusalOf 1 (flow_limits method simplify blocks aux spec))
-        → IfErr result (IsRefusalOf 1 (function_report method simplify blocks aux pla).limits)
+        → IfErr result (IsRefusalOf 1 (function_limits method simplify blocks aux pla))
     function-refuses (Ok made) is = tt
     function-refuses (Err refused) is =
         let Refuses : Marked → Type 0 = λ s. IsRefusalOf 1 (flow_limits method simplify blocks aux s) refused in
         refusal-after 1 (embed_limits pla) (flow_limits method simplify blocks aux (embedding_of pla)) refused kept (subst Refuses embedded is)
 
+-- ---- rows
+
 -- from a truth table
 pub flow-of-table : (origin : Form) (method : Synthesis) (simplify : Bool) (blocks : Blocks) (aux : Aux) → (origin ≡ form.Perm → ⊥)
-    → flow_row origin method simplify blocks aux ≡ one table (function_report method simplify blocks aux) (IsFunctionFlow method simplify blocks aux)
+    → ruled_row origin method simplify blocks aux ≡ one table (function_report method simplify blocks aux) (IsFunctionFlow method simplify blocks aux)
 flow-of-table form.Perm method simplify blocks aux other = absurd (other refl)
 flow-of-table _ method simplify blocks aux other = refl
+
+pub joined-of-table : (origin : Form) (method : Synthesis) (simplify : Bool) (aux : Aux) → (origin ≡ form.Perm → ⊥)
+    → joined_row origin method simplify aux
+    ≡ finds table (function_limits method simplify Joined aux) always (IsFunctionFlow method simplify Joined aux)
+joined-of-table form.Perm method simplify aux other = absurd (other refl)
+joined-of-table _ method simplify aux other = refl
+
+-- by a rule
+pub flow-by-rule : (origin : Form) (method : Synthesis) (simplify : Bool) (blocks : Blocks) (aux : Aux) → (blocks ≡ Joined → ⊥)
+    → flow_row origin method simplify blocks aux ≡ ruled_row origin method simplify blocks aux
+flow-by-rule origin method simplify Joined aux other = absurd (other refl)
+flow-by-rule origin method simplify _ aux other = refl

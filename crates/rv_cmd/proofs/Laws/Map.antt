@@ -1,13 +1,15 @@
 -- What `map` writes: by the definitions alone, it is the text of a network that carries the circuit.
-use Rattle.std.specs.Prelude.{IfErr, IfOk, Result, Ok, Err, ◌<◌, ◌↔◌}
+use Rattle.std.proofs.Common.{arith}
+use Rattle.std.specs.Prelude.{IfErr, IfOk, Result, Ok, Err, count_by, ◌<◌, ◌↔◌}
 use Rattle.rv_gate.specs.Gate.{run}
 use Rattle.rv_mct.specs.Widened.{decomposed, helper_count, lines_with_helpers}
 use Rattle.rv_mct.specs.declared.aux.Aux.{Aux}
 use Rattle.rv_net.specs.Denotes.{Carries}
 use Rattle.rv_net.specs.Network.{expanded, operation_count}
+use Rattle.rv_net.specs.Op.{is_t}
 use Rattle.rv_net.proofs.Mapping.{maps}
 use Rattle.rv_joined.specs.Joined.{MapsJoined}
-use Rattle.rv_ladder.specs.Counts.{operations, relative_count}
+use Rattle.rv_ladder.specs.Counts.{operations, relative_count, turns}
 use Rattle.rv_ladder.specs.Relative.{MapsRelative, relative_net}
 use Rattle.rv_ladder.specs.declared.mapping.RelativeFault.{RelativeFault}
 use Rattle.rv_ladder.specs.declared.mapping.RelativeFault.TheVariants as ladders
@@ -23,7 +25,7 @@ use Rattle.rv_words.specs.declared.command.Blocks.TheVariants.{Exact, Joined, Ne
 use Rattle.rv_cmd.specs.declared.product.Product.{Product}
 use Rattle.rv_cmd.specs.declared.product.Product.TheVariants as product
 use Rattle.rv_cmd.specs.Commands.Decompose.{decomposition_limits}
-use Rattle.rv_cmd.specs.Commands.Map.{IsJoinedMapping, IsMapping, MapsBy, map_limits, map_report, mapped}
+use Rattle.rv_cmd.specs.Commands.Map.{IsMapping, MapsBy, map_limits, map_report, mapped}
 use Rattle.rv_cmd.specs.Limits.{found_within}
 use Rattle.rv_cmd.proofs.inside.Common.{◌≡◌, ◌≤◌, ◌∙◌, ◌++◌, ◌∷◌, [], ℕ, length, AreKept, Cascade, IsCascade, IsNetwork, IsProductOf, IsRefusalOf, MOST_LINES, MOST_OPS, Network, ap, few-by, few-unless, of_ops, refl, refusal-after, subst, sym}
 
@@ -37,7 +39,7 @@ pub record IsOn (aux : Aux) (c : Cascade) (net : Network) : Type 0 where
 pub maps-on : (blocks : Blocks) (aux : Aux) (c : Cascade) (net : Network) → MapsBy blocks aux c net → IsOn aux c net
 maps-on Exact aux c net m = record { valid = m.valid; lines = m.lines; carries = m.carries }
 maps-on Relative aux c net m = record { valid = m.valid; lines = ap (λ (n : Network). n.lines) m.is; carries = m.carries }
-maps-on Joined aux c net m = record { valid = m.valid; lines = ap (λ (n : Network). n.lines) m.is; carries = m.carries }
+maps-on Joined aux c net m = record { valid = m.valid; lines = m.lines; carries = m.carries }
 maps-on Toffoli aux c net m = record { valid = m.valid; lines = m.lines; carries = m.carries }
 maps-on Near aux c net m = record { valid = m.valid; lines = m.lines; carries = m.carries }
 
@@ -102,7 +104,7 @@ module _ {X : Type 0} (aux : Aux) (c : Cascade) (x : X)
       record { kept = (few-lines, (few-ops, tt)); is = ap text_of law.is; means = meant Relative aux c law_of }
 
   pub joined-answers : (net : Network) → MapsJoined aux c net
-      → IsProductOf (found_within (map_limits Joined aux c) (text_of net)) (IsJoinedMapping aux c) (product.Network net)
+      → IsProductOf (found_within (map_limits Joined aux c) (text_of net)) (IsMapping Joined aux c) (product.Network net)
   joined-answers net law = record {
     kept = (few-lines, (few-ops, tt));
     is = refl;
@@ -110,10 +112,25 @@ module _ {X : Type 0} (aux : Aux) (c : Cascade) (x : X)
   }
 
 -- ladders, in the place of joined blocks
+joins-by-ladders : (aux : Aux) (c : Cascade) (net : Network) → MapsRelative aux c net → MapsJoined aux c net
+joins-by-ladders aux c net m =
+    let turned : count_by is_t net.ops ≡ relative_count turns aux c = m.turned in
+    record {
+      valid = m.valid;
+      lines = ap (λ (n : Network). n.lines) m.is;
+      turned = omega (arith, turned);
+      carries = m.carries;
+    }
+
 pub in-place-of-joined : (aux : Aux) (c : Cascade) (made : Product) → IsProductOf (map_report Relative aux c) (IsMapping Relative aux c) made
     → IsProductOf (map_report Joined aux c) (IsMapping Joined aux c) made
 in-place-of-joined aux c made m = record {
   kept = m.kept;
   is = m.is;
-  means = record { net = m.means.net; is = m.means.is; read_back = m.means.read_back; maps = m.means.maps };
+  means = record {
+    net = m.means.net;
+    is = m.means.is;
+    read_back = m.means.read_back;
+    maps = joins-by-ladders aux c m.means.net m.means.maps;
+  };
 }

@@ -28,5 +28,5 @@ reduced-by-answers goal listing net reduced own reduction =
     let Reduction : Network → Type 0 = λ n. IsReductionBy goal n reduced in record {
       kept = tt;
       is = refl;
-      means = record { net = reduced; is = refl; read_back = read-back reduced reduction.keeps.valid; reduction = subst Reduction own reduction };
+      means = record { net = reduced; is = refl; read_back = read-back reduced reduction.improves.keeps.valid; reduction = subst Reduction own reduction };
     }

@@ -1,8 +1,8 @@
 -- `esop`: a cascade that adds the function of a PLA to its outputs, or its list of cubes: the reduced one, or one that
 -- a search finds.
-use Rattle.std.specs.Prelude.{◌≡◌, ◌≤◌, ℕ, Bool, List, [], ◌∷◌, ◌++◌, length, Option, Some, None, Ok}
+use Rattle.std.specs.Prelude.{◌≡◌, ◌≤◌, ℕ, Bool, List, [], ◌∷◌, ◌++◌, All, length, Option, Some, None, Ok}
 use Rattle.rv_gate.specs.Circuit.{Cascade}
-use Rattle.rv_gate.specs.Gate.{run}
+use Rattle.rv_gate.specs.Gate.{IsFlip, run}
 use Rattle.rv_real.specs.Reading.{real_of}
 use Rattle.rv_real.specs.Text.{text_of}
 use Rattle.rv_pla.specs.FreeEntries.{IsAllowed}
@@ -10,7 +10,7 @@ use Rattle.rv_pla.specs.Pla.{TwoLevel, entry}
 use Rattle.rv_pla.specs.Reading.{pla_of}
 use Rattle.rv_pla.specs.Text.{IsEsopOf, esop_text}
 use Rattle.rv_pla.specs.Zeros.{bit_for}
-use Rattle.rv_cube.specs.Esop.{Esop, esop_value}
+use Rattle.rv_cube.specs.Esop.{Esop, IsEsop, esop_value}
 use Rattle.rv_cube.specs.First.{first_of}
 use Rattle.rv_cube.specs.ReductionFor.{IsRight, IsSettledFor, reduced_for}
 use Rattle.rv_cube.specs.Settled.{IsIrreducibleFor}
@@ -90,8 +90,8 @@ found_limits _ pla = (cascade_report (reduced_list pla)).limits
 
 -- Read back, the text is a circuit on the lines of the cascade. It keeps the inputs and adds the value of a list of
 -- cubes, which is no worse by the goal than the reduced list, and whose value has the bit of each entry that isn't
--- free. So the circuit gives what the PLA asks. By the goal it costs no more than the cascade of that list, and no more
--- than that of the reduced one.
+-- free. So the circuit gives what the PLA asks. It has flips alone, and by the goal it costs no more than the cascade of
+-- that list, and no more than that of the reduced one.
 pub record IsFoundCascade (goal : Goal) (pla : TwoLevel) (text : List ℕ) : Type 0 where
   pub circuit : Cascade
   pub is : text ≡ text_of circuit
@@ -100,16 +100,18 @@ pub record IsFoundCascade (goal : Goal) (pla : TwoLevel) (text : List ℕ) : Typ
   pub list : Esop
   pub found : IsFound goal pla list
   pub adds : Adds list circuit
+  pub flips : All IsFlip circuit.gates
   pub no_dearer : cost_of goal circuit.gates ≤ cost_of goal (cascade_of list).gates
   pub no_dearer_than_reduced : cost_of goal circuit.gates ≤ cost_of goal (cascade_of (reduced_list pla)).gates
   pub gives : Gives pla circuit
 
--- Read back, the text is a PLA of type esop with the cubes of such a list. Its function has the bit of each entry that
--- isn't free.
+-- Read back, the text is a PLA of type esop with the cubes of such a list, each of which has an output. Its function has
+-- the bit of each entry that isn't free.
 pub record IsFoundList (goal : Goal) (pla : TwoLevel) (text : List ℕ) : Type 0 where
   pub list : Esop
   pub is : text ≡ esop_text list.inputs list.outputs list.cubes
   pub found : IsFound goal pla list
+  pub valid : IsEsop list
   pub back : TwoLevel
   pub read_back : pla_of text ≡ Ok back
   pub has_cubes : IsEsopOf pla.inputs pla.outputs list.cubes back

@@ -15,6 +15,7 @@ use Rattle.rv_flow.specs.Flow.{circuit_for}
 use Rattle.rv_flow.specs.declared.synthesis.Synthesis.{Synthesis}
 use Rattle.rv_flow.specs.declared.synthesis.Synthesis.TheVariants.{Rows, SingleTargets}
 use Rattle.rv_words.specs.declared.command.Blocks.{Blocks}
+use Rattle.rv_words.specs.declared.command.Blocks.TheVariants.{Joined}
 use Rattle.rv_words.specs.declared.command.Synthesis as asked
 use Rattle.rv_words.specs.declared.command.Synthesis.TheVariants as asks
 use Rattle.rv_words.specs.declared.command.Form.{Form}
@@ -23,7 +24,7 @@ use Rattle.rv_inputs.specs.Formats.{permutation, table}
 use Rattle.rv_cmd.specs.Commands.Embed.{embed_limits}
 use Rattle.rv_cmd.specs.Commands.Map.{MapsBy, mapped, network_limits}
 use Rattle.rv_cmd.specs.Limits.{Limit, LimitedText}
-use Rattle.rv_cmd.specs.Row.{ReadsFirst, one}
+use Rattle.rv_cmd.specs.Row.{ReadsFirst, always, finds, one}
 
 -- how the arguments ask for the circuit to be made
 abbrev pub flow_synthesis : asked.Synthesis → Synthesis
@@ -40,12 +41,11 @@ module _ (method : Synthesis) (simplify : Bool) (blocks : Blocks) (aux : Aux) wh
       record { limits = flow_limits spec; text = text_of (mapped blocks aux (circuit_for method simplify spec)) }
 
   -- the embedding's limit, then those of its flow
+  abbrev pub function_limits : TwoLevel → List Limit
+  function_limits pla = embed_limits pla ++ flow_limits (embedding_of pla)
+
   abbrev pub function_report : TwoLevel → LimitedText
-  function_report pla =
-      record {
-        limits = embed_limits pla ++ flow_limits (embedding_of pla);
-        text = (flow_report (embedding_of pla)).text;
-      }
+  function_report pla = record { limits = function_limits pla; text = (flow_report (embedding_of pla)).text }
 
   -- Read back, the text is the network of the permutation's circuit, in one register q, on its lines and the helper
   -- lines after them. It carries the permutation: for each word and whatever the helper lines may hold, its exact
@@ -67,9 +67,22 @@ module _ (method : Synthesis) (simplify : Bool) (blocks : Blocks) (aux : Aux) wh
     pub embeds : Embeds pla (embedding_of pla)
     pub carried : IsFlow (embedding_of pla) text
 
--- by the form of the input
-abbrev pub flow_row : Form → Synthesis → Bool → Blocks → Aux → ReadsFirst
-flow_row form.Perm method simplify blocks aux =
+-- ---- by the form of the input
+
+-- in blocks that are made by a rule
+abbrev pub ruled_row : Form → Synthesis → Bool → Blocks → Aux → ReadsFirst
+ruled_row form.Perm method simplify blocks aux =
     one permutation (flow_report method simplify blocks aux) (IsFlow method simplify blocks aux)
-flow_row _ method simplify blocks aux =
+ruled_row _ method simplify blocks aux =
     one table (function_report method simplify blocks aux) (IsFunctionFlow method simplify blocks aux)
+
+-- in joined blocks, which are found
+abbrev pub joined_row : Form → Synthesis → Bool → Aux → ReadsFirst
+joined_row form.Perm method simplify aux =
+    finds permutation (flow_limits method simplify Joined aux) always (IsFlow method simplify Joined aux)
+joined_row _ method simplify aux =
+    finds table (function_limits method simplify Joined aux) always (IsFunctionFlow method simplify Joined aux)
+
+abbrev pub flow_row : Form → Synthesis → Bool → Blocks → Aux → ReadsFirst
+flow_row origin method simplify Joined aux = joined_row origin method simplify aux
+flow_row origin method simplify blocks aux = ruled_row origin method simplify blocks aux

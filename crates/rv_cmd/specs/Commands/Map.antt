@@ -51,7 +51,7 @@ MapsBy Exact aux c net = Maps aux c net
 MapsBy Relative aux c net = MapsRelative aux c net
 MapsBy Toffoli aux c net = MapsToffoli aux c net
 MapsBy Near aux c net = MapsNear aux c net
-MapsBy Joined aux c net = MapsRelative aux c net
+MapsBy Joined aux c net = MapsJoined aux c net
 
 -- Read back, the text is a network, in one register q, that carries the circuit: with the exact amplitudes of its
 -- permutation on the lines and helper lines of the decomposed circuit.
@@ -61,13 +61,7 @@ pub record IsMapping (blocks : Blocks) (aux : Aux) (c : Cascade) (text : List �
   pub read_back : qasm_of text ≡ Ok (in_register_q net)
   pub maps : MapsBy blocks aux c net
 
--- The network is found: its phases are joined over the whole circuit, and it has no more T than that of ladders.
-pub record IsJoinedMapping (aux : Aux) (c : Cascade) (text : List ℕ) : Type 0 where
-  pub net : Network
-  pub is : text ≡ text_of net
-  pub read_back : qasm_of text ≡ Ok (in_register_q net)
-  pub maps : MapsJoined aux c net
-
+-- the network of joined blocks is found
 abbrev pub map_row : Blocks → Aux → ReadsFirst
-map_row Joined aux = finds circuit (map_limits Joined aux) always (IsJoinedMapping aux)
+map_row Joined aux = finds circuit (map_limits Joined aux) always (IsMapping Joined aux)
 map_row blocks aux = one circuit (map_report blocks aux) (IsMapping blocks aux)

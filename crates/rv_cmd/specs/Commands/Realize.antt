@@ -1,12 +1,17 @@
--- `realize`: a circuit that a search finds for a truth table, or for a permutation.
-use Rattle.std.specs.Prelude.{◌≡◌, ℕ, List, [], ◌∷◌, Ok}
+-- `realize`: a circuit that a search finds for a truth table, or for a permutation; or what circuits for a table cost.
+use Rattle.std.specs.Prelude.{◌≡◌, ◌≤◌, ℕ, Bool, true, false, List, [], ◌∷◌, All, length, map, Ok}
 use Rattle.rv_gate.specs.Circuit.{Cascade}
 use Rattle.rv_gate.specs.declared.circuit.TheConstants.{MOST_GATES}
 use Rattle.rv_perm.specs.Marked.{Marked}
 use Rattle.rv_pla.specs.Pla.{TwoLevel}
-use Rattle.rv_realize.specs.Realized.{IsInPlace, IsRealized, IsTooFew, IsTooLong}
+use Rattle.rv_price.specs.declared.goal.Goal.{Goal}
+use Rattle.rv_curve.specs.Report.{curve_text}
+use Rattle.rv_curve.specs.Row.{row_of}
+use Rattle.rv_curve.specs.declared.row.Row as counted
+use Rattle.rv_realize.specs.Realized.{AreOnMore, IsInPlace, IsPoint, IsRealized, IsTooFew, IsTooLong}
 use Rattle.rv_realize.specs.declared.options.RealizeFault.{RealizeFault}
 use Rattle.rv_realize.specs.declared.options.RealizeFault.TheVariants as fault
+use Rattle.rv_realize.specs.declared.points.Point.{Point}
 use Rattle.rv_real.specs.Reading.{real_of}
 use Rattle.rv_real.specs.Text.{text_of}
 use Rattle.rv_words.specs.declared.command.Form.{Form}
@@ -51,6 +56,25 @@ pub record IsRealization (most : ℕ) (pla : TwoLevel) (text : List ℕ) : Type 
   pub read_back : real_of text ≡ Ok circuit
   pub realized : IsRealized pla most circuit
 
+-- what a circuit costs, and the lines and the effort for which it was asked
+abbrev pub row_at : Point → counted.Row
+row_at p = row_of p.lines p.effort p.circuit
+
+-- The text is the report of circuits, at least one, each on more lines than those before it. Each gives by its marks
+-- what the table asks at each input word, on at most as many lines as its call allows, which are no more than so many.
+-- The goal and the seed of the calls are those that were asked for.
+pub record IsCurve (goal : Goal) (seed most : ℕ) (pla : TwoLevel) (text : List ℕ) : Type 0 where
+  pub points : List Point
+  pub is : text ≡ curve_text goal seed (map row_at points)
+  pub some : 1 ≤ length points
+  pub realized : All (IsPoint pla most) points
+  pub rising : AreOnMore points
+
+-- a circuit, or the report of several
+abbrev pub table_row : Bool → Goal → ℕ → ℕ → ReadsFirst
+table_row true goal seed most = finds table realize_limits (EndsInVain most) (IsCurve goal seed most)
+table_row false goal seed most = finds table realize_limits (EndsInVain most) (IsRealization most)
+
 -- ---- of a permutation
 
 -- its lines
@@ -66,6 +90,6 @@ pub record IsRealizedInPlace (spec : Marked) (text : List ℕ) : Type 0 where
   pub in_place : IsInPlace spec circuit
 
 -- by the form of the input
-abbrev pub realize_row : Form → ℕ → ReadsFirst
-realize_row form.Perm most = finds permutation (in_place_limits most) always IsRealizedInPlace
-realize_row _ most = finds table realize_limits (EndsInVain most) (IsRealization most)
+abbrev pub realize_row : Form → Bool → Goal → ℕ → ℕ → ReadsFirst
+realize_row form.Perm curve goal seed most = finds permutation (in_place_limits most) always IsRealizedInPlace
+realize_row _ curve goal seed most = table_row curve goal seed most

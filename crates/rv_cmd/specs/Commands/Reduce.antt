@@ -33,9 +33,9 @@ reduce_goal asks.Cx = Cx
 reduce_goal asks.Depth = Depth
 reduce_goal _ = Ops
 
--- Read back, the text is a network in one register q and without a measurement. Each amplitude of what was read is 2^k
--- times the network's, which has k pairs of H less, no more of what the goal counts, and no more T. What was denoted or
--- carried still is.
+-- Read back, the text is a network in one register q and without a measurement. It has the amplitudes of what was read,
+-- with the root of two divided out of each H, and no more of what the goal counts and no more T than that has; where a
+-- goal counts more than operations, Toffoli and Fredkin gates are blocks for this. What was denoted or carried still is.
 pub record IsReducedBy (goal : Goal) (listing : Listing) (text : List ℕ) : Type 0 where
   pub net : Network
   pub is : text ≡ text_of net

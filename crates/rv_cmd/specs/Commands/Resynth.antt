@@ -23,23 +23,25 @@ abbrev pub resynth_limits : Cascade → List Limit
 resynth_limits c = []
 
 -- Read back, the text is a circuit with the names, labels and marks of the one that was read. It makes the same of
--- every word, and the goal counts no more of it.
-pub record IsResynthesized (goal : Goal) (c : Cascade) (text : List ℕ) : Type 0 where
+-- every word, and the goal counts no more of it. Without effort it is the one that was read.
+pub record IsResynthesized (goal : Goal) (effort : ℕ) (c : Cascade) (text : List ℕ) : Type 0 where
   pub new : Cascade
   pub is : text ≡ text_of new
   pub read_back : real_of text ≡ Ok new
   pub resynthesis : IsResynthesis goal c new
+  pub idle : effort ≡ 0 → new ≡ c
 
 -- By the marks it gives the same at each word of the inputs: with constants put in, and garbage left out.
-pub record IsResynthesizedByMarks (goal : Goal) (c : Cascade) (text : List ℕ) : Type 0 where
+pub record IsResynthesizedByMarks (goal : Goal) (effort : ℕ) (c : Cascade) (text : List ℕ) : Type 0 where
   pub new : Cascade
   pub is : text ≡ text_of new
   pub read_back : real_of text ≡ Ok new
   pub resynthesis : IsResynthesisByMarks goal c new
+  pub idle : effort ≡ 0 → new ≡ c
 
-abbrev pub IsResynthReport : Bool → Goal → Cascade → List ℕ → Type 0
-IsResynthReport true goal = IsResynthesizedByMarks goal
-IsResynthReport false goal = IsResynthesized goal
+abbrev pub IsResynthReport : Bool → Goal → ℕ → Cascade → List ℕ → Type 0
+IsResynthReport true goal effort = IsResynthesizedByMarks goal effort
+IsResynthReport false goal effort = IsResynthesized goal effort
 
-abbrev pub resynth_row : Goal → Bool → ReadsFirst
-resynth_row goal marks = finds circuit resynth_limits always (IsResynthReport marks goal)
+abbrev pub resynth_row : Goal → ℕ → Bool → ReadsFirst
+resynth_row goal effort marks = finds circuit resynth_limits always (IsResynthReport marks goal effort)

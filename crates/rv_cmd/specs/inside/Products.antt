@@ -4,11 +4,12 @@ use Rattle.rv_real.specs.Text as real
 use Rattle.rv_perm.specs.Text as perm
 use Rattle.rv_pla.specs.Text.{esop_text}
 use Rattle.rv_qasm.specs.Text as qasm
+use Rattle.rv_curve.specs.Report.{curve_text}
 use Rattle.rv_faults.specs.declared.fault.Refusal.{Refusal}
 use Rattle.rv_faults.specs.declared.fault.Refusal.TheVariants.{Refused, OutOfMemory}
 use Rattle.rv_cmd.specs.declared.product.Made.{Made}
 use Rattle.rv_cmd.specs.declared.product.Product.{Product}
-use Rattle.rv_cmd.specs.declared.product.Product.TheVariants.{Circuit, Permutation, Cubes, Network, Expansion, Toffolis, CircuitCost, NetCost, Summary, Verdict, Witness, Comparison, Drawing, NetDrawing}
+use Rattle.rv_cmd.specs.declared.product.Product.TheVariants.{Circuit, Permutation, Cubes, Network, Expansion, Toffolis, CircuitCost, NetCost, Summary, Verdict, Witness, Comparison, Curve, Drawing, NetDrawing}
 use Rattle.rv_cmd.specs.Commands.Check.{verdict_text, witness_text}
 use Rattle.rv_cmd.specs.Commands.Compare.{comparison_text}
 use Rattle.rv_cmd.specs.Commands.Cost.{circuit_cost_text, net_cost_text}
@@ -30,6 +31,7 @@ product_text (Summary summary) = summary_text summary
 product_text (Verdict lines verdict) = verdict_text lines verdict
 product_text (Witness lines word) = witness_text lines word
 product_text (Comparison inputs answer) = comparison_text inputs answer
+product_text (Curve curve) = curve_text curve.goal curve.seed curve.rows.items
 product_text (Drawing circuit picture wrap) = circuit_text picture wrap circuit
 product_text (NetDrawing lines net picture wrap) = network_text picture wrap lines net.ops
 

@@ -106,12 +106,14 @@ impl OneSearch for Found {
 }
 
 impl Found {
-    // The list of cubes that the search finds.
-    fn list(&self, alloc: Global, pla: &Pla) -> Result<CubeList, AllocError>
+    // The list of cubes that the search finds, which begins with the reduced one.
+    fn list(&self, alloc: Global, pla: &Pla, reduced: &CubeList) -> Result<CubeList, AllocError>
+        requires list { reduced.now ≡ reduced_list pla.now }
+        requires right { IsRight pla.now reduced.now.cubes }
         ensures found { IfOk result (IsFound self.now.goal pla.now) }
         ensures valid { IfOk result IsEsop }
     {
-        let list = found_list(alloc, pla, self.goal, self.effort, self.seed)?;
+        let list = found_list(alloc, pla, reduced, self.goal, self.effort, self.seed)?;
         list.recall_invariant();
         Ok(list)
     }
@@ -122,7 +124,11 @@ impl Found {
             IsProductOf (found_within [] (product_text product)) (IsFoundList self.now.goal pla.now) product) }
         ensures unmade { IfErr result (IsRefusalOf 1 []) }
     {
-        match self.list(alloc, pla) {
+        let reduced = match reduced_list(alloc, pla) {
+            Ok(list) => list,
+            Err(_) => return Err(Refusal::OutOfMemory),
+        };
+        match self.list(alloc, pla, &reduced) {
             Ok(list) => Ok(Product::Cubes(list)),
             Err(_) => Err(Refusal::OutOfMemory),
         }
@@ -146,7 +152,7 @@ impl Found {
             Err(EsopFault::TooManyGates(count)) => return Err(too_many_gates(count)),
             Err(EsopFault::Mem) => return Err(Refusal::OutOfMemory),
         };
-        let list = match self.list(alloc, pla) {
+        let list = match self.list(alloc, pla, &reduced) {
             Ok(list) => list,
             Err(_) => return Err(Refusal::OutOfMemory),
         };

@@ -1,12 +1,14 @@
 ghost use Rattle.std.specs.Prelude.{◌≡◌, length, IfOk, IfErr};
+ghost use Rattle.rv_words.specs.declared.command.Blocks.TheVariants.{Joined};
 ghost use Rattle.rv_cmd.specs.Commands.Flow.{IsFlow, IsFunctionFlow, flow_limits, flow_report, flow_row};
-ghost use Rattle.rv_cmd.specs.Commands.Flow.{flow_synthesis, function_report};
+ghost use Rattle.rv_cmd.specs.Commands.Flow.{flow_synthesis, function_limits, function_report, joined_row, ruled_row};
+ghost use Rattle.rv_cmd.specs.Limits.{found_within};
 ghost use Rattle.rv_cmd.specs.Names.{names_read};
 ghost use Rattle.rv_cmd.specs.inside.Making.{Makes};
-ghost use Rattle.rv_cmd.specs.inside.Products.{IsProductOf, IsRefusalOf};
+ghost use Rattle.rv_cmd.specs.inside.Products.{IsProductOf, IsRefusalOf, product_text};
 
-use crate::commands::map::mapping;
-use crate::making::{OneInput, of_one};
+use crate::commands::map::{joined_mapping, mapping};
+use crate::making::{OneInput, OneSearch, found_of_one, of_one};
 use crate::product::{Made, Product};
 use crate::steps::embedding;
 use rv_faults::{Refusal, Unmade};
@@ -36,9 +38,43 @@ pub(crate) fn flow<F: Files>(
         blocks: settings.blocks,
         aux: settings.aux,
     };
+    match settings.blocks {
+        Blocks::Joined => joined_flow(alloc, settings, files, asked),
+        _ => ruled_flow(alloc, settings, files, asked),
+    }
+}
+
+// In blocks that are made by a rule.
+fn ruled_flow<F: Files>(
+    alloc: Global,
+    settings: &Settings,
+    files: &mut F,
+    asked: Asked,
+) -> Result<Made, Unmade>
+    requires { length (names_read settings.now) ≡ 1 }
+    ensures { Makes (ruled_row settings.now.origin asked.method asked.simplify asked.blocks asked.aux)
+        (names_read settings.now) (F.view files.old) (F.view files.new) result }
+{
     match settings.origin {
         Form::Perm => of_one(alloc, settings, files, &PermutationFlow { asked }),
         _ => of_one(alloc, settings, files, &FunctionFlow { asked }),
+    }
+}
+
+// In joined blocks.
+fn joined_flow<F: Files>(
+    alloc: Global,
+    settings: &Settings,
+    files: &mut F,
+    asked: Asked,
+) -> Result<Made, Unmade>
+    requires { length (names_read settings.now) ≡ 1 }
+    ensures { Makes (joined_row settings.now.origin asked.method asked.simplify asked.aux)
+        (names_read settings.now) (F.view files.old) (F.view files.new) result }
+{
+    match settings.origin {
+        Form::Perm => found_of_one(alloc, settings, files, &PermutationFlow { asked }),
+        _ => found_of_one(alloc, settings, files, &FunctionFlow { asked }),
     }
 }
 
@@ -81,6 +117,18 @@ impl OneInput for PermutationFlow {
     }
 }
 
+impl OneSearch for PermutationFlow {
+    type Text = PermReader;
+
+    ghost limits = { λ command. flow_limits command.asked.method command.asked.simplify Joined command.asked.aux };
+
+    ghost Means = { λ command. IsFlow command.asked.method command.asked.simplify Joined command.asked.aux };
+
+    fn find(&self, alloc: Global, spec: &PermSpec) -> Result<Product, Refusal> {
+        joined_network(alloc, self.asked, spec)
+    }
+}
+
 // The network of the embedding of a PLA's function.
 #[derive(Clone, Copy)]
 struct FunctionFlow {
@@ -104,6 +152,21 @@ impl OneInput for FunctionFlow {
     }
 }
 
+impl OneSearch for FunctionFlow {
+    type Text = PlaReader;
+
+    ghost limits = { λ command. function_limits command.asked.method command.asked.simplify Joined command.asked.aux };
+
+    ghost Means = { λ command. IsFunctionFlow command.asked.method command.asked.simplify Joined command.asked.aux };
+
+    fn find(&self, alloc: Global, pla: &Pla) -> Result<Product, Refusal> {
+        match embedding(alloc, pla) {
+            Ok(spec) => joined_network(alloc, self.asked, &spec),
+            Err(refusal) => Err(refusal),
+        }
+    }
+}
+
 fn network(alloc: Global, asked: Asked, spec: &PermSpec) -> Result<Product, Refusal>
     ensures made { IfOk result
         (IsProductOf (flow_report asked.method asked.simplify asked.blocks asked.aux spec.now)
@@ -114,6 +177,20 @@ fn network(alloc: Global, asked: Asked, spec: &PermSpec) -> Result<Product, Refu
     spec.recall_invariant();
     match circuit_for(alloc, spec, asked.method, asked.simplify) {
         Ok(circuit) => mapping(alloc, asked.blocks, asked.aux, &circuit),
+        Err(_) => Err(Refusal::OutOfMemory),
+    }
+}
+
+fn joined_network(alloc: Global, asked: Asked, spec: &PermSpec) -> Result<Product, Refusal>
+    ensures made { IfOk result (λ product. IsProductOf
+        (found_within (flow_limits asked.method asked.simplify Joined asked.aux spec.now) (product_text product))
+        (IsFlow asked.method asked.simplify Joined asked.aux spec.now) product) }
+    ensures unmade { IfErr result
+        (IsRefusalOf 1 (flow_limits asked.method asked.simplify Joined asked.aux spec.now)) }
+{
+    spec.recall_invariant();
+    match circuit_for(alloc, spec, asked.method, asked.simplify) {
+        Ok(circuit) => joined_mapping(alloc, asked.aux, &circuit),
         Err(_) => Err(Refusal::OutOfMemory),
     }
 }

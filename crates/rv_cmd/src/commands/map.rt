@@ -6,11 +6,11 @@ ghost use Rattle.rv_net.specs.Network.{expanded, operation_count};
 ghost use Rattle.rv_net.specs.declared.net.TheConstants.{MOST_OPS};
 ghost use Rattle.rv_words.specs.declared.command.Blocks.TheVariants.{Exact, Joined, Near, Relative, Toffoli};
 ghost use Rattle.rv_cmd.specs.declared.product.Product.TheVariants as products;
-ghost use Rattle.rv_cmd.specs.Commands.Map.{IsJoinedMapping, IsMapping, map_limits, map_report, map_row};
-ghost use Rattle.rv_cmd.specs.Limits.{of_ops};
+ghost use Rattle.rv_cmd.specs.Commands.Map.{IsMapping, map_limits, map_report, map_row};
+ghost use Rattle.rv_cmd.specs.Limits.{found_within, of_ops};
 ghost use Rattle.rv_cmd.specs.Names.{names_read};
 ghost use Rattle.rv_cmd.specs.inside.Making.{Makes};
-ghost use Rattle.rv_cmd.specs.inside.Products.{IsProductOf, IsRefusalOf};
+ghost use Rattle.rv_cmd.specs.inside.Products.{IsProductOf, IsRefusalOf, product_text};
 
 use crate::making::{OneInput, OneSearch, found_of_one, of_one};
 use crate::product::{Made, Product};
@@ -57,15 +57,25 @@ impl OneSearch for MapJoined {
 
     ghost limits = { λ command. map_limits Joined command.aux };
 
-    ghost Means = { λ command. IsJoinedMapping command.aux };
+    ghost Means = { λ command. IsMapping Joined command.aux };
 
     fn find(&self, alloc: Global, circuit: &Circuit) -> Result<Product, Refusal> {
-        match joined(alloc, circuit, self.aux) {
-            Ok(net) => Ok(Product::Network(net)),
-            Err(RelativeFault::TooManyLines(count)) => Err(too_many_lines(count, MOST_LINES)),
-            Err(RelativeFault::TooManyOps(count)) => Err(too_many_ops(count)),
-            Err(RelativeFault::Mem) => Err(Refusal::OutOfMemory),
-        }
+        joined_mapping(alloc, self.aux, circuit)
+    }
+}
+
+/// A network of the circuit in blocks whose phases are joined.
+pub(crate) fn joined_mapping(alloc: Global, aux: Aux, circuit: &Circuit) -> Result<Product, Refusal>
+    ensures made { IfOk result
+        (λ product. IsProductOf (found_within (map_limits Joined aux circuit.now) (product_text product))
+        (IsMapping Joined aux circuit.now) product) }
+    ensures unmade { IfErr result (IsRefusalOf 1 (map_limits Joined aux circuit.now)) }
+{
+    match joined(alloc, circuit, aux) {
+        Ok(net) => Ok(Product::Network(net)),
+        Err(RelativeFault::TooManyLines(count)) => Err(too_many_lines(count, MOST_LINES)),
+        Err(RelativeFault::TooManyOps(count)) => Err(too_many_ops(count)),
+        Err(RelativeFault::Mem) => Err(Refusal::OutOfMemory),
     }
 }
 

@@ -20,8 +20,8 @@ pub(crate) fn resynth<F: Files>(
     files: &mut F,
 ) -> Result<Made, Unmade>
     requires { length (names_read settings.now) ≡ 1 }
-    ensures { Makes (resynth_row (resynth_goal settings.now.goal) settings.now.marks) (names_read settings.now)
-        (F.view files.old) (F.view files.new) result }
+    ensures { Makes (resynth_row (resynth_goal settings.now.goal) settings.now.effort settings.now.marks)
+        (names_read settings.now) (F.view files.old) (F.view files.new) result }
 {
     let search = Search {
         goal: resynth_goal(settings.goal),
@@ -53,7 +53,7 @@ impl OneSearch for OnAllLines {
 
     ghost limits = { λ command. resynth_limits };
 
-    ghost Means = { λ command. IsResynthReport false command.search.goal };
+    ghost Means = { λ command. IsResynthReport false command.search.goal command.search.effort };
 
     fn find(&self, alloc: Global, circuit: &Circuit) -> Result<Product, Refusal> {
         let Search { goal, effort, seed } = self.search;
@@ -77,7 +77,7 @@ impl OneSearch for ByMarks {
 
     ghost limits = { λ command. resynth_limits };
 
-    ghost Means = { λ command. IsResynthReport true command.search.goal };
+    ghost Means = { λ command. IsResynthReport true command.search.goal command.search.effort };
 
     fn find(&self, alloc: Global, circuit: &Circuit) -> Result<Product, Refusal> {
         let Search { goal, effort, seed } = self.search;

@@ -117,6 +117,17 @@ fn a_flow_is_the_chain_of_its_steps(rt: HostRuntime) {
 }
 
 #[test]
+fn joined_blocks_of_a_flow_are_those_of_map(rt: HostRuntime) {
+    const STEPS: [&str; 2] = ["synth --method out", "map --blocks joined"];
+    const TABLE_STEPS: [&str; 3] = ["embed", "synth", "map --blocks joined --aux clean"];
+    let alloc = rt.alloc();
+    let words = "flow --from perm --method out --blocks joined";
+    length_of_chain(&rt, alloc, words, &STEPS, b"1 0 6 5 7 3 4 2\n");
+    let words = "flow --blocks joined --aux clean";
+    length_of_chain(&rt, alloc, words, &TABLE_STEPS, CONJUNCTION.as_bytes());
+}
+
+#[test]
 fn an_input_of_a_flow_is_refused_by_its_form(rt: HostRuntime) {
     const TABLES: [(&[u8], &str); 2] = [
         (b".i 2\n.o 1\n1 1\n.e\n", "3: wrong term length"),

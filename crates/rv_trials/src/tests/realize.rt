@@ -48,10 +48,65 @@ fn a_permutation_keeps_its_lines_and_marks(rt: HostRuntime) {
     expect_texts(&rt, rt.alloc(), words, "p.txt", &CASES);
 }
 
+// The names of the numbers in a report.
+macro_rules! curve {
+    ($rows:literal) => {
+        concat!("lines t cnot quantum gates call\n", $rows)
+    };
+}
+
+// One Toffoli gate is a conjunction, and none a line that stays; of each there is no cheaper circuit on more lines.
+#[test]
+fn a_curve_tells_costs_and_calls(rt: HostRuntime) {
+    const CASES: [(&str, &str, u8, &str); 3] = [
+        (
+            "realize --curve --effort 1",
+            CONJUNCTION,
+            0,
+            curve!("3 7 6 5 1 rev realize --lines 64 --goal t --effort 1 --seed 0\n"),
+        ),
+        (
+            "realize --lines 3 --goal cx --effort 1 --seed 9 --curve",
+            CONJUNCTION,
+            0,
+            curve!("3 7 6 5 1 rev realize --lines 3 --goal cx --effort 1 --seed 9\n"),
+        ),
+        (
+            "realize --curve --effort 9",
+            ".i 1\n.o 1\n1 1\n.e\n",
+            0,
+            curve!("1 0 0 0 0 rev realize --lines 1 --goal t --effort 2 --seed 0\n"),
+        ),
+    ];
+    expect_each(&rt, rt.alloc(), &CASES);
+}
+
+// Two lines are exchanged by three CNOTs; with a line more there are fewer.
+const EXCHANGE: &str = ".i 2\n.o 2\n01 10\n10 01\n11 11\n.e\n";
+
+#[test]
+fn a_call_of_a_curve_writes_the_circuit(rt: HostRuntime) {
+    let alloc = rt.alloc();
+    let words = "realize --curve --goal gates --effort 4";
+    let head = curve!("2 0 3 3 3 rev realize --lines 2 --goal gates --effort 1 --seed 0\n");
+    expect_lines(
+        &rt,
+        alloc,
+        words,
+        ("-", EXCHANGE.as_bytes()),
+        head.as_bytes(),
+        3,
+    );
+    let call = "realize --lines 2 --goal gates --effort 1 --seed 0";
+    let circuit = output_of(&rt, alloc, call, EXCHANGE.as_bytes());
+    let report = circuit_report!(2, 3, 1, 3, 3);
+    expect_on(&rt, alloc, "cost", circuit.bytes(), told(0, report));
+}
+
 // Nine inputs, and sixteen outputs that are 0: all words share one.
 #[test]
 fn what_is_not_realized_is_refused(rt: HostRuntime) {
-    const CASES: [(&str, &str, u8, &str); 10] = [
+    const CASES: [(&str, &str, u8, &str); 13] = [
         (
             "realize --effort 1 --lines 2",
             CONJUNCTION,
@@ -100,6 +155,24 @@ fn what_is_not_realized_is_refused(rt: HostRuntime) {
             CONJUNCTION,
             2,
             "option --to not used by realize",
+        ),
+        (
+            "realize --curve --effort 1 --lines 2",
+            CONJUNCTION,
+            5,
+            "-: 3 lines are more than 2",
+        ),
+        (
+            "realize --from perm --curve",
+            CYCLES,
+            2,
+            "option --curve not used by realize",
+        ),
+        (
+            "synth --curve",
+            CYCLES,
+            2,
+            "option --curve not used by synth",
         ),
         (
             "realize f g",

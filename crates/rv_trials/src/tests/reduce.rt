@@ -67,7 +67,7 @@ fn a_reduced_network_has_the_published_t(rt: HostRuntime) {
                  t3 a2 b2 c0\nt3 a2 b3 c1\nt2 c1 c2\nt3 a1 b0 c1\nt3 a1 b1 c2\nt3 a1 b2 c3\nt3 a1 b3 c0\n\
                  t2 c0 c1\nt3 a0 b0 c0\nt3 a0 b1 c1\nt3 a0 b2 c2\nt3 a0 b3 c3\n"
             ),
-            "lines 12\noperations 200\nt 68\n",
+            "lines 12\noperations 188\nt 68\n",
         ),
         // The adder of Vedral, Barenco and Ekert.
         (
@@ -106,6 +106,19 @@ fn a_goal_makes_fewer_cnots(rt: HostRuntime) {
     let alloc = rt.alloc();
     let map = output_of(&rt, alloc, "map", CIRCUIT.as_bytes());
     let reduced = output_of(&rt, alloc, "reduce --goal cx --effort 10", map.bytes());
+    let first = ("c.real", CIRCUIT.as_bytes());
+    let second = ("n.qasm", reduced.bytes());
+    let same = told(0, "same\n");
+    expect_over_two(&rt, alloc, "check c.real n.qasm", first, second, same);
+}
+
+// A Toffoli and a Fredkin gate, each by its block.
+#[test]
+fn a_goal_takes_gates_apart(rt: HostRuntime) {
+    const CIRCUIT: &str = typed!(3, "a b c", "t3 a b c\nf3 a b c\n");
+    let alloc = rt.alloc();
+    let network = network!(3, "ccx q[0],q[1],q[2];\ncswap q[0],q[1],q[2];\n");
+    let reduced = output_of(&rt, alloc, "reduce --goal t --effort 1", network.as_bytes());
     let first = ("c.real", CIRCUIT.as_bytes());
     let second = ("n.qasm", reduced.bytes());
     let same = told(0, "same\n");

@@ -19,7 +19,7 @@ returns-in-Ok-circuit_for g c =
 pub returns-in-Ok : goal.returns-in-Ok
 returns-in-Ok g c =
     let e = c.in-Err-circuit_for.ensures in
-    realize-refuses c.args.options.lines c.in-Ok.pla c.in-Err-circuit_for.fault c.args.name.now (g.F.Files.view c.args.files.now)
+    realize-refuses c.args.options.lines c.in-Ok.pla (IsRealization c.args.options.lines) c.in-Err-circuit_for.fault c.args.name.now (g.F.Files.view c.args.files.now)
     (g.F.Files.view c.read_one.new.files) c.unmade.result (λ count is. e.too_many_lines count (ap Err is)) (λ is. e.too_many_gates (ap Err is))
     (c.unmade.ensures ∙ ap unmade_by c.in_vain.ensures) c.read_one.ensures.keeps c.in-Ok.ensures.read
 

@@ -27,7 +27,7 @@ returns-then-is_no_dearer-clause-made c =
     let Cheap : Esop → Type 0 = λ e. cost_of goal circuit.gates ≤ cost_of goal (cascade_of e).gates in
     let shared = c.in-Ok-shared_cascade.ensures in
     found-cascade goal c.args.pla.now c.in-Ok-list.list circuit (subst Few c.in-Ok.ensures.list few) c.in-Ok-list.ensures.found
-    shared.lines shared.adds.adds shared.no_dearer (subst Cheap c.in-Ok.ensures.list (c.is_no_dearer.ensures.no_dearer c.if-is_no_dearer.true))
+    shared.lines shared.adds.adds shared.no_dearer (subst Cheap c.in-Ok.ensures.list (c.is_no_dearer.ensures.no_dearer c.if-is_no_dearer.true)) shared.flips
     c.recall_invariant-then-is_no_dearer.ensures
 
 pub returns-in-Ok-shared_cascade-clause-made : goal.returns-in-Ok-shared_cascade-clause-made
