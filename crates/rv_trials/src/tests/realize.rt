@@ -81,25 +81,25 @@ fn a_curve_tells_costs_and_calls(rt: HostRuntime) {
     expect_each(&rt, rt.alloc(), &CASES);
 }
 
-// Two lines are exchanged by three CNOTs; with a line more there are fewer.
+// Two lines are exchanged by one gate, which is three CNOTs in a network; no circuit has fewer, so there is one row.
 const EXCHANGE: &str = ".i 2\n.o 2\n01 10\n10 01\n11 11\n.e\n";
 
 #[test]
 fn a_call_of_a_curve_writes_the_circuit(rt: HostRuntime) {
     let alloc = rt.alloc();
     let words = "realize --curve --goal gates --effort 4";
-    let head = curve!("2 0 3 3 3 rev realize --lines 2 --goal gates --effort 1 --seed 0\n");
+    let head = curve!("2 0 3 3 1 rev realize --lines 2 --goal gates --effort 1 --seed 0\n");
     expect_lines(
         &rt,
         alloc,
         words,
         ("-", EXCHANGE.as_bytes()),
         head.as_bytes(),
-        3,
+        2,
     );
     let call = "realize --lines 2 --goal gates --effort 1 --seed 0";
     let circuit = output_of(&rt, alloc, call, EXCHANGE.as_bytes());
-    let report = circuit_report!(2, 3, 1, 3, 3);
+    let report = circuit_report!(2, 1, 0, 3, 1);
     expect_on(&rt, alloc, "cost", circuit.bytes(), told(0, report));
 }
 
