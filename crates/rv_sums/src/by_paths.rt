@@ -1,7 +1,7 @@
 ghost use Rattle.std.specs.Prelude.{◌≡◌, length, IfOk, IfSome, IsTrue};
 ghost use Rattle.rv_gate.specs.Gate.{run};
 ghost use Rattle.rv_net.specs.Denotes.{Denotes};
-ghost use Rattle.rv_sums.specs.Finding.{IsRight, IsUndecided};
+ghost use Rattle.rv_sums.specs.Finding.{IsRight, IsRightFrom, IsUndecided};
 ghost use Rattle.rv_sums.specs.declared.finding.Finding.TheVariants.{Differs};
 
 use crate::Finding;
@@ -181,4 +181,17 @@ pub fn check_by_paths(alloc: Global, circuit: &Circuit, net: &Net) -> Result<Fin
         Ok((false, reach)) => other_sum(alloc, circuit, net, reach),
         Err(fault) => finding_of(fault),
     }
+}
+
+/// Checks whether a network does what a circuit does from each word that holds the circuit's constants: a line that is
+/// marked as constant begins so. All lines are compared, also those that are marked as garbage.
+pub fn check_from_constants(
+    _alloc: Global,
+    _circuit: &Circuit,
+    _net: &Net,
+) -> Result<Finding, AllocError>
+    requires { length _circuit.now.names ≡ _net.now.lines }
+    ensures { IfOk result (IsRightFrom _circuit.now _net.now) }
+{
+    Err(AllocError)
 }

@@ -17,5 +17,5 @@ mod shorter;
 mod suspects;
 mod taking;
 
-pub use by_paths::{MOST_STEPS, MOST_TERMS, check_by_paths};
+pub use by_paths::{MOST_STEPS, MOST_TERMS, check_by_paths, check_from_constants};
 pub use finding::Finding;
