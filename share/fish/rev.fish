@@ -57,6 +57,7 @@ complete -c rev -n '__fish_seen_subcommand_from demo' -l seed -x -d 'the seed of
 complete -c rev -n '__fish_seen_subcommand_from esop reduce' -l seed -x -d 'other random numbers for the search, 0 to 65535; needs --goal'
 complete -c rev -n '__fish_seen_subcommand_from compare' -l nodes -x -d 'how many nodes a decision diagram may have, 1 to 4194304'
 complete -c rev -n '__fish_seen_subcommand_from check' -l by -x -a 'words paths' -d 'from each word in turn, or by sums over paths from all words at once'
+complete -c rev -n '__fish_seen_subcommand_from check' -l constants -d 'from the words alone that hold the constants of the circuit; by paths'
 complete -c rev -n '__fish_seen_subcommand_from compute realize resynth' -l seed -x -d 'other random numbers for the search, 0 to 65535'
 complete -c rev -n '__fish_seen_subcommand_from demo' -f
 # <<<

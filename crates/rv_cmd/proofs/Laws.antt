@@ -1,5 +1,6 @@
 pub mod Cascade
 pub mod Check
+pub mod CheckConstants
 pub mod CheckNetworks
 pub mod Compare
 pub mod Compute

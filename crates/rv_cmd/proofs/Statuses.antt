@@ -8,7 +8,7 @@ use Rattle.rv_words.specs.declared.fault.ArgumentFault.{ArgumentFault}
 use Rattle.rv_words.specs.declared.fault.ArgumentFault.TheVariants as arguments
 use Rattle.rv_faults.specs.declared.fault.Fault.TheVariants.{CannotRead, CannotWrite, Refused, TooLong, OutOfMemory}
 use Rattle.rv_faults.specs.declared.fault.InputFault.{InputFault}
-use Rattle.rv_faults.specs.declared.fault.InputFault.TheVariants.{Text, WrongLength, OutOfRange, Repeated, Conflict, NotToffoli, NotIdentity, NotClassical, WideTemplate, LongTemplate, TooManyLines, TooManyGates, MoreGates, TooManyOps, LargeCoefficient, Undecided}
+use Rattle.rv_faults.specs.declared.fault.InputFault.TheVariants.{Text, WrongLength, OutOfRange, Repeated, Conflict, NotToffoli, NotIdentity, NotClassical, WideTemplate, LongTemplate, TooManyLines, TooManyEnds, TooManyGates, MoreGates, TooManyOps, LargeCoefficient, Undecided}
 use Rattle.rv_cmd.specs.declared.run_end.RunEnd.{RunEnd}
 use Rattle.rv_cmd.specs.declared.run_end.RunEnd.TheVariants.{Understood, ArgumentsRefused}
 use Rattle.rv_cmd.specs.Commands.{row_of}
@@ -44,6 +44,7 @@ input-other (LongTemplate gates most) = λ h. omega (arith, h)
 input-other (TooManyLines count most) = λ h. omega (arith, h)
 input-other (Undecided count what) = λ h. omega (arith, h)
 input-other (TooManyGates count most) = λ h. omega (arith, h)
+input-other (TooManyEnds count most) = λ h. omega (arith, h)
 input-other (MoreGates most) = λ h. omega (arith, h)
 input-other (TooManyOps count most) = λ h. omega (arith, h)
 input-other (LargeCoefficient lines word place) = λ h. omega (arith, h)

@@ -1,5 +1,6 @@
 -- The table of the commands: a row each.
 pub mod Check
+pub mod CheckConstants
 pub mod CheckNetworks
 pub mod Compare
 pub mod Compute
@@ -22,15 +23,18 @@ pub mod Single
 pub mod Synth
 pub mod Templates
 pub mod ToReal
+use Rattle.std.specs.Prelude.{Bool, false, true}
 use Rattle.rv_words.specs.declared.asked.Settings.{Settings}
 use Rattle.rv_words.specs.declared.command.Command.{Command}
 use Rattle.rv_words.specs.declared.command.Command.TheVariants as command
 use Rattle.rv_words.specs.declared.command.CheckedBy.{CheckedBy}
+use Rattle.rv_words.specs.declared.command.CheckedBy.TheVariants.{Paths, Words}
 use Rattle.rv_words.specs.declared.command.Form.{Form}
 use Rattle.rv_words.specs.declared.command.Form.TheVariants as form
 use Rattle.rv_cmd.specs.Goals.{search_goal}
 use Rattle.rv_cmd.specs.Row.{ReadsFirst, Row, answers_as_it_reads, reads_first}
 use Rattle.rv_cmd.specs.Commands.Check.{check_row}
+use Rattle.rv_cmd.specs.Commands.CheckConstants.{constants_row}
 use Rattle.rv_cmd.specs.Commands.CheckNetworks.{networks_row}
 use Rattle.rv_cmd.specs.Commands.Compare.{compare_row}
 use Rattle.rv_cmd.specs.Commands.Compute.{compute_row}
@@ -54,10 +58,19 @@ use Rattle.rv_cmd.specs.Commands.Synth.{rows_method, synth_row}
 use Rattle.rv_cmd.specs.Commands.Templates.{templates_row}
 use Rattle.rv_cmd.specs.Commands.ToReal.{toreal_row}
 
+-- by sums over paths from all words, or from those that hold the circuit's constants
+abbrev pub row_by_paths : Bool → ReadsFirst
+row_by_paths false = check_row Paths
+row_by_paths true = constants_row
+
+abbrev pub row_by : CheckedBy → Bool → ReadsFirst
+row_by Words constants = check_row Words
+row_by Paths constants = row_by_paths constants
+
 -- two networks are compared by sums over paths alone
-abbrev pub row_of_check : Form → CheckedBy → ReadsFirst
-row_of_check form.Qasm by = networks_row
-row_of_check _ by = check_row by
+abbrev pub row_of_check : Form → CheckedBy → Bool → ReadsFirst
+row_of_check form.Qasm by constants = networks_row
+row_of_check _ by constants = row_by by constants
 
 -- the row of a command, with what its options ask for
 abbrev pub row_for : Command → Settings → Row
@@ -74,7 +87,7 @@ row_for command.Flow s = reads_first (flow_row s.origin (flow_synthesis s.method
 row_for command.Demo s = reads_first (demo_row s.lines s.seed)
 row_for command.Fold s = reads_first fold_row
 row_for command.Reduce s = reads_first (reduce_row s.goal)
-row_for command.Check s = reads_first (row_of_check s.origin s.checked)
+row_for command.Check s = reads_first (row_of_check s.origin s.checked s.constants)
 row_for command.Single s = reads_first single_row
 row_for command.Route s = reads_first route_row
 row_for command.Draw s = reads_first (draw_row s.origin s.picture s.wrap)

@@ -6,6 +6,7 @@ ghost use Rattle.rv_cmd.specs.Row.{IsReadsFirst};
 ghost use Rattle.rv_cmd.specs.inside.Making.{MakesBy};
 
 pub(crate) mod check;
+pub(crate) mod check_constants;
 pub(crate) mod check_networks;
 pub(crate) mod compare;
 pub(crate) mod compute;

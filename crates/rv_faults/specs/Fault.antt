@@ -9,7 +9,7 @@ use Rattle.rv_faults.specs.declared.fault.Unmade.TheVariants as unmade
 use Rattle.rv_faults.specs.declared.fault.TextFormat.{TextFormat}
 use Rattle.rv_faults.specs.declared.fault.TextFormat.TheVariants.{Real, Permutation, Pla, Qasm, Blif, Words}
 use Rattle.rv_faults.specs.declared.fault.InputFault.{InputFault}
-use Rattle.rv_faults.specs.declared.fault.InputFault.TheVariants.{Text, WrongLength, OutOfRange, Repeated, Conflict, NotToffoli, NotIdentity, NotClassical, WideTemplate, LongTemplate, TooManyLines, TooManyGates, MoreGates, TooManyOps, LargeCoefficient, Undecided}
+use Rattle.rv_faults.specs.declared.fault.InputFault.TheVariants.{Text, WrongLength, OutOfRange, Repeated, Conflict, NotToffoli, NotIdentity, NotClassical, WideTemplate, LongTemplate, TooManyLines, TooManyEnds, TooManyGates, MoreGates, TooManyOps, LargeCoefficient, Undecided}
 use Rattle.rv_faults.specs.declared.fault.Measure.{Measure}
 use Rattle.rv_faults.specs.declared.fault.Measure.TheVariants.{Nodes, Terms, Steps, PathBits}
 use Rattle.rv_text.specs.declared.lines.TheConstants.{MOST_BYTES}
@@ -49,6 +49,7 @@ status_of_input (WideTemplate lines most) = 5
 status_of_input (LongTemplate gates most) = 5
 status_of_input (TooManyLines count most) = 5
 status_of_input (TooManyGates count most) = 5
+status_of_input (TooManyEnds count most) = 5
 status_of_input (MoreGates most) = 5
 status_of_input (TooManyOps count most) = 5
 status_of_input (LargeCoefficient lines word place) = 5
@@ -119,6 +120,7 @@ said_of (NotClassical place) = codes ": operation " ++ (decimal place ++ codes "
 said_of (WideTemplate lines most) = template_of lines (codes " lines is wider than ") most
 said_of (LongTemplate gates most) = template_of gates (codes " gates is longer than ") most
 said_of (TooManyLines count most) = counted_to count (codes " lines are more than ") most
+said_of (TooManyEnds count most) = counted_to count (codes " lines of inputs and outputs are more than ") most
 said_of (TooManyGates count most) = counted_to count (codes " gates are more than ") most
 said_of (MoreGates most) = codes ": more than " ++ (decimal most ++ codes " gates")
 said_of (TooManyOps count most) = counted_to count (codes " operations are more than ") most

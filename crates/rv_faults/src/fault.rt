@@ -153,6 +153,11 @@ pub enum InputFault {
         count: u32,
         most: u8,
     },
+    /// The inputs and outputs need so many lines, more than there may be.
+    TooManyEnds {
+        count: u32,
+        most: u8,
+    },
     /// So many gates are needed, more than a circuit has.
     TooManyGates {
         count: u32,
@@ -212,6 +217,7 @@ impl InputFault {
             InputFault::WideTemplate { .. }
             | InputFault::LongTemplate { .. }
             | InputFault::TooManyLines { .. }
+            | InputFault::TooManyEnds { .. }
             | InputFault::TooManyGates { .. }
             | InputFault::MoreGates { .. }
             | InputFault::TooManyOps { .. }

@@ -103,6 +103,10 @@ fn put_refusal<E: Sink>(writer: &mut Writer, errs: &mut E, why: InputFault)
                 u32::from(most),
             );
         }
+        InputFault::TooManyEnds { count, most } => {
+            let what = b" lines of inputs and outputs are more than ";
+            put_counted(writer, errs, count, what, u32::from(most));
+        }
         InputFault::TooManyGates { count, most } => {
             put_counted(writer, errs, count, b" gates are more than ", most);
         }

@@ -3,7 +3,7 @@ use Rattle.std.proofs.Common.{◌≡◌, [], ◌∷◌, Err, None, Some, refl, c
 use Rattle.clap.proofs.OnLiterals.{clap_on_literals}
 use Rattle.rv_words.specs.declared.command.Command.TheVariants.{Synth, Embed, Esop, Decompose, Map, Simulate, Demo, Fold, Check, Single, Route, Compute, Realize}
 use Rattle.rv_words.specs.declared.fault.ArgumentFault.TheVariants.{NotUnderstood, UnknownCommand, NotUsed, BadValue, InputCount, TwiceStandard}
-use Rattle.rv_words.specs.declared.options.TheConstants.{METHOD, TO, FROM, AUX, LINES, SEED, ALL, GOAL, EFFORT, BLOCKS, AS, GATES, CURVE}
+use Rattle.rv_words.specs.declared.options.TheConstants.{METHOD, TO, FROM, AUX, LINES, SEED, ALL, GOAL, EFFORT, BLOCKS, AS, GATES, CURVE, CONSTANTS}
 use Rattle.rv_words.specs.Line.{value_of, line, refusal}
 use Rattle.rv_words.specs.Values.{number_in, values_in}
 use Rattle.rv_words.specs.Settings.{read, read_by, settings_of}
@@ -167,6 +167,15 @@ curve_of_permutations = refl
 curve_of_networks : settings_of (codes "compute" ∷ codes "--curve" ∷ []) ≡ Err (NotUsed Compute CURVE)
 unfolding settings_of read read_by values_in refusal value_of line clap_on_literals
 curve_of_networks = refl
+
+constants_by_words : settings_of (codes "check" ∷ codes "--constants" ∷ codes "a.real" ∷ []) ≡ Err (NotUsed Check CONSTANTS)
+unfolding settings_of read read_by values_in refusal value_of line clap_on_literals
+constants_by_words = refl
+
+constants_of_networks : settings_of
+    (codes "check" ∷ codes "--by" ∷ codes "paths" ∷ codes "--from" ∷ codes "qasm" ∷ codes "--constants" ∷ codes "a.qasm" ∷ []) ≡ Err (NotUsed Check CONSTANTS)
+unfolding settings_of read read_by values_in refusal value_of line clap_on_literals
+constants_of_networks = refl
 
 unknown_gates : settings_of (codes "optimal" ∷ codes "--gates" ∷ codes "ncv" ∷ []) ≡ Err (BadValue GATES)
 unfolding settings_of read read_by values_in refusal value_of line clap_on_literals

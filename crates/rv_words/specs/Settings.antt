@@ -58,6 +58,7 @@ read_inputs command g values =
       report = values.report;
       nodes = values.nodes;
       curve = is_flag_given g (codes "curve");
+      constants = is_flag_given g (codes "constants");
     }))
 
 abbrev pub read_by_values : Command → Given → Result Values ℕ → Result Settings ArgumentFault

@@ -4,7 +4,7 @@ use Rattle.std.specs.List.{list_any}
 use Rattle.std.specs.Str.{bytes_eq}
 use Rattle.rv_words.specs.declared.command.Command.{Command}
 use Rattle.rv_words.specs.declared.command.Command.TheVariants.{Synth, Embed, Esop, Templates, Decompose, Map, Cost, Simulate, ToReal, Flow, Demo, Fold, Reduce, Check, Single, Route, Draw, Compare, Resynth, Compute, Optimal, Realize}
-use Rattle.rv_words.specs.declared.options.TheConstants.{METHOD, TO, FROM, LIBRARY, AUX, LINES, SEED, ALL, SIMPLIFY, WRAP, GOAL, EFFORT, MARKS, BLOCKS, AS, GATES, BY, NODES, CURVE}
+use Rattle.rv_words.specs.declared.options.TheConstants.{METHOD, TO, FROM, LIBRARY, AUX, LINES, SEED, ALL, SIMPLIFY, WRAP, GOAL, EFFORT, MARKS, BLOCKS, AS, GATES, BY, NODES, CURVE, CONSTANTS}
 
 -- a command's name, how many inputs it takes at the least and at the most, and the places of the options that it uses
 pub record Usage : Type 0 where
@@ -30,7 +30,7 @@ usage_of Flow = row (codes "flow") 0 1 (METHOD ∷ FROM ∷ AUX ∷ SIMPLIFY ∷
 usage_of Demo = row (codes "demo") 0 0 (LINES ∷ SEED ∷ [])
 usage_of Fold = row (codes "fold") 0 1 []
 usage_of Reduce = row (codes "reduce") 0 1 (GOAL ∷ EFFORT ∷ SEED ∷ [])
-usage_of Check = row (codes "check") 1 2 (BY ∷ FROM ∷ [])
+usage_of Check = row (codes "check") 1 2 (BY ∷ FROM ∷ CONSTANTS ∷ [])
 usage_of Single = row (codes "single") 0 1 []
 usage_of Route = row (codes "route") 0 1 []
 usage_of Draw = row (codes "draw") 0 1 (FROM ∷ WRAP ∷ AS ∷ [])

@@ -5,8 +5,8 @@ ghost use Rattle.std.specs.Str.{bytes_eq};
 ghost use Rattle.rv_words.specs.Table.{command_of, is_used, needs_goal, usage_of};
 
 use crate::options::{
-    ALL, AS, AUX, BLOCKS, BY, CURVE, EFFORT, FROM, GATES, GOAL, LIBRARY, LINES, MARKS, METHOD,
-    NODES, SEED, SIMPLIFY, TO, WRAP,
+    ALL, AS, AUX, BLOCKS, BY, CONSTANTS, CURVE, EFFORT, FROM, GATES, GOAL, LIBRARY, LINES, MARKS,
+    METHOD, NODES, SEED, SIMPLIFY, TO, WRAP,
 };
 use rv_tbs::Method;
 
@@ -104,7 +104,7 @@ pub(crate) fn usage_of(command: Command) -> Usage
         Command::Demo => row("demo", 0, 0, &[LINES, SEED]),
         Command::Fold => row("fold", 0, 1, &[]),
         Command::Reduce => row("reduce", 0, 1, &[GOAL, EFFORT, SEED]),
-        Command::Check => row("check", 1, 2, &[BY, FROM]),
+        Command::Check => row("check", 1, 2, &[BY, FROM, CONSTANTS]),
         Command::Single => row("single", 0, 1, &[]),
         Command::Route => row("route", 0, 1, &[]),
         Command::Draw => row("draw", 0, 1, &[FROM, WRAP, AS]),

@@ -40,9 +40,11 @@ pub(crate) const NODES: u8 = 17;
 
 pub(crate) const CURVE: u8 = 18;
 
-pub(crate) static PLACES: [u8; 19] = [
+pub(crate) const CONSTANTS: u8 = 19;
+
+pub(crate) static PLACES: [u8; 20] = [
     METHOD, TO, FROM, LIBRARY, AUX, LINES, SEED, ALL, SIMPLIFY, WRAP, GOAL, EFFORT, MARKS, BLOCKS,
-    AS, GATES, BY, NODES, CURVE,
+    AS, GATES, BY, NODES, CURVE, CONSTANTS,
 ];
 
 /// What the option at a place is called.
@@ -68,7 +70,8 @@ pub fn option_name(place: u8) -> &'static str
         GATES => "gates",
         BY => "by",
         NODES => "nodes",
-        _ => "curve",
+        CURVE => "curve",
+        _ => "constants",
     }
 }
 
@@ -76,5 +79,5 @@ pub fn option_name(place: u8) -> &'static str
 pub(crate) fn takes_value(place: u8) -> bool
     ensures { result ≡ takes_value place }
 {
-    place != ALL && place != SIMPLIFY && place != MARKS && place != CURVE
+    place != ALL && place != SIMPLIFY && place != MARKS && place != CURVE && place != CONSTANTS
 }

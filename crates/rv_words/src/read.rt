@@ -124,6 +124,7 @@ fn read_inputs(
         report: values.report,
         nodes: values.nodes,
         curve: is_flag_given(matches, "curve"),
+        constants: is_flag_given(matches, "constants"),
     })
 }
 

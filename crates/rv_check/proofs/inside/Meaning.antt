@@ -77,12 +77,12 @@ amplitudes_differ : (ops : List Op) (x image : Word) → agrees ops x image ≡ 
 unfolding agrees
 amplitudes_differ ops x image e = grind (arith, find_word, are_same, amplitude_of_map, are_same-same)
 
-no_break : (gates : List Shape) (net : Network) (number : ℕ) → difference_at gates net number ≡ None → ¬ Breaks gates net number
+pub no_break : (gates : List Shape) (net : Network) (number : ℕ) → difference_at gates net number ≡ None → ¬ Breaks gates net number
 no_break gates net number e (y, l, ne) =
     ne (amplitudes_agree net.ops (word_of net.lines number) (run gates (word_of net.lines number)) (none_true _ number e) y (l ∙ sym (length-word_of net.lines number)))
 
 -- a word that breaks nothing agrees, and one that breaks something doesn't
-agrees_unless : (gates : List Shape) (net : Network) (number : ℕ) → ¬ Breaks gates net number → difference_at gates net number ≡ None
+pub agrees_unless : (gates : List Shape) (net : Network) (number : ℕ) → ¬ Breaks gates net number → difference_at gates net number ≡ None
 agrees_unless gates net number unbroken = grind (arith, word_of, amplitudes_differ, length-word_of)
 
 differs_where : (gates : List Shape) (net : Network) (number : ℕ) → Breaks gates net number → difference_at gates net number ≡ Some number

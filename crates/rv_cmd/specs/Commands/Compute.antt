@@ -1,5 +1,5 @@
 -- `compute`: a circuit that a search finds for a logic network.
-use Rattle.std.specs.Prelude.{◌≡◌, ℕ, ◌<◌, ◌≤◌, List, [], length, Ok}
+use Rattle.std.specs.Prelude.{◌≡◌, ℕ, ◌+◌, ◌<◌, ◌≤◌, List, [], ◌∷◌, length, Ok}
 use Rattle.rv_gate.specs.Circuit.{Cascade}
 use Rattle.rv_gate.specs.declared.circuit.TheConstants.{MOST_GATES}
 use Rattle.rv_blif.specs.Logic.{Logic}
@@ -10,16 +10,20 @@ use Rattle.rv_compute.specs.declared.circuit.ComputeFault.TheVariants as fault
 use Rattle.rv_real.specs.Reading.{real_of}
 use Rattle.rv_real.specs.Text.{text_of}
 use Rattle.rv_faults.specs.declared.fault.InputFault.{InputFault}
-use Rattle.rv_faults.specs.declared.fault.InputFault.TheVariants.{MoreGates, TooManyLines}
+use Rattle.rv_faults.specs.declared.fault.InputFault.TheVariants.{MoreGates, TooManyEnds, TooManyLines}
 use Rattle.rv_faults.specs.declared.fault.Refusal.{Refusal}
 use Rattle.rv_faults.specs.declared.fault.Refusal.TheVariants.{OutOfMemory, Refused}
 use Rattle.rv_inputs.specs.Formats.{logic}
-use Rattle.rv_cmd.specs.Limits.{Limit}
+use Rattle.rv_cmd.specs.Limits.{Limit, at_most}
 use Rattle.rv_cmd.specs.Row.{ReadsFirst, finds}
 
--- nothing is refused before the search
-abbrev pub compute_limits : Logic → List Limit
-compute_limits network = []
+-- the lines of the inputs and outputs
+abbrev pub ends_of : Logic → ℕ
+ends_of network = length network.inputs + length network.outputs
+
+-- with fewer lines no circuit is of the form that is written
+abbrev pub compute_limits : ℕ → Logic → List Limit
+compute_limits most network = at_most 0 (ends_of network) most (TooManyEnds (ends_of network) most) ∷ []
 
 -- Why the search may end without a circuit on so many lines. The best order of steps that it found takes more lines,
 -- and not more than one for each input, output and node, so that it never ends so where there are as many; or the
@@ -52,4 +56,4 @@ pub record IsComputation (most : ℕ) (network : Logic) (text : List ℕ) : Type
   pub lines : length circuit.names ≤ most
 
 abbrev pub compute_row : ℕ → ReadsFirst
-compute_row most = finds logic compute_limits (EndsInVain most) (IsComputation most)
+compute_row most = finds logic (compute_limits most) (EndsInVain most) (IsComputation most)

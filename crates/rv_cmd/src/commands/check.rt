@@ -2,13 +2,15 @@ ghost use Rattle.std.specs.Prelude.{◌≡◌, length};
 ghost use Rattle.rv_io.specs.Sink.{Sends};
 ghost use Rattle.rv_io.specs.Writer.{Adds};
 ghost use Rattle.rv_cmd.specs.Commands.Check.{IsUndecidedByPaths, TellsByPaths, TellsVerdict, check_differs};
-ghost use Rattle.rv_cmd.specs.Commands.{row_of_check};
+ghost use Rattle.rv_cmd.specs.Commands.{row_by_paths, row_of_check};
 ghost use Rattle.rv_cmd.specs.Commands.Check.{check_report, lines_said, no_verdict, paths_limits};
 ghost use Rattle.rv_cmd.specs.Commands.Check.{says_different, verdict_said, verdict_text, witness_text};
 ghost use Rattle.rv_cmd.specs.Names.{names_read};
 ghost use Rattle.rv_cmd.specs.Row.{always_told};
 ghost use Rattle.rv_cmd.specs.inside.Making.{Makes};
+ghost use Rattle.rv_cmd.specs.inside.Told.{told_finding};
 
+use crate::commands::check_constants::FromConstants;
 use crate::commands::check_networks::OfNetworks;
 use crate::making::{TwoInputs, TwoSearch, of_two, told_of_two};
 use crate::product::{Made, Product};
@@ -29,15 +31,28 @@ pub(crate) fn check<F: Files>(
     files: &mut F,
 ) -> Result<Made, Unmade>
     requires { length (names_read settings.now) ≡ 2 }
-    ensures { Makes (row_of_check settings.now.origin settings.now.checked) (names_read settings.now) (F.view files.old)
+    ensures { Makes (row_of_check settings.now.origin settings.now.checked settings.now.constants) (names_read settings.now) (F.view files.old)
         (F.view files.new) result }
 {
     match settings.origin {
         Form::Qasm => told_of_two(alloc, settings, files, &OfNetworks),
         _ => match settings.checked {
             CheckedBy::Words => of_two(alloc, settings, files, &ByWords),
-            CheckedBy::Paths => told_of_two(alloc, settings, files, &ByPaths),
+            CheckedBy::Paths => by_paths(alloc, settings, files),
         },
+    }
+}
+
+// From all words, or from those that hold the circuit's constants.
+fn by_paths<F: Files>(alloc: Global, settings: &Settings, files: &mut F) -> Result<Made, Unmade>
+    requires { length (names_read settings.now) ≡ 2 }
+    ensures { Makes (row_by_paths settings.now.constants) (names_read settings.now) (F.view files.old) (F.view files.new)
+        result }
+{
+    if settings.constants {
+        told_of_two(alloc, settings, files, &FromConstants)
+    } else {
+        told_of_two(alloc, settings, files, &ByPaths)
     }
 }
 
@@ -114,13 +129,29 @@ pub(crate) fn told(lines: u8, verdict: Verdict) -> Made
     }
 }
 
-/// What was followed grew to so much.
-pub(crate) fn undecided(count: u64, what: Measure) -> Refusal
+// What was followed grew to so much.
+fn undecided(count: u64, what: Measure) -> Refusal
     ensures { result ≡ Refusal.Refused 1 (InputFault.Undecided count what) }
 {
     Refusal::Refused {
         input: 1,
         why: InputFault::Undecided { count, what },
+    }
+}
+
+/// What is found of a network on so many lines, as it is to be written, or why nothing is.
+pub(crate) fn told_finding(lines: u8, finding: Finding) -> Result<Made, Refusal>
+    ensures { result ≡ told_finding lines finding }
+{
+    match finding {
+        Finding::Same => Ok(told(lines, Verdict::Same)),
+        Finding::Differs(word) => Ok(Made {
+            product: Product::Witness(lines, word),
+            differs: true,
+        }),
+        Finding::Terms => Err(undecided(MOST_TERMS as u64, Measure::Terms)),
+        Finding::Steps => Err(undecided(MOST_STEPS, Measure::Steps)),
+        Finding::Paths(left) => Err(undecided(u64::from(left), Measure::PathBits)),
     }
 }
 

@@ -1,16 +1,14 @@
 ghost use Rattle.std.specs.Prelude.{◌≡◌};
 ghost use Rattle.rv_cmd.specs.Commands.CheckNetworks.{AreUndecided, TellsNetworks, networks_differ, networks_limits};
-ghost use Rattle.rv_cmd.specs.inside.Told.{told_finding};
 
-use crate::commands::check::{told, undecided};
+use crate::commands::check::{told, told_finding};
 use crate::making::TwoSearch;
-use crate::product::{Made, Product};
+use crate::product::Made;
 use rv_alike::compare_networks;
 use rv_check::Verdict;
-use rv_faults::{InputFault, Measure, Refusal};
+use rv_faults::{InputFault, Refusal};
 use rv_net::MOST_OPS;
 use rv_qasm::{Program, QasmReader};
-use rv_sums::{Finding, MOST_STEPS, MOST_TERMS};
 use std::alloc::Global;
 
 /// Whether two networks do the same, by sums over paths.
@@ -58,21 +56,5 @@ fn too_many_together(count: u32) -> Refusal
             count,
             most: MOST_OPS as u32,
         },
-    }
-}
-
-// What is found of networks on so many lines, as it is to be written, or why nothing is.
-fn told_finding(lines: u8, finding: Finding) -> Result<Made, Refusal>
-    ensures { result ≡ told_finding lines finding }
-{
-    match finding {
-        Finding::Same => Ok(told(lines, Verdict::Same)),
-        Finding::Differs(word) => Ok(Made {
-            product: Product::Witness(lines, word),
-            differs: true,
-        }),
-        Finding::Terms => Err(undecided(MOST_TERMS as u64, Measure::Terms)),
-        Finding::Steps => Err(undecided(MOST_STEPS, Measure::Steps)),
-        Finding::Paths(left) => Err(undecided(u64::from(left), Measure::PathBits)),
     }
 }

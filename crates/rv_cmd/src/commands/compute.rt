@@ -47,14 +47,30 @@ fn computed<F: Files>(
     ensures { Makes (compute_row options.lines) (name.now ∷ []) (F.view files.old) (F.view files.new) result }
 {
     match read_one::<F, BlifReader>(alloc, name, files) {
-        Ok(network) => match circuit_for(alloc, &network, options) {
-            Ok(circuit) => {
-                circuit.recall_invariant();
-                Ok(Product::Circuit(circuit).alike())
+        Ok(network) => {
+            let ends = network.input_count() + network.output_count();
+            if ends > u32::from(options.lines) {
+                return Err(cramped(ends, options.lines).unmade());
             }
-            Err(fault) => Err(in_vain(fault, options.lines).unmade()),
-        },
+            match circuit_for(alloc, &network, options) {
+                Ok(circuit) => {
+                    circuit.recall_invariant();
+                    Ok(Product::Circuit(circuit).alike())
+                }
+                Err(fault) => Err(in_vain(fault, options.lines).unmade()),
+            }
+        }
         Err(unmade) => Err(unmade),
+    }
+}
+
+// The inputs and outputs need more lines than these.
+fn cramped(count: u32, most: u8) -> Refusal
+    ensures { result ≡ Refusal.Refused 0 (InputFault.TooManyEnds count most) }
+{
+    Refusal::Refused {
+        input: 0,
+        why: InputFault::TooManyEnds { count, most },
     }
 }
 

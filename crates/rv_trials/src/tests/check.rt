@@ -283,6 +283,42 @@ fn a_network_is_checked_from_all_words_at_once(rt: HostRuntime) {
     expect_by_paths(&rt, rt.alloc(), &CASES);
 }
 
+// A product on a line that begins with 0, by four T; and networks that are right from a word with a constant alone.
+#[test]
+fn constants_are_held_where_they_are_asked_for(rt: HostRuntime) {
+    const WITH_0: &str = ".numvars 1\n.variables a\n.constants 0\n.begin\n.end\n";
+    const WITH_1: &str = ".numvars 1\n.variables a\n.constants 1\n.begin\n.end\n";
+    const PRODUCT: &str = ".numvars 3\n.variables a b z\n.constants --0\n.begin\nt3 a b z\n.end\n";
+    const OF_FOUR_T: &str = network!(
+        3,
+        "h q[2];\nt q[2];\ncx q[0],q[2];\ncx q[1],q[2];\ncx q[2],q[0];\ncx q[2],q[1];\ntdg q[0];\ntdg q[1];\nt q[2];\ncx q[2],q[0];\ncx q[2],q[1];\nh q[2];\ns q[2];\n"
+    );
+    const CASES: [(&str, &str, u8, &str); 5] = [
+        (WITH_0, one_qubit!("z q[0];"), 0, "same\n"),
+        (WITH_1, one_qubit!("z q[0];"), 1, "differs, as at word 1\n"),
+        (WITH_1, one_qubit!("x q[0]; z q[0]; x q[0];"), 0, "same\n"),
+        (PRODUCT, OF_FOUR_T, 0, "same\n"),
+        (
+            WITH_0,
+            "OPENQASM 2.0;\nqreg q[2];\n",
+            1,
+            "differs in lines 1 and 2\n",
+        ),
+    ];
+    let alloc = rt.alloc();
+    for (circuit, network, status, tells) in &CASES {
+        let first = ("c.real", circuit.as_bytes());
+        let second = ("n.qasm", network.as_bytes());
+        let words = "check --by paths --constants c.real n.qasm";
+        expect_over_two(&rt, alloc, words, first, second, told(*status, tells));
+    }
+    expect_by_paths(
+        &rt,
+        alloc,
+        &[(WITH_0, one_qubit!("z q[0];"), 1, "differs, as at word 1\n")],
+    );
+}
+
 // The first and the last of 64 lines.
 #[test]
 fn sixty_four_lines_are_checked_by_paths(rt: HostRuntime) {

@@ -253,12 +253,17 @@ fn a_network_that_does_not_fit_is_refused(rt: HostRuntime) {
         ".names a b h\n10 1\n01 1\n.names h c s\n10 1\n01 1\n.names a b h c m\n11-- 1\n--11 1\n"
     );
     const CASES: [(&str, &str, u8, &str); 6] = [
-        ("compute --lines 4", ADDER, 5, "-: 5 lines are more than 4"),
+        (
+            "compute --lines 4",
+            ADDER,
+            5,
+            "-: 5 lines of inputs and outputs are more than 4",
+        ),
         (
             "compute --lines 1",
             over!("a", ""),
             5,
-            "-: 4 lines are more than 1",
+            "-: 4 lines of inputs and outputs are more than 1",
         ),
         ("compute --lines 0", ADDER, 2, "bad value for --lines"),
         ("compute --lines 65", ADDER, 2, "bad value for --lines"),

@@ -21,6 +21,12 @@ returns-in-TooManyLines g c =
     (adds_as (ap (λ (n : ℕ). counted_to c.in-TooManyLines.count (codes " lines are more than ") n) c.from-in-TooManyLines.ensures)
     c.put_counted-in-TooManyLines.ensures)
 
+pub returns-in-TooManyEnds : goal.returns-in-TooManyEnds
+returns-in-TooManyEnds g c =
+    rw c.in-TooManyEnds.is
+    (adds_as (ap (λ (n : ℕ). counted_to c.in-TooManyEnds.count (codes " lines of inputs and outputs are more than ") n) c.from-in-TooManyEnds.ensures)
+    c.put_counted-in-TooManyEnds.ensures)
+
 pub returns-in-TooManyGates : goal.returns-in-TooManyGates
 returns-in-TooManyGates g c = rw c.in-TooManyGates.is c.put_counted-in-TooManyGates.ensures
 

@@ -11,7 +11,7 @@ pub returns-in-Ok-circuit_for : goal.returns-in-Ok-circuit_for
 returns-in-Ok-circuit_for g c =
     let most = c.args.options.lines in
     let e = c.in-Ok-circuit_for.ensures in
-    finds-one logic compute_limits (EndsInVain most) (IsComputation most) c.args.name.now (g.F.Files.view c.args.files.now)
+    finds-one logic (compute_limits most) (EndsInVain most) (IsComputation most) c.args.name.now (g.F.Files.view c.args.files.now)
     (g.F.Files.view c.read_one.new.files) c.in-Ok.network (Circuit c.in-Ok-circuit_for.circuit) c.alike.result c.alike.ensures
     c.read_one.ensures.keeps c.in-Ok.ensures.read
     (compute-answers most c.in-Ok.network c.in-Ok-circuit_for.circuit c.recall_invariant.ensures e.computed e.gives e.lines)
@@ -26,5 +26,5 @@ returns-in-Ok g c =
 pub returns : goal.returns
 returns g c =
     let most = c.args.options.lines in
-    finds-unread logic compute_limits (EndsInVain most) (IsComputation most) c.args.name.now (g.F.Files.view c.args.files.now)
+    finds-unread logic (compute_limits most) (EndsInVain most) (IsComputation most) c.args.name.now (g.F.Files.view c.args.files.now)
     (g.F.Files.view c.read_one.new.files) c.in-Err.unmade c.read_one.ensures.keeps c.in-Err.ensures.unread
