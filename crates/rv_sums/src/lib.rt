@@ -2,8 +2,10 @@
 #![tactic(auto)]
 
 mod apart;
+mod beginning;
 mod by_paths;
 mod differs;
+mod facts;
 mod fault;
 mod finding;
 mod following;

@@ -1,16 +1,18 @@
 // Which flip of the circuit is taken when: in any order that exchanges allow, searched freely.
-ghost use Rattle.std.specs.Prelude.{◌≡◌, ◌≤◌, ◌∷◌, [], List, length, IfOk, IfSome};
+ghost use Rattle.std.specs.Prelude.{◌≡◌, ◌≤◌, ◌∷◌, [], List, Bool, length, IfOk, IfSome};
 ghost use Rattle.rv_gate.specs.declared.gate.Shape.{Shape};
 ghost use Rattle.rv_gate.specs.declared.word.TheConstants.{MOST_LINES};
 ghost use Rattle.rv_net.specs.Op.{OpFitsIn};
-ghost use Rattle.rv_sums.specs.inside.State.{IsStart, Leads, Moves, left_of};
+ghost use Rattle.rv_sums.specs.Finding.{HasConstants};
+ghost use Rattle.rv_sums.specs.inside.State.{Holds, IsStart, Moves, Takes, left_of};
 ghost use Rattle.rv_sums.specs.declared.taking.Following.{Following as AFollowing};
 
 use crate::by_paths::MOST_TERMS;
+use crate::facts::Facts;
 use crate::fault::PathFault;
 use crate::left::Left;
 use crate::path_sum::PathSum;
-use rv_gate::Gate;
+use rv_gate::{Gate, Mark};
 use rv_net::Op;
 use std::alloc::Global;
 
@@ -24,11 +26,12 @@ pub(crate) struct Reach {
     pub steps: u64,
 }
 
-// The sum, the flips of the circuit that are left, and what the search needs: the steps so far, and how heavy the sum
+// The sum, what is known of the circuit's word, the flips of the circuit that are left, and what the search needs: the steps so far, and how heavy the sum
 // was when flips were last taken.
 #[derive(Drop)]
 pub(crate) struct Following {
     pub sum: PathSum,
+    pub facts: Facts,
     pub left: Left,
     pub reach: Reach,
     pub steps: u64,
@@ -51,14 +54,23 @@ fn moves(op: Op) -> bool {
 }
 
 impl Following {
-    pub(crate) fn start(alloc: Global, lines: u8, reach: Reach) -> Result<Following, PathFault>
+    pub(crate) fn start(
+        alloc: Global,
+        lines: u8,
+        marks: &[Mark],
+        reach: Reach,
+    ) -> Result<Following, PathFault>
         requires { lines ≤ MOST_LINES }
-        ensures sum { IfOk result (λ state. IsStart lines state.sum) }
+        ensures sum { IfOk result (λ state. IsStart marks.now lines state.sum) }
+        ensures facts { IfOk result (λ state. (x : List Bool) → HasConstants marks.now x → length x ≡ lines
+            → Holds state.facts.sums.items x) }
         ensures left { IfOk result (λ state. (flips : List Shape) → left_of flips state.left ≡ flips) }
     {
-        let sum = PathSum::start(alloc, lines)?;
+        let sum = PathSum::start(alloc, lines, marks)?;
+        let facts = Facts::start(alloc, marks, &sum.sums)?;
         Ok(Following {
             sum,
+            facts,
             left: Left::all(alloc),
             reach,
             steps: 0,
@@ -70,9 +82,11 @@ impl Following {
         ensures { IfOk result (λ state. (flips : List Shape) → Moves [] flips self.now state) }
     {
         let sum = self.sum.copy(alloc)?;
+        let facts = self.facts.copy(alloc)?;
         let left = self.left.copy(alloc)?;
         Ok(Following {
             sum,
+            facts,
             left,
             reach: self.reach,
             steps: self.steps,
@@ -88,6 +102,7 @@ impl Following {
     // A step more for each term, if there may be as many.
     fn spend(&mut self, terms: usize) -> Result<(), PathFault>
         ensures sum { IfOk result (λ _. self.new.sum ≡ self.old.sum) }
+        ensures facts { IfOk result (λ _. self.new.facts ≡ self.old.facts) }
         ensures left { IfOk result (λ _. self.new.left ≡ self.old.left) }
     {
         if terms > MOST_TERMS {
@@ -103,6 +118,7 @@ impl Following {
     // Remembers how heavy the sum is, if flips were taken.
     fn note(&mut self, taken: bool)
         ensures sum { self.new.sum ≡ self.old.sum }
+        ensures facts { self.new.facts ≡ self.old.facts }
         ensures left { self.new.left ≡ self.old.left }
     {
         if taken {
@@ -118,9 +134,9 @@ impl Following {
 
     // The sum after a flip more, where it isn't too large.
     fn after(&self, alloc: Global, gate: Gate) -> Result<Option<PathSum>, PathFault>
-        ensures { IfOk result (λ o. IfSome o (Leads [] (gate ∷ []) self.now.sum)) }
+        ensures { IfOk result (λ o. IfSome o (Takes self.now.facts.sums.items gate self.now.sum)) }
     {
-        match self.sum.with_flip(alloc, gate) {
+        match self.sum.with_flip(alloc, &self.facts, gate) {
             Ok(next) => Ok(Some(next)),
             Err(PathFault::Mem) => Err(PathFault::Mem),
             Err(_) => Ok(None),
@@ -145,11 +161,14 @@ impl Following {
         let Some(next) = self.after(alloc, gate)? else {
             return Ok(false);
         };
+        let lines = self.sum.sums.len();
         self.spend(next.size())?;
         if self.weight(&next) >= limit {
             return Ok(false);
         }
+        let facts = self.facts.past(alloc, lines, gate)?;
         self.sum = next;
+        self.facts = facts;
         self.left.window.remove(at);
         Ok(true)
     }
