@@ -1,12 +1,12 @@
 -- What is undecided is found, and what is found is right.
 use Rattle.std.proofs.Common.{refl}
-use Rattle.std.specs.Prelude.{List, [], Result, Ok, Err, IfOk}
+use Rattle.std.specs.Prelude.{Bool, List, [], Result, Ok, Err, IfOk}
 use Rattle.rv_gate.specs.Circuit.{Cascade}
 use Rattle.rv_gate.specs.Gate.{run}
 use Rattle.rv_gate.specs.declared.circuit.Mark.{Mark}
 use Rattle.rv_net.specs.Denotes.{Denotes}
 use Rattle.rv_net.specs.Op.{Network}
-use Rattle.rv_sums.specs.Finding.{DenotesFrom, IsRight, IsRightFrom, IsUndecided}
+use Rattle.rv_sums.specs.Finding.{DenotesFrom, HasConstants, IsRight, IsRightFrom, IsUndecided}
 use Rattle.rv_sums.specs.declared.finding.Finding.{Finding}
 use Rattle.rv_sums.specs.declared.finding.Finding.TheVariants.{Same, Differs, Terms, Steps, Paths}
 use Rattle.rv_sums.specs.inside.State.{IsFound}
@@ -41,3 +41,12 @@ found_from c net (Differs number) h = h
 found_from c net Terms h = tt
 found_from c net Steps h = tt
 found_from c net (Paths left) h = tt
+
+-- of fewer words
+pub weaker_denotes : (marks held : List Mark) (c : Cascade) (net : Network) → ((word : List Bool) → HasConstants marks word → HasConstants held word)
+    → DenotesFrom held net.lines net.ops (run c.gates) → DenotesFrom marks net.lines net.ops (run c.gates)
+weaker_denotes marks held c net weaker is x y lx ly m = is x y lx ly (weaker x m)
+
+pub all_from : (marks : List Mark) (c : Cascade) (net : Network) → DenotesFrom [] net.lines net.ops (run c.gates)
+    → DenotesFrom marks net.lines net.ops (run c.gates)
+all_from marks c net is = weaker_denotes marks [] c net (λ word h line. refl) is

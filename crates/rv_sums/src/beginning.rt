@@ -12,7 +12,7 @@ use rv_terms::{Product, Sum};
 use std::alloc::{AllocError, Global};
 
 // A line that isn't marked begins with any bit.
-fn mark_of(marks: &[Mark], line: u8) -> Mark
+pub(crate) fn mark_of(marks: &[Mark], line: u8) -> Mark
     ensures { result ≡ slice_index_or marks.now line Input }
 {
     let at = usize::from(line);

@@ -7,6 +7,7 @@ use crate::Finding;
 use crate::beginning::{begun, has_constants};
 use crate::differs::differs;
 use crate::fault::PathFault;
+use crate::held::held;
 use crate::same::{flips, is_same};
 use crate::suspects::suspects;
 use crate::taking::Reach;
@@ -22,6 +23,11 @@ pub const MOST_STEPS: u64 = 4_000_000_000;
 
 /// How many words are tried by themselves.
 const MOST_WORDS: u8 = 24;
+
+// The most products of what is followed of a line that began with a constant: at first, and then.
+const LITTLE: usize = 16;
+
+const MUCH: usize = 1024;
 
 // How far the search goes for flips that are taken early.
 const NEAR: Reach = Reach {
@@ -101,6 +107,23 @@ fn are_same_by_some(
     Ok((same, FAR))
 }
 
+// The same of the words that hold the constants, where no more is followed of a line than a sum of so many products.
+fn are_same_with(
+    alloc: Global,
+    circuit: &Circuit,
+    net: &Net,
+    marks: &[Mark],
+    most: usize,
+) -> Result<(bool, Reach), PathFault>
+    requires { length circuit.now.names ≡ net.now.lines }
+    ensures { IfOk result (λ r.
+        IsTrue r.0 → DenotesFrom marks.now net.now.lines net.now.ops (run circuit.now.gates)) }
+{
+    let held = held(alloc, circuit, marks, most)?;
+    let sums = are_same_by_some(alloc, circuit, net, &held)?;
+    Ok(sums)
+}
+
 // Whether the network differs at the word with this number, as the sum from this word shows.
 fn differs_at(
     alloc: Global,
@@ -141,10 +164,10 @@ fn try_words(
     let mut number: u64 = 0;
     let mut random: u64 = 0x9e37_79b9_7f4a_7c15;
     'words: for _ in 0..MOST_WORDS {
-        let held = begun(net.lines(), marks, number);
-        let found = differs_at(alloc, circuit, net, marks, held)?;
+        let begun = begun(net.lines(), marks, number);
+        let found = differs_at(alloc, circuit, net, marks, begun)?;
         if found {
-            return Ok(Some(held));
+            return Ok(Some(begun));
         }
         number = if number == 0 { all } else { random & all };
         random = random
@@ -167,32 +190,36 @@ fn try_suspects(
 {
     let flips = flips(alloc, circuit)?;
     let lines = net.lines();
-    let suspects = suspects(alloc, lines, net.ops(), &flips, marks, reach)?;
+    let held = held(alloc, circuit, marks, LITTLE)?;
+    let suspects = suspects(alloc, lines, net.ops(), &flips, &held, reach)?;
     for number in &suspects {
-        let held = begun(lines, marks, *number);
-        let found = differs_at(alloc, circuit, net, marks, held)?;
+        let begun = begun(lines, marks, *number);
+        let found = differs_at(alloc, circuit, net, marks, begun)?;
         if found {
-            return Ok(Some(held));
+            return Ok(Some(begun));
         }
     }
     Ok(None)
 }
 
-// What is found where the sum over all words is another one.
-fn other_sum(
+// What the sums find.
+fn by_sums(
     alloc: Global,
     circuit: &Circuit,
     net: &Net,
     marks: &[Mark],
-    reach: Reach,
-) -> Result<Finding, AllocError>
+) -> Result<Finding, PathFault>
     requires { length circuit.now.names ≡ net.now.lines }
     ensures { IfOk result (IsFound marks.now circuit.now net.now) }
 {
-    match try_suspects(alloc, circuit, net, marks, reach) {
-        Ok(Some(number)) => Ok(Finding::Differs(number)),
-        Ok(None) => Ok(Finding::Paths(0)),
-        Err(fault) => finding_of(fault),
+    let sums = are_same_with(alloc, circuit, net, marks, LITTLE)?;
+    let same = sums.0;
+    if same {
+        return Ok(Finding::Same);
+    }
+    match try_suspects(alloc, circuit, net, marks, sums.1)? {
+        Some(number) => Ok(Finding::Differs(number)),
+        None => Ok(Finding::Paths(0)),
     }
 }
 
@@ -204,10 +231,53 @@ fn find(alloc: Global, circuit: &Circuit, net: &Net, marks: &[Mark]) -> Result<F
     if let Some(number) = try_words(alloc, circuit, net, marks)? {
         return Ok(Finding::Differs(number));
     }
-    match are_same_by_some(alloc, circuit, net, marks) {
-        Ok((true, _)) => Ok(Finding::Same),
-        Ok((false, reach)) => other_sum(alloc, circuit, net, marks, reach),
+    match by_sums(alloc, circuit, net, marks) {
+        Ok(finding) => Ok(finding),
         Err(fault) => finding_of(fault),
+    }
+}
+
+// The same where much is followed, or nothing, and all words are taken.
+fn are_same_otherwise(
+    alloc: Global,
+    circuit: &Circuit,
+    net: &Net,
+    marks: &[Mark],
+) -> Result<bool, PathFault>
+    requires { length circuit.now.names ≡ net.now.lines }
+    ensures { IfOk result (λ same.
+        IsTrue same → DenotesFrom marks.now net.now.lines net.now.ops (run circuit.now.gates)) }
+{
+    match are_same_with(alloc, circuit, net, marks, MUCH) {
+        Ok((true, _)) => return Ok(true),
+        Err(PathFault::Mem) => return Err(PathFault::Mem),
+        _ => {}
+    }
+    let sums = are_same_by_some(alloc, circuit, net, &[])?;
+    let same = sums.0;
+    Ok(same)
+}
+
+// What is found otherwise, where nothing is found so far.
+fn found_otherwise(
+    alloc: Global,
+    circuit: &Circuit,
+    net: &Net,
+    marks: &[Mark],
+    found: Finding,
+) -> Result<Finding, AllocError>
+    requires lines { length circuit.now.names ≡ net.now.lines }
+    requires found { IsFound marks.now circuit.now net.now found }
+    ensures { IfOk result (IsFound marks.now circuit.now net.now) }
+{
+    match found {
+        Finding::Same | Finding::Differs(_) => return Ok(found),
+        _ => {}
+    }
+    match are_same_otherwise(alloc, circuit, net, marks) {
+        Ok(true) => Ok(Finding::Same),
+        Err(PathFault::Mem) => Err(AllocError),
+        _ => Ok(found),
     }
 }
 
@@ -233,6 +303,8 @@ pub fn check_from_constants(
     requires { length circuit.now.names ≡ net.now.lines }
     ensures { IfOk result (IsRightFrom circuit.now net.now) }
 {
-    let finding = find(alloc, circuit, net, circuit.constant_row())?;
+    let marks = circuit.constant_row();
+    let found = find(alloc, circuit, net, marks)?;
+    let finding = found_otherwise(alloc, circuit, net, marks, found)?;
     Ok(finding)
 }

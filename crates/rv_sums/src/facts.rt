@@ -25,7 +25,7 @@ pub(crate) struct Facts {
 }
 
 // Whether a line stands in a sum.
-fn asks_for(sum: &Sum, line: u8) -> bool
+pub(crate) fn asks_for(sum: &Sum, line: u8) -> bool
     requires { line < MOST_LINES }
 {
     for product in sum.products() {
@@ -213,6 +213,72 @@ impl Facts {
         }
     }
 
+    // Nothing more is known of these lines.
+    pub(crate) fn forget(&mut self, alloc: Global, lines: LineSet) -> Result<(), PathFault> {
+        self.lines &= !lines;
+        for line in 0..MOST_LINES {
+            if has(lines, line) && usize::from(line) < self.sums.len() {
+                let own = Sum::of(alloc, Product::of_line(line))?;
+                self.sums[usize::from(line)] = own;
+            }
+        }
+        Ok(())
+    }
+
+    // How many products there are.
+    pub(crate) fn size(&self) -> usize {
+        let mut size: usize = 0;
+        for sum in &self.sums {
+            size = size.saturating_add(sum.len());
+        }
+        size
+    }
+
+    // How many products of the lines' sums are others than those of the facts.
+    pub(crate) fn away(&self, sums: &[Sum]) -> usize {
+        let mut away: usize = 0;
+        for line in 0..sums.len() {
+            if let Some(fact) = self.sums.get(line) {
+                away = away.saturating_add(apart(&sums[line], fact));
+            }
+        }
+        away
+    }
+
+    // A product of those of a flip's positive controls, where each fact stands for its line.
+    fn lead_of(&self, want: LineSet) -> Option<Product> {
+        let mut lead = Product {
+            lines: want & !self.lines,
+            paths: 0,
+        };
+        for line in 0..MOST_LINES {
+            if has(want & self.lines, line) {
+                if let Some(fact) = self.sums.get(usize::from(line)) {
+                    let last = fact.products().last()?;
+                    lead = lead.times(*last);
+                }
+            }
+        }
+        Some(lead)
+    }
+
+    // Whether such a product is in the sum of a flip's target, or the flip does nothing.
+    pub(crate) fn lead(&self, sums: &[Sum], gate: Gate) -> bool {
+        match gate.shape() {
+            Shape::Flip { want, target, .. } => {
+                let Some(lead) = self.lead_of(want) else {
+                    return true;
+                };
+                let at = usize::from(target);
+                match (sums.get(at), self.sums.get(at)) {
+                    (Some(sum), Some(fact)) => sum.has(lead) != fact.has(lead),
+                    _ => false,
+                }
+            }
+            Shape::Swap { .. } | Shape::Peres { .. } => false,
+        }
+    }
+
     // The lines of a word that are 1, as those sums make them of the others.
     pub(crate) fn completed(&self, set: LineSet) -> LineSet {
         let others = set & !self.lines;
@@ -228,6 +294,19 @@ impl Facts {
         }
         whole
     }
+}
+
+// How many products are in one of two sums alone.
+fn apart(sum: &Sum, fact: &Sum) -> usize {
+    let mut apart = sum.len();
+    for product in fact.products() {
+        if sum.has(*product) {
+            apart = apart.saturating_sub(1);
+        } else {
+            apart = apart.saturating_add(1);
+        }
+    }
+    apart
 }
 
 // Whether a sum is 1 where these lines are, and no other, and no path bit.

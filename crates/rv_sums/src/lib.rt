@@ -11,6 +11,7 @@ mod finding;
 mod following;
 mod free;
 mod gates;
+mod held;
 mod left;
 mod moving;
 mod path_sum;

@@ -4,7 +4,7 @@ ghost use Rattle.rv_gate.specs.declared.gate.Shape.{Shape};
 ghost use Rattle.rv_gate.specs.declared.word.TheConstants.{MOST_LINES};
 ghost use Rattle.rv_net.specs.Op.{OpFitsIn};
 ghost use Rattle.rv_sums.specs.Finding.{HasConstants};
-ghost use Rattle.rv_sums.specs.inside.State.{Holds, IsStart, Moves, Takes, left_of};
+ghost use Rattle.rv_sums.specs.inside.State.{Holds, HoldsAfter, IsStart, Moves, Takes, left_of};
 ghost use Rattle.rv_sums.specs.declared.taking.Following.{Following as AFollowing};
 
 use crate::by_paths::MOST_TERMS;
@@ -94,9 +94,26 @@ impl Following {
         })
     }
 
-    // How far the sum is from that of each word to itself.
-    fn weight(&self, sum: &PathSum) -> usize {
-        sum.weight(self.reach.share)
+    // How far a sum is from that of each word to itself, where such facts hold.
+    fn weight_of(&self, sum: &PathSum, facts: &Facts) -> usize {
+        if facts.sums.is_empty() {
+            return sum.weight(self.reach.share);
+        }
+        let away = facts.away(&sum.sums);
+        let away = away.saturating_mul(self.reach.share);
+        sum.phases.len().saturating_add(away)
+    }
+
+    fn weight(&self) -> usize {
+        self.weight_of(&self.sum, &self.facts)
+    }
+
+    // Whether a flip seems to be in the sum of its target.
+    fn leads(&self, gate: Gate) -> bool {
+        if self.facts.sums.is_empty() {
+            return self.sum.leads(gate);
+        }
+        self.facts.lead(&self.sum.sums, gate)
     }
 
     // A step more for each term, if there may be as many.
@@ -122,21 +139,35 @@ impl Following {
         ensures left { self.new.left ≡ self.old.left }
     {
         if taken {
-            self.mark = self.weight(&self.sum);
+            self.mark = self.weight();
         }
     }
 
     // Whether the sum has become heavier, by a sixteenth and more.
     fn is_heavy(&self) -> bool {
         let most = self.mark.saturating_add(16).saturating_add(self.mark / 16);
-        self.weight(&self.sum) > most
+        self.weight() > most
     }
 
-    // The sum after a flip more, where it isn't too large.
-    fn after(&self, alloc: Global, gate: Gate) -> Result<Option<PathSum>, PathFault>
-        ensures { IfOk result (λ o. IfSome o (Takes self.now.facts.sums.items gate self.now.sum)) }
+    // The sum and what is known after a flip more.
+    fn with_flip(&self, alloc: Global, gate: Gate) -> Result<(PathSum, Facts), PathFault>
+        ensures sum { IfOk result (λ r. Takes self.now.facts.sums.items gate self.now.sum r.0) }
+        ensures facts { IfOk result (λ r.
+            HoldsAfter (length self.now.sum.sums.items) gate self.now.facts.sums.items r.1.sums.items) }
     {
-        match self.sum.with_flip(alloc, &self.facts, gate) {
+        let sum = self.sum.with_flip(alloc, &self.facts, gate)?;
+        let lines = self.sum.sums.len();
+        let facts = self.facts.past(alloc, lines, gate)?;
+        Ok((sum, facts))
+    }
+
+    // The same, where the sum isn't too large.
+    fn after(&self, alloc: Global, gate: Gate) -> Result<Option<(PathSum, Facts)>, PathFault>
+        ensures sum { IfOk result (λ o. IfSome o (λ r. Takes self.now.facts.sums.items gate self.now.sum r.0)) }
+        ensures facts { IfOk result (λ o. IfSome o (λ r.
+            HoldsAfter (length self.now.sum.sums.items) gate self.now.facts.sums.items r.1.sums.items)) }
+    {
+        match self.with_flip(alloc, gate) {
             Ok(next) => Ok(Some(next)),
             Err(PathFault::Mem) => Err(PathFault::Mem),
             Err(_) => Ok(None),
@@ -152,7 +183,7 @@ impl Following {
             return Ok(false);
         }
         let gate = self.left.window[at];
-        if !any && !self.sum.leads(gate) {
+        if !any && !self.leads(gate) {
             return Ok(false);
         }
         if !self.left.may_pass(at, gate) {
@@ -161,14 +192,12 @@ impl Following {
         let Some(next) = self.after(alloc, gate)? else {
             return Ok(false);
         };
-        let lines = self.sum.sums.len();
-        self.spend(next.size())?;
-        if self.weight(&next) >= limit {
+        self.spend(next.0.size().saturating_add(next.1.size()))?;
+        if self.weight_of(&next.0, &next.1) >= limit {
             return Ok(false);
         }
-        let facts = self.facts.past(alloc, lines, gate)?;
-        self.sum = next;
-        self.facts = facts;
+        self.sum = next.0;
+        self.facts = next.1;
         self.left.window.remove(at);
         Ok(true)
     }
@@ -189,7 +218,7 @@ impl Following {
     {
         let count = self.reach.window;
         self.left.fill(flips, count)?;
-        let weight = self.weight(&self.sum);
+        let weight = self.weight();
         for at in 0..count {
             let taken = self.take(alloc, at, weight, any)?;
             if taken {
@@ -219,7 +248,7 @@ impl Following {
         ensures { IfOk result (λ _. (flips : List Shape) (first : AFollowing) → Moves [] flips first self.old
             → Moves [] flips first trial.now → Moves [] flips first self.new) }
     {
-        let weight = self.weight(&trial.sum);
+        let weight = self.weight_of(&trial.sum, &trial.facts);
         if weight >= least {
             return Ok(least);
         }
@@ -232,7 +261,7 @@ impl Following {
     fn look_ahead(&mut self, alloc: Global, flips: &[Gate]) -> Result<bool, PathFault>
         ensures { IfOk result (λ _. Moves [] flips.now self.old self.new) }
     {
-        let start = self.weight(&self.sum);
+        let start = self.weight();
         let most = start.saturating_mul(4).saturating_add(200);
         let mut least = start;
         let mut trial = self.copy(alloc)?;

@@ -1,8 +1,8 @@
 -- Words that hold the constants.
-use Rattle.std.proofs.Common.{◌≡◌, ℕ, ◌+◌, ◌<◌, ◌≤◌, Bool, true, false, List, length, get_or, refl, sym, arith, subst, inl, inr}
+use Rattle.std.proofs.Common.{◌≡◌, ℕ, ◌+◌, ◌<◌, ◌≤◌, Bool, true, false, List, [], ◌∷◌, ◌++◌, length, length-append, get_or, refl, sym, ap, ◌∙◌, arith, subst, inl, inr}
 use Rattle.std.specs.Prelude.{IsTrue}
-use Rattle.std.proofs.lemmas.Bool.{cases_eq, cases_lt, false≢true}
-use Rattle.std.proofs.lemmas.List.{get_or_past}
+use Rattle.std.proofs.lemmas.Bool.{cases_eq, cases_lt, cases_order, false≢true}
+use Rattle.std.proofs.lemmas.List.{get_or_append_left, get_or_past, get_or_push}
 use Rattle.rv_gate.specs.declared.circuit.Mark.{Mark}
 use Rattle.rv_gate.specs.declared.circuit.Mark.TheVariants.{Input, Zero, One}
 use Rattle.rv_net.proofs.Step.{Word, bit}
@@ -36,4 +36,35 @@ first_all marks k word le before line =
       | inr past ↦
           let P : Mark → Type 0 = λ m. IsTrue (may_begin m (bit word line)) in
           subst P (sym (get_or_past marks line Input (omega arith))) refl
+    ]
+
+-- ---- marks of which fewer say something
+
+abbrev pub AreWeaker : List Mark → List Mark → Type 0
+AreWeaker marks made =
+    (line : ℕ) (bit : Bool) → IsTrue (may_begin (get_or marks line Input) bit) → IsTrue (may_begin (get_or made line Input) bit)
+
+past_marks : (made : List Mark) (line : ℕ) (bit : Bool) → length made ≤ line → IsTrue (may_begin (get_or made line Input) bit)
+past_marks made line bit le =
+    let P : Mark → Type 0 = λ m. IsTrue (may_begin m bit) in subst P (sym (get_or_past made line Input le)) refl
+
+pub weaker_none : (marks made : List Mark) → made ≡ [] → AreWeaker marks made
+weaker_none marks made none line bit h = past_marks made line bit (omega (arith, ap length none))
+
+pub weaker_more : (marks made made2 : List Mark) (k : ℕ) (mark next : Mark) → mark ≡ get_or marks k Input → length made ≡ k
+    → made2 ≡ made ++ next ∷ [] → ((bit : Bool) → IsTrue (may_begin mark bit) → IsTrue (may_begin next bit)) → AreWeaker marks made
+    → AreWeaker marks made2
+weaker_more marks made made2 k mark next is count more here before line bit h =
+    let P : Mark → Type 0 = λ m. IsTrue (may_begin m bit) in
+    let whole : length made2 ≡ length made + 1 = ap length more ∙ length-append made (next ∷ []) in
+    elim (cases_order line k) [
+      | inl e ↦
+          let asked : get_or marks line Input ≡ mark = ap (λ j. get_or marks j Input) e ∙ sym is in
+          let goes : get_or made2 line Input ≡ next = ap (λ l. get_or l line Input) more ∙ get_or_push made next Input line (count ∙ sym e) in
+          subst P (sym goes) (here bit (subst P asked h))
+      | inr (inl less) ↦
+          let goes : get_or made2 line Input ≡ get_or made line Input =
+          ap (λ l. get_or l line Input) more ∙ get_or_append_left made (next ∷ []) Input line (omega (arith, count)) in
+          subst P (sym goes) (before line bit h)
+      | inr (inr after) ↦ past_marks made2 line bit (omega (arith, whole, count))
     ]

@@ -9,4 +9,4 @@ returns c =
     let circuit = c.args.circuit.now in
     let finding = c.in_ok-finding.finding in
     found_from circuit c.args.net.now finding
-    (subst (λ (l : List Mark). IsFound l circuit c.args.net.now finding) c.constant_row.ensures c.in_ok-finding.ensures)
+    (subst (λ (l : List Mark). IsFound l circuit c.args.net.now finding) c.constant_row-marks.ensures c.in_ok-finding.ensures)

@@ -1,7 +1,5 @@
-use Rattle.std.proofs.Common.{sym, ap, ◌∙◌, arith, subst}
+use Rattle.std.proofs.Common.{ap, ◌∙◌, arith}
 use Rattle.std.specs.List.{remove}
-use Rattle.rv_sums.specs.inside.State.{Holds}
-use Rattle.rv_sums.specs.declared.facts.Facts.{Facts}
 use Rattle.rv_sums.specs.declared.left.Left.{Left}
 use Rattle.rv_sums.proofs.inside.Taken.{moves_taken}
 use Rattle.rv_sums.proofs.taking.Following.take.Goals as goal
@@ -10,8 +8,6 @@ pub returns : goal.returns
 returns c flips =
     let kept = c.in_ok-spend.ensures.left in
     moves_taken flips c.args.at c.index-gate.result.now c.args.self.now _ (omega arith) c.index-gate.ensures
-    (c.may_pass.ensures c.if-not-may_pass.false) (rw c.in-Some.is at c.in_ok-next.ensures)
-    (λ u len h.
-    c.in_ok-facts.ensures u (omega (arith, len, c.len-lines.ensures))
-    (subst (λ (f : Facts). Holds f.sums.items u) (sym c.in_ok-spend.ensures.facts) h))
+    (c.may_pass.ensures c.if-not-may_pass.false) (rw c.in-Some.is at c.in_ok-next.ensures.sum)
+    (rw c.in-Some.is at c.in_ok-next.ensures.facts)
     (c.remove.ensures.items ∙ ap (λ (l : Left). remove l.window.items c.args.at) kept) (ap (λ (l : Left). l.next) kept)
