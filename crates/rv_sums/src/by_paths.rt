@@ -24,10 +24,8 @@ pub const MOST_STEPS: u64 = 4_000_000_000;
 /// How many words are tried by themselves.
 const MOST_WORDS: u8 = 24;
 
-// The most products of what is followed of a line that began with a constant: at first, and then.
-const LITTLE: usize = 16;
-
-const MUCH: usize = 1024;
+/// The most products of what is followed of a line that began with a constant.
+pub(crate) const LITTLE: usize = 16;
 
 // How far the search goes for flips that are taken early.
 const NEAR: Reach = Reach {
@@ -107,19 +105,18 @@ fn are_same_by_some(
     Ok((same, FAR))
 }
 
-// The same of the words that hold the constants, where no more is followed of a line than a sum of so many products.
+// The same where a line of which more is known, at some flip, is followed as any other.
 fn are_same_with(
     alloc: Global,
     circuit: &Circuit,
     net: &Net,
     marks: &[Mark],
-    most: usize,
 ) -> Result<(bool, Reach), PathFault>
     requires { length circuit.now.names ≡ net.now.lines }
     ensures { IfOk result (λ r.
         IsTrue r.0 → DenotesFrom marks.now net.now.lines net.now.ops (run circuit.now.gates)) }
 {
-    let held = held(alloc, circuit, marks, most)?;
+    let held = held(alloc, circuit, marks)?;
     let sums = are_same_by_some(alloc, circuit, net, &held)?;
     Ok(sums)
 }
@@ -190,7 +187,7 @@ fn try_suspects(
 {
     let flips = flips(alloc, circuit)?;
     let lines = net.lines();
-    let held = held(alloc, circuit, marks, LITTLE)?;
+    let held = held(alloc, circuit, marks)?;
     let suspects = suspects(alloc, lines, net.ops(), &flips, &held, reach)?;
     for number in &suspects {
         let begun = begun(lines, marks, *number);
@@ -212,7 +209,7 @@ fn by_sums(
     requires { length circuit.now.names ≡ net.now.lines }
     ensures { IfOk result (IsFound marks.now circuit.now net.now) }
 {
-    let sums = are_same_with(alloc, circuit, net, marks, LITTLE)?;
+    let sums = are_same_with(alloc, circuit, net, marks)?;
     let same = sums.0;
     if same {
         return Ok(Finding::Same);
@@ -237,7 +234,7 @@ fn find(alloc: Global, circuit: &Circuit, net: &Net, marks: &[Mark]) -> Result<F
     }
 }
 
-// The same where much is followed, or nothing, and all words are taken.
+// The same where all lines are followed while little is known of them, or nothing, and all words are taken.
 fn are_same_otherwise(
     alloc: Global,
     circuit: &Circuit,
@@ -248,7 +245,7 @@ fn are_same_otherwise(
     ensures { IfOk result (λ same.
         IsTrue same → DenotesFrom marks.now net.now.lines net.now.ops (run circuit.now.gates)) }
 {
-    match are_same_with(alloc, circuit, net, marks, MUCH) {
+    match are_same_by_some(alloc, circuit, net, marks) {
         Ok((true, _)) => return Ok(true),
         Err(PathFault::Mem) => return Err(PathFault::Mem),
         _ => {}

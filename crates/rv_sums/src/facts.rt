@@ -1,5 +1,5 @@
 // What is known of the circuit's word where it began with constants.
-ghost use Rattle.std.specs.Prelude.{◌≡◌, ◌<◌, ◌≤◌, List, Bool, length, slice_set, IfOk, IsFalse, IsTrue};
+ghost use Rattle.std.specs.Prelude.{◌≡◌, ◌<◌, ◌≤◌, false, List, Bool, length, slice_set, IfOk, IsFalse, IsTrue};
 ghost use Rattle.rv_gate.specs.Gate.{act, holds};
 ghost use Rattle.rv_gate.specs.Word.{has};
 ghost use Rattle.rv_gate.specs.declared.gate.Shape.TheVariants.{Flip};
@@ -8,6 +8,7 @@ ghost use Rattle.rv_terms.specs.Products.{odd};
 ghost use Rattle.rv_sums.specs.inside.State.{AreCopies, Holds, HoldsAfter, TurnsBack, word_at};
 
 use crate::beginning::lines_with;
+use crate::by_paths::LITTLE;
 use crate::differs::is_nought;
 use crate::fault::PathFault;
 use crate::following::copy_all;
@@ -213,16 +214,40 @@ impl Facts {
         }
     }
 
-    // Nothing more is known of these lines.
-    pub(crate) fn forget(&mut self, alloc: Global, lines: LineSet) -> Result<(), PathFault> {
-        self.lines &= !lines;
-        for line in 0..MOST_LINES {
-            if has(lines, line) && usize::from(line) < self.sums.len() {
-                let own = Sum::of(alloc, Product::of_line(line))?;
-                self.sums[usize::from(line)] = own;
-            }
+    // Nothing more is known of a line.
+    pub(crate) fn lose(&mut self, alloc: Global, line: u8) -> Result<(), PathFault>
+        requires { line < MOST_LINES }
+        ensures { IfOk result (λ _. (x : List Bool) → Holds self.old.sums.items x → Holds self.new.sums.items x) }
+    {
+        let at = usize::from(line);
+        if at >= self.sums.len() {
+            return Ok(());
         }
+        let bit = Sum::of(alloc, Product::of_line(line))?;
+        self.sums[at] = bit;
+        self.lines &= !(1 << line);
         Ok(())
+    }
+
+    // The sum of a line and what is known of it: 0.
+    pub(crate) fn nought_of(&self, alloc: Global, line: u8) -> Result<Sum, PathFault>
+        requires { line < MOST_LINES }
+        ensures { IfOk result (λ sum. (x v : List Bool) → Holds self.now.sums.items x → odd sum x v ≡ false) }
+    {
+        let at = usize::from(line);
+        if at >= self.sums.len() {
+            return Ok(Sum::new(alloc));
+        }
+        let own = Sum::of(alloc, Product::of_line(line))?;
+        let both = self.sums[at].plus(alloc, &own)?;
+        Ok(both)
+    }
+
+    pub(crate) fn is_large(&self, line: u8) -> bool {
+        match self.sums.get(usize::from(line)) {
+            Some(sum) => sum.len() > LITTLE,
+            None => false,
+        }
     }
 
     // How many products there are.

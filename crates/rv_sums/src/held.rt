@@ -4,6 +4,7 @@ ghost use Rattle.rv_gate.specs.declared.word.TheConstants.{MOST_LINES};
 ghost use Rattle.rv_sums.specs.Finding.{HasConstants, may_begin};
 
 use crate::beginning::mark_of;
+use crate::by_paths::LITTLE;
 use crate::facts::{Facts, asks_for};
 use crate::fault::PathFault;
 use crate::path_sum::PathSum;
@@ -35,7 +36,7 @@ fn without(alloc: Global, lines: u8, marks: &[Mark], gone: LineSet) -> Result<Ve
 }
 
 // The lines of which too much is known, and the controls of a flip by which its target isn't known.
-fn too_large(facts: &Facts, gate: Gate, most: usize) -> LineSet {
+fn too_large(facts: &Facts, gate: Gate) -> LineSet {
     let mut large: LineSet = 0;
     let Shape::Flip { care, target, .. } = gate.shape() else {
         return large;
@@ -44,7 +45,7 @@ fn too_large(facts: &Facts, gate: Gate, most: usize) -> LineSet {
         if has(facts.lines, line) {
             if let Some(fact) = facts.sums.get(usize::from(line)) {
                 let controls = has(care, line) && target < MOST_LINES && asks_for(fact, target);
-                if controls || fact.len() > most {
+                if controls || fact.len() > LITTLE {
                     large |= 1 << line;
                 }
             }
@@ -59,7 +60,6 @@ fn large_lines(
     lines: u8,
     flips: &[Gate],
     marks: &[Mark],
-    most: usize,
 ) -> Result<LineSet, PathFault>
     requires { lines ≤ MOST_LINES }
 {
@@ -67,23 +67,20 @@ fn large_lines(
     let mut facts = Facts::start(alloc, marks, &start.sums)?;
     let mut large: LineSet = 0;
     for gate in flips {
-        let more = too_large(&facts, *gate, most);
-        if more != 0 {
-            facts.forget(alloc, more)?;
-            large |= more;
+        let more = too_large(&facts, *gate);
+        for line in 0..MOST_LINES {
+            if has(more, line) {
+                facts.lose(alloc, line)?;
+            }
         }
+        large |= more;
         facts = facts.past(alloc, usize::from(lines), *gate)?;
     }
     Ok(large)
 }
 
-// The marks of lines of which no more is known, at each flip, than a sum of so many products.
-pub(crate) fn held(
-    alloc: Global,
-    circuit: &Circuit,
-    marks: &[Mark],
-    most: usize,
-) -> Result<Vec<Mark>, PathFault>
+// The marks of lines of which little is known, at each flip.
+pub(crate) fn held(alloc: Global, circuit: &Circuit, marks: &[Mark]) -> Result<Vec<Mark>, PathFault>
     ensures { IfOk result (λ made. (word : List Bool) → HasConstants marks.now word → HasConstants made.items word) }
 {
     if marks.is_empty() {
@@ -94,7 +91,7 @@ pub(crate) fn held(
     let mut made = without(alloc, lines, marks, 0)?;
     let flips = flips(alloc, circuit)?;
     'rounds: for _ in 0..MOST_LINES {
-        let large = large_lines(alloc, lines, &flips, &made, most)?;
+        let large = large_lines(alloc, lines, &flips, &made)?;
         if large == 0 {
             return Ok(made);
         }

@@ -1,5 +1,5 @@
 // Which flip of the circuit is taken when: in any order that exchanges allow, searched freely.
-ghost use Rattle.std.specs.Prelude.{◌≡◌, ◌≤◌, ◌∷◌, [], List, Bool, length, IfOk, IfSome};
+ghost use Rattle.std.specs.Prelude.{◌≡◌, ◌<◌, ◌≤◌, ◌∷◌, [], List, Bool, length, IfOk, IfSome};
 ghost use Rattle.rv_gate.specs.declared.gate.Shape.{Shape};
 ghost use Rattle.rv_gate.specs.declared.word.TheConstants.{MOST_LINES};
 ghost use Rattle.rv_net.specs.Op.{OpFitsIn};
@@ -12,7 +12,7 @@ use crate::facts::Facts;
 use crate::fault::PathFault;
 use crate::left::Left;
 use crate::path_sum::PathSum;
-use rv_gate::{Gate, Mark};
+use rv_gate::{Gate, MOST_LINES, Mark};
 use rv_net::Op;
 use std::alloc::Global;
 
@@ -174,6 +174,32 @@ impl Following {
         }
     }
 
+    // A line is as any other where much is known of it.
+    fn forget(&mut self, alloc: Global, line: u8) -> Result<(), PathFault>
+        requires { line < MOST_LINES }
+        ensures { IfOk result (λ _. (flips : List Shape) → Moves [] flips self.old self.new) }
+    {
+        if usize::from(line) >= self.sum.sums.len() || !self.facts.is_large(line) {
+            return Ok(());
+        }
+        let none = self.facts.nought_of(alloc, line)?;
+        self.sum.flip(alloc, line, &none)?;
+        self.facts.lose(alloc, line)?;
+        Ok(())
+    }
+
+    fn forget_large(&mut self, alloc: Global) -> Result<(), PathFault>
+        ensures { IfOk result (λ _. (flips : List Shape) → Moves [] flips self.old self.new) }
+    {
+        if self.facts.sums.is_empty() {
+            return Ok(());
+        }
+        for line in 0..MOST_LINES {
+            self.forget(alloc, line)?;
+        }
+        Ok(())
+    }
+
     // Takes a flip of the window, if it may pass those in front of it, and the sum weighs less than so much then. Not
     // any flip is tried, but one that leads.
     fn take(&mut self, alloc: Global, at: usize, limit: usize, any: bool) -> Result<bool, PathFault>
@@ -199,6 +225,7 @@ impl Following {
         self.sum = next.0;
         self.facts = next.1;
         self.left.window.remove(at);
+        self.forget_large(alloc)?;
         Ok(true)
     }
 

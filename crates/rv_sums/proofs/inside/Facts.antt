@@ -6,7 +6,7 @@ use Rattle.rv_gate.specs.Gate.{act, holds, xor}
 use Rattle.rv_gate.specs.Word.{has}
 use Rattle.rv_gate.specs.declared.gate.Shape.{Shape}
 use Rattle.rv_gate.specs.declared.gate.Shape.TheVariants.{Flip}
-use Rattle.rv_gate.proofs.Bits.{xor_back}
+use Rattle.rv_gate.proofs.Bits.{xor_back, xor_same}
 use Rattle.rv_gate.proofs.inside.GateLemmas.{flip_if, holds-set, length-act}
 use Rattle.rv_net.proofs.Step.{Word, bit}
 use Rattle.rv_terms.specs.Products.{odd}
@@ -154,3 +154,33 @@ after_flip lines g line with old new lt back turned u len h =
 pub line_told : (facts : List Sum) (line : ℕ) (fact sum : Sum) (x v : Word) → line < length facts → fact ≡ get_or facts line fact
     → odd sum x v ≡ odd fact x v → Holds facts x → odd sum x v ≡ bit x line
 line_told facts line fact sum x v lt is same h = same ∙ sym (bit-word_at facts line fact x v lt is) ∙ h.bits line v lt
+
+-- ---- a line of which nothing is known any more
+
+pub nought_at : (facts : List Sum) (line at : ℕ) (fact own both : Sum) (x v : Word) → at ≡ line → line < length facts → fact ≡ get_or facts at fact
+    → odd own x v ≡ bit x line → odd both x v ≡ xor (odd fact x v) (odd own x v) → Holds facts x → odd both x v ≡ false
+nought_at facts line at fact own both x v same lt is is_own is_both h =
+    let known : odd fact x v ≡ bit x line =
+    sym (bit-word_at facts line fact x v lt (is ∙ ap (λ k. get_or facts k fact) same)) ∙ h.bits line v lt in
+    is_both ∙ ap₂ xor known is_own ∙ xor_same (bit x line)
+
+pub lost : (facts facts2 : List Sum) (line at : ℕ) (own : Sum) (x : Word) → at ≡ line → line < length facts → ((v : Word) → odd own x v ≡ bit x line)
+    → facts2 ≡ set facts at own → Holds facts x → Holds facts2 x
+lost facts facts2 line at own x same lt is_own now h =
+    let here : facts2 ≡ set facts line own = now ∙ ap (λ k. set facts k own) same in
+    let count : length facts2 ≡ length facts = ap length here ∙ length-set facts line own in
+    record {
+      few = omega (arith, count, h.few);
+      bits = λ k v less.
+          let long : line < length (word_at facts x v) = omega (arith, length-word_at facts x v) in
+          elim (cases_eq k line) [
+            | inl e ↦
+                let goes : bit (word_at facts2 x v) line ≡ bit x line =
+                ap (λ l. bit (word_at l x v) line) here ∙ ap (λ w. bit w line) (word_at-set facts line own x v)
+                ∙ get_or-set_same (word_at facts x v) line (odd own x v) false long ∙ is_own v in
+                ap (bit (word_at facts2 x v)) e ∙ goes ∙ sym (ap (bit x) e)
+            | inr apart ↦
+                ap (λ l. bit (word_at l x v) k) here ∙ ap (λ w. bit w k) (word_at-set facts line own x v)
+                ∙ get_or-set_other (word_at facts x v) line k (odd own x v) false apart ∙ h.bits k v (omega (arith, count))
+          ];
+    }

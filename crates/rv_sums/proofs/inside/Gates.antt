@@ -1,13 +1,14 @@
 -- Flips of the circuit, taken into the sums.
-use Rattle.std.proofs.Common.{◌≡◌, ℕ, All, ◌+◌, ◌<◌, ◌≤◌, List, [], ◌∷◌, ◌++◌, length, drop, take, get_or, set, refl, sym, ap, ap₂, ◌∙◌, arith, subst, suc}
+use Rattle.std.proofs.Common.{◌≡◌, ℕ, All, ◌+◌, ◌<◌, ◌≤◌, false, List, [], ◌∷◌, ◌++◌, length, drop, take, get_or, set, refl, sym, ap, ap₂, ◌∙◌, arith, subst, suc}
 use Rattle.std.proofs.Math.Seq.{drop-cons}
 use Rattle.std.proofs.lemmas.Grind.{common_steps}
-use Rattle.std.proofs.lemmas.List.{take_more}
+use Rattle.std.proofs.lemmas.List.{set-get_or, take_more}
 use Rattle.std.proofs.lemmas.List.Elements.{All-get_or}
 use Rattle.rv_gate.specs.Every.{Every}
-use Rattle.rv_gate.specs.Gate.{FitsIn, IsFlipOn, IsGate, act, run}
+use Rattle.rv_gate.specs.Gate.{FitsIn, IsFlipOn, IsGate, act, run, xor}
 use Rattle.rv_gate.specs.declared.circuit.Mark.{Mark}
 use Rattle.rv_gate.specs.declared.gate.Shape.{Shape}
+use Rattle.rv_gate.proofs.Bits.{xor_false}
 use Rattle.rv_gate.proofs.Every.{every_append, every_drop}
 use Rattle.rv_gate.proofs.inside.GateLemmas.{act_twice, length-act, length-run, run-append}
 use Rattle.rv_mct.specs.Blocks.{flips_of}
@@ -15,13 +16,13 @@ use Rattle.rv_mct.proofs.inside.Gates.{flips_own, run_flips}
 use Rattle.rv_net.specs.Amplitude.{amplitude}
 use Rattle.rv_net.specs.Cyclotomic.{times_w_power}
 use Rattle.rv_net.specs.declared.op.Op.{Op}
-use Rattle.rv_net.proofs.Step.{Word}
+use Rattle.rv_net.proofs.Step.{Word, bit}
 use Rattle.rv_terms.specs.Products.{odd}
 use Rattle.rv_terms.specs.Phases.{power}
 use Rattle.rv_terms.specs.declared.sum.Sum.{Sum}
 use Rattle.rv_sums.specs.Finding.{HasConstants}
 use Rattle.rv_sums.specs.inside.Paths.{rooted}
-use Rattle.rv_sums.specs.inside.State.{AreCopies, AreFlips, AreTurned, Holds, HoldsAfter, Leads, Reached, Stands, Takes, TurnsBack, spare, word_at}
+use Rattle.rv_sums.specs.inside.State.{AreCopies, AreFlips, AreTurned, Holds, HoldsAfter, IsFlipped, Leads, Reached, Stands, Takes, TurnsBack, spare, word_at}
 use Rattle.rv_sums.specs.declared.path_sum.PathSum.{PathSum}
 use Rattle.rv_sums.proofs.Sums.{same_sum}
 
@@ -85,6 +86,25 @@ reached_flip marks facts facts2 lines ops rest gates left g old new takes after 
           (takes.stands rest (act g u) z (amplitude ops w z) (lb ∙ sym r.lines_are) (before w u m lw lu same)
           (r.stands w (act g u) z m lw lb (ap (run left) (back u lu) ∙ same)));
     }
+
+-- a sum that is 0 where the facts hold comes to that of a line
+pub reached_told : (marks : List Mark) (facts facts2 : List Sum) (lines line : ℕ) (with : Sum) (ops rest : List Op) (gates left : List Shape) (old new : PathSum)
+    → IsFlipped line with old new → ((x v : Word) → Holds facts x → odd with x v ≡ false) → ((x : Word) → Holds facts x → Holds facts2 x)
+    → Reached marks facts lines ops rest gates left old → Reached marks facts2 lines ops rest gates left new
+reached_told marks facts facts2 lines line with ops rest gates left old new flipped nought known r = record {
+  lines_are = flipped.lines ∙ r.lines_are;
+  flips = r.flips;
+  holds = λ w u m lw lu same. known u (r.holds w u m lw lu same);
+  stands = λ w u z m lw lu same.
+      let here : (v : Word) → word_at new.sums.items u v ≡ word_at old.sums.items u v = λ v.
+      flipped.ends u v
+      ∙ ap (set (word_at old.sums.items u v) line)
+      (ap (xor (bit (word_at old.sums.items u v) line)) (nought u v (r.holds w u m lw lu same)) ∙ xor_false (bit (word_at old.sums.items u v) line))
+      ∙ set-get_or (word_at old.sums.items u v) line false in
+      ap (λ d. rooted d (amplitude ops w z)) flipped.scale ∙ r.stands w u z m lw lu same
+      ∙ ap (rooted spare) (same_sum 64 _ _ (λ v e.
+      ap₂ (λ n y. times_w_power n (amplitude rest y z)) (sym (ap (λ p. power p u v) flipped.phases)) (sym (here v))));
+}
 
 -- ---- the flips of a circuit
 

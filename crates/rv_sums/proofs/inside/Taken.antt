@@ -1,5 +1,5 @@
 -- Flips of the circuit, taken in any order that exchanges allow.
-use Rattle.std.proofs.Common.{◌≡◌, ℕ, zero, suc, ◌+◌, ◌<◌, ◌≤◌, All, List, [], ◌∷◌, ◌++◌, length, drop, take, get_or, refl, sym, ap, ap₂, append_assoc, ◌∙◌, arith, subst}
+use Rattle.std.proofs.Common.{◌≡◌, ℕ, zero, suc, ◌+◌, ◌<◌, ◌≤◌, All, false, List, [], ◌∷◌, ◌++◌, length, drop, take, get_or, refl, sym, ap, ap₂, append_assoc, ◌∙◌, arith, subst}
 use Rattle.std.specs.List.{remove}
 use Rattle.std.proofs.Math.Seq.{drop-cons}
 use Rattle.std.proofs.Math.ListN.{drop_of_length-le}
@@ -12,12 +12,14 @@ use Rattle.rv_gate.proofs.Every.{every_first}
 use Rattle.rv_gate.proofs.inside.GateLemmas.{length-act}
 use Rattle.rv_net.specs.declared.op.Op.{Op}
 use Rattle.rv_net.proofs.Step.{Word}
-use Rattle.rv_sums.specs.inside.State.{AreCopies, Holds, HoldsAfter, Leads, Moves, Reached, Takes, left_of}
+use Rattle.rv_terms.specs.Products.{odd}
+use Rattle.rv_terms.specs.declared.sum.Sum.{Sum}
+use Rattle.rv_sums.specs.inside.State.{AreCopies, Holds, HoldsAfter, IsFlipped, Leads, Moves, Reached, Takes, left_of}
 use Rattle.rv_sums.specs.declared.facts.Facts.{Facts}
 use Rattle.rv_sums.specs.declared.path_sum.PathSum.{PathSum}
 use Rattle.rv_sums.specs.declared.taking.Following.{Following}
 use Rattle.rv_sums.proofs.inside.Facts.{holds_copies}
-use Rattle.rv_sums.proofs.inside.Gates.{every_at, reached_flip, reached_op, reached_same}
+use Rattle.rv_sums.proofs.inside.Gates.{every_at, reached_flip, reached_op, reached_same, reached_told}
 
 -- a flip before those that it commutes with
 past : (lines : ℕ) (window rest : List Shape) (at : ℕ) (g : Shape) → at < length window → g ≡ get_or window at g
@@ -114,6 +116,18 @@ moves_op flips op old new leads facts left = record {
       let Q : Facts → Type 0 = λ f. Reached marks f.sums.items lines ops (op ∷ rest) gates (left_of flips old.left) old.sum in
       subst P (ap (left_of flips) (sym left))
       (reached_op marks new.facts.sums.items lines ops rest op gates (left_of flips old.left) old.sum new.sum leads (subst Q (sym facts) r));
+}
+
+-- a line is as any other
+pub moves_told : (flips : List Shape) (line : ℕ) (with : Sum) (old new : Following) → IsFlipped line with old.sum new.sum
+    → ((x v : Word) → Holds old.facts.sums.items x → odd with x v ≡ false)
+    → ((x : Word) → Holds old.facts.sums.items x → Holds new.facts.sums.items x) → new.left ≡ old.left → Moves [] flips old new
+moves_told flips line with old new flipped nought known left = record {
+  lines = flipped.lines;
+  reached = λ marks lines ops rest gates r.
+      let P : List Shape → Type 0 = λ l. Reached marks new.facts.sums.items lines ops rest gates l new.sum in
+      subst P (ap (left_of flips) (sym left))
+      (reached_told marks old.facts.sums.items new.facts.sums.items lines line with ops rest gates (left_of flips old.left) old.sum new.sum flipped nought known r);
 }
 
 -- one flip more in the window
