@@ -3,5 +3,7 @@ pub mod Moves
 pub mod Shorter
 pub mod Gates
 pub mod Ends
+pub mod Facts
+pub mod Begins
 pub mod Words
 pub mod Taken

@@ -16,7 +16,7 @@ use rv_net::Op;
 use rv_terms::Sum;
 use std::alloc::Global;
 
-fn is_nought(sum: &Sum) -> bool
+pub(crate) fn is_nought(sum: &Sum) -> bool
     ensures { IsTrue result → (x v : List Bool) → odd sum.now x v ≡ false }
 {
     let products = sum.products();

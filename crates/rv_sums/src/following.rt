@@ -10,12 +10,12 @@ use crate::by_paths::{MOST_STEPS, MOST_TERMS};
 use crate::fault::PathFault;
 use crate::path_sum::PathSum;
 use crate::taking::{Following, Reach};
-use rv_gate::{Gate, MOST_LINES, Shape, Word};
+use rv_gate::{Gate, MOST_LINES, Mark, Shape, Word};
 use rv_net::Op;
 use rv_terms::{Product, Sum};
 use std::alloc::Global;
 
-fn copy_all(alloc: Global, sums: &[Sum]) -> Result<Vec<Sum>, PathFault>
+pub(crate) fn copy_all(alloc: Global, sums: &[Sum]) -> Result<Vec<Sum>, PathFault>
     ensures { IfOk result (λ made. AreCopies sums.now made.items) }
 {
     let mut made = Vec::new(alloc);
@@ -39,7 +39,7 @@ fn distance(sum: &Sum, line: u8) -> usize
 
 impl PathSum {
     pub(crate) fn copy(&self, alloc: Global) -> Result<PathSum, PathFault>
-        ensures { IfOk result (Leads [] [] self.now) }
+        ensures { IfOk result (Leads [] self.now) }
     {
         let sums = copy_all(alloc, &self.sums)?;
         let phases = self.phases.copy(alloc)?;
@@ -90,7 +90,7 @@ impl PathSum {
     // One operation more, and after H without the path bits that can be taken away.
     pub(crate) fn operate(&mut self, alloc: Global, op: Op) -> Result<(), PathFault>
         requires { OpFitsIn op (length self.old.sums.items) }
-        ensures { IfOk result (λ _. Leads (op ∷ []) [] self.old self.new) }
+        ensures { IfOk result (λ _. Leads (op ∷ []) self.old self.new) }
     {
         self.step(alloc, op)?;
         match op {
@@ -104,7 +104,7 @@ impl PathSum {
 
     // The sums that phases kept are lifted.
     fn open(&mut self) -> Result<(), PathFault>
-        ensures { IfOk result (λ _. Leads [] [] self.old self.new) }
+        ensures { IfOk result (λ _. Leads [] self.old self.new) }
     {
         self.phases.open()?;
         Ok(())
@@ -124,27 +124,29 @@ impl PathSum {
     }
 }
 
-// The sum after all operations, and after all flips.
+// The sum after all operations, and after all flips, from each word that holds the constants.
 pub(crate) fn through(
     alloc: Global,
     lines: u8,
     ops: &[Op],
     flips: &[Gate],
+    marks: &[Mark],
     reach: Reach,
-) -> Result<PathSum, PathFault>
+) -> Result<Following, PathFault>
     requires few { lines ≤ MOST_LINES }
     requires fits { All (λ op. OpFitsIn op lines) ops.now }
     requires each { Every (IsFlipOn lines) flips.now }
-    ensures { IfOk result (Reached lines ops.now [] flips.now []) }
+    ensures { IfOk result (λ state.
+        Reached marks.now state.facts.sums.items lines ops.now [] flips.now [] state.sum) }
 {
-    let mut state = Following::start(alloc, lines, reach)?;
+    let mut state = Following::start(alloc, lines, marks, reach)?;
     'places: for place in 0..ops.len() {
         state.operate(alloc, flips, ops[place])?;
     }
     state.finish(alloc, flips)?;
     state.sum.open()?;
     state.sum.shorten(alloc)?;
-    Ok(state.sum)
+    Ok(state)
 }
 
 // The sum from one word, after all operations.

@@ -48,7 +48,7 @@ impl PathSum {
 
     pub(crate) fn h(&mut self, alloc: Global, line: u8) -> Result<(), PathFault>
         requires { line < length self.old.sums.items }
-        ensures { IfOk result (λ _. Leads (H line ∷ []) [] self.old self.new) }
+        ensures { IfOk result (λ _. Leads (H line ∷ []) self.old self.new) }
     {
         let Some(path) = self.free_path() else {
             return Err(PathFault::Paths);

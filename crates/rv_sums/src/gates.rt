@@ -5,8 +5,9 @@ ghost use Rattle.rv_gate.specs.Word.{bit_of, has};
 ghost use Rattle.rv_gate.specs.declared.gate.Shape.TheVariants.{Flip};
 ghost use Rattle.rv_gate.specs.declared.word.TheConstants.{MOST_LINES};
 ghost use Rattle.rv_terms.specs.Products.{odd};
-ghost use Rattle.rv_sums.specs.inside.State.{AreTurned, Leads};
+ghost use Rattle.rv_sums.specs.inside.State.{AreTurned, Takes};
 
+use crate::facts::Facts;
 use crate::fault::PathFault;
 use crate::path_sum::{PathSum, always};
 use rv_gate::{Gate, LineSet, MOST_LINES, Shape, has};
@@ -31,7 +32,12 @@ fn under(alloc: Global, sum: &Sum, line: u8, wanted: bool) -> Result<Sum, PathFa
 }
 
 // Where controls hold.
-fn holding(alloc: Global, lines: u8, care: LineSet, want: LineSet) -> Result<Sum, PathFault>
+pub(crate) fn holding(
+    alloc: Global,
+    lines: u8,
+    care: LineSet,
+    want: LineSet,
+) -> Result<Sum, PathFault>
     requires { lines ≤ MOST_LINES }
     ensures { IfOk result (λ sum. (x v : List Bool) → length x ≡ lines → odd sum x v ≡ holds care want x) }
 {
@@ -45,7 +51,12 @@ fn holding(alloc: Global, lines: u8, care: LineSet, want: LineSet) -> Result<Sum
 }
 
 // Sums in which another one stands for a line.
-fn turn_all(alloc: Global, sums: &[Sum], line: u8, with: &Sum) -> Result<Vec<Sum>, PathFault>
+pub(crate) fn turn_all(
+    alloc: Global,
+    sums: &[Sum],
+    line: u8,
+    with: &Sum,
+) -> Result<Vec<Sum>, PathFault>
     requires { line < MOST_LINES }
     ensures { IfOk result (λ made. AreTurned line with.now sums.now made.items) }
 {
@@ -61,6 +72,7 @@ impl PathSum {
     fn put_flip(
         &self,
         alloc: Global,
+        facts: &Facts,
         care: LineSet,
         want: LineSet,
         target: u8,
@@ -68,12 +80,10 @@ impl PathSum {
         requires few { length self.now.sums.items ≤ MOST_LINES }
         requires target { target < length self.now.sums.items }
         requires free { IsFalse (has care target) }
-        ensures { IfOk result (Leads [] (Flip care want target ∷ []) self.now) }
+        ensures { IfOk result (Takes facts.now.sums.items (Flip care want target) self.now) }
     {
         let lines = self.sums.len() as u8;
-        let mut with = holding(alloc, lines, care, want)?;
-        let product = Product::of_line(target);
-        with.add(product)?;
+        let with = facts.back(alloc, lines, care, want, target)?;
         let sums = turn_all(alloc, &self.sums, target, &with)?;
         let phases = self.phases.replaced_line(alloc, target, &with)?;
         Ok(PathSum {
@@ -83,16 +93,23 @@ impl PathSum {
         })
     }
 
-    // The sum after one flip of the circuit more. What is no flip on its lines isn't taken.
-    pub(crate) fn with_flip(&self, alloc: Global, gate: Gate) -> Result<PathSum, PathFault>
-        ensures { IfOk result (Leads [] (gate ∷ []) self.now) }
+    // The sum after one flip of the circuit more, where these facts hold. What is no flip on its lines isn't taken.
+    pub(crate) fn with_flip(
+        &self,
+        alloc: Global,
+        facts: &Facts,
+        gate: Gate,
+    ) -> Result<PathSum, PathFault>
+        ensures { IfOk result (Takes facts.now.sums.items gate self.now) }
     {
         let lines = self.sums.len();
         if lines > usize::from(MOST_LINES) || !gate.fits(lines as u8) {
             return Err(PathFault::Steps);
         }
         match gate.shape() {
-            Shape::Flip { care, want, target } => self.put_flip(alloc, care, want, target),
+            Shape::Flip { care, want, target } => {
+                self.put_flip(alloc, facts, care, want, target)
+            },
             Shape::Swap { .. } | Shape::Peres { .. } => Err(PathFault::Steps),
         }
     }

@@ -2,13 +2,16 @@
 #![tactic(auto)]
 
 mod apart;
+mod beginning;
 mod by_paths;
 mod differs;
+mod facts;
 mod fault;
 mod finding;
 mod following;
 mod free;
 mod gates;
+mod held;
 mod left;
 mod moving;
 mod path_sum;

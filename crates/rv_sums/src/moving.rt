@@ -28,7 +28,7 @@ impl PathSum {
     fn phase(&mut self, op: Op, line: u8, weight: u8) -> Result<(), PathFault>
         requires line { line < length self.old.sums.items }
         requires op { IsPhaseOp op line weight }
-        ensures { IfOk result (λ _. Leads (op ∷ []) [] self.old self.new) }
+        ensures { IfOk result (λ _. Leads (op ∷ []) self.old self.new) }
     {
         self.turn_line(line, weight)?;
         Ok(())
@@ -36,7 +36,7 @@ impl PathSum {
 
     fn x(&mut self, alloc: Global, line: u8) -> Result<(), PathFault>
         requires { line < length self.old.sums.items }
-        ensures { IfOk result (λ _. Leads (X line ∷ []) [] self.old self.new) }
+        ensures { IfOk result (λ _. Leads (X line ∷ []) self.old self.new) }
     {
         let one = always(alloc)?;
         self.flip(alloc, line, &one)?;
@@ -45,7 +45,7 @@ impl PathSum {
 
     fn y(&mut self, alloc: Global, line: u8) -> Result<(), PathFault>
         requires { line < length self.old.sums.items }
-        ensures { IfOk result (λ _. Leads (Y line ∷ []) [] self.old self.new) }
+        ensures { IfOk result (λ _. Leads (Y line ∷ []) self.old self.new) }
     {
         let one = always(alloc)?;
         self.turn(&one, 2)?;
@@ -57,7 +57,7 @@ impl PathSum {
     fn cx(&mut self, alloc: Global, a: u8, b: u8) -> Result<(), PathFault>
         requires control { a < length self.old.sums.items }
         requires target { b < length self.old.sums.items }
-        ensures { IfOk result (λ _. Leads (Cx a b ∷ []) [] self.old self.new) }
+        ensures { IfOk result (λ _. Leads (Cx a b ∷ []) self.old self.new) }
     {
         let bit = self.sums[usize::from(a)].copy(alloc)?;
         self.flip(alloc, b, &bit)?;
@@ -79,7 +79,7 @@ impl PathSum {
         requires first { a < length self.old.sums.items }
         requires second { b < length self.old.sums.items }
         requires target { target < length self.old.sums.items }
-        ensures { IfOk result (λ _. Leads (Ccx a b target ∷ []) [] self.old self.new) }
+        ensures { IfOk result (λ _. Leads (Ccx a b target ∷ []) self.old self.new) }
     {
         let product = self.both(alloc, a, b)?;
         self.flip(alloc, target, &product)?;
@@ -89,7 +89,7 @@ impl PathSum {
     fn cz(&mut self, alloc: Global, a: u8, b: u8) -> Result<(), PathFault>
         requires first { a < length self.old.sums.items }
         requires second { b < length self.old.sums.items }
-        ensures { IfOk result (λ _. Leads (Cz a b ∷ []) [] self.old self.new) }
+        ensures { IfOk result (λ _. Leads (Cz a b ∷ []) self.old self.new) }
     {
         let product = self.both(alloc, a, b)?;
         self.turn(&product, 4)?;
@@ -99,7 +99,7 @@ impl PathSum {
     fn swap(&mut self, a: u8, b: u8)
         requires first { a < length self.old.sums.items }
         requires second { b < length self.old.sums.items }
-        ensures { Leads (Swap a b ∷ []) [] self.old self.new }
+        ensures { Leads (Swap a b ∷ []) self.old self.new }
     {
         self.sums.swap(usize::from(a), usize::from(b));
     }
@@ -110,7 +110,7 @@ impl PathSum {
         requires first { a < length self.old.sums.items }
         requires second { b < length self.old.sums.items }
         requires apart { a ≢ b }
-        ensures { IfOk result (λ _. Leads (Cswap control a b ∷ []) [] self.old self.new) }
+        ensures { IfOk result (λ _. Leads (Cswap control a b ∷ []) self.old self.new) }
     {
         let differ = self.sums[usize::from(a)].plus(alloc, &self.sums[usize::from(b)])?;
         let exchange = differ.times(alloc, &self.sums[usize::from(control)])?;
@@ -122,7 +122,7 @@ impl PathSum {
     // One operation more.
     pub(crate) fn step(&mut self, alloc: Global, op: Op) -> Result<(), PathFault>
         requires { OpFitsIn op (length self.old.sums.items) }
-        ensures { IfOk result (λ _. Leads (op ∷ []) [] self.old self.new) }
+        ensures { IfOk result (λ _. Leads (op ∷ []) self.old self.new) }
     {
         match op {
             Op::X(line) => self.x(alloc, line),

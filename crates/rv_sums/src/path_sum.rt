@@ -4,7 +4,8 @@ ghost use Rattle.rv_gate.specs.declared.word.TheConstants.{MOST_LINES};
 ghost use Rattle.rv_terms.specs.Products.{odd};
 ghost use Rattle.rv_sums.specs.inside.State.{IsStart, IsStartAt, IsFlipped, IsTurned, Leads};
 
-use rv_gate::{MOST_LINES, Word};
+use crate::beginning::beginning;
+use rv_gate::{MOST_LINES, Mark, Word};
 use rv_terms::{Phases, Product, Sum, SumFault};
 use std::alloc::{AllocError, Global};
 
@@ -39,14 +40,14 @@ pub(crate) fn constant(alloc: Global, bit: bool) -> Result<Sum, AllocError>
 }
 
 impl PathSum {
-    // From each word to itself.
-    pub(crate) fn start(alloc: Global, lines: u8) -> Result<PathSum, AllocError>
+    // From each word that holds the constants to itself.
+    pub(crate) fn start(alloc: Global, lines: u8, marks: &[Mark]) -> Result<PathSum, AllocError>
         requires { lines ≤ MOST_LINES }
-        ensures { IfOk result (IsStart lines) }
+        ensures { IfOk result (IsStart marks.now lines) }
     {
         let mut sums = Vec::new(alloc);
         for line in 0..lines {
-            let sum = Sum::of(alloc, Product::of_line(line))?;
+            let sum = beginning(alloc, marks, line)?;
             sums.push(sum)?;
         }
         Ok(PathSum {

@@ -72,7 +72,7 @@ impl PathSum {
         requires path { path < MOST_LINES }
         requires ends { EndsLack path self.old.sums.items }
         requires part { Brings path (λ x v. if odd signs x v then 4 else 0) self.old.phases }
-        ensures { IfOk result (λ _. Leads [] [] self.old self.new) }
+        ensures { IfOk result (λ _. Leads [] self.old self.new) }
     {
         let Some(other) = partner(&signs, path) else {
             return Ok(false);
@@ -108,7 +108,7 @@ impl PathSum {
         requires path { path < MOST_LINES }
         requires ends { EndsLack path self.old.sums.items }
         requires part { Brings path (λ x v. if odd signs x v then 6 else 2) self.old.phases }
-        ensures { IfOk result (λ _. Leads [] [] self.old self.new) }
+        ensures { IfOk result (λ _. Leads [] self.old self.new) }
     {
         if self.scale > MOST_SCALE {
             return Ok(false);
@@ -128,7 +128,7 @@ impl PathSum {
     // Takes a path bit away by one of the rules, if it can be.
     fn shorten_at(&mut self, alloc: Global, path: u8) -> Result<bool, PathFault>
         requires { path < MOST_LINES }
-        ensures { IfOk result (λ _. Leads [] [] self.old self.new) }
+        ensures { IfOk result (λ _. Leads [] self.old self.new) }
     {
         if !self.phases.has_path(path) {
             return Ok(false);
@@ -151,7 +151,7 @@ impl PathSum {
 
     // Takes path bits away, one after another: so many times at most as there can be any.
     pub(crate) fn shorten(&mut self, alloc: Global) -> Result<(), PathFault>
-        ensures { IfOk result (λ _. Leads [] [] self.old self.new) }
+        ensures { IfOk result (λ _. Leads [] self.old self.new) }
     {
         'rounds: for _ in 0..MOST_LINES {
             let again = self.shorten_once(alloc)?;
@@ -164,7 +164,7 @@ impl PathSum {
 
     // Tries each path bit. Whether one went.
     fn shorten_once(&mut self, alloc: Global) -> Result<bool, PathFault>
-        ensures { IfOk result (λ _. Leads [] [] self.old self.new) }
+        ensures { IfOk result (λ _. Leads [] self.old self.new) }
     {
         let mut shorter = false;
         for path in 0..MOST_LINES {

@@ -9,7 +9,7 @@ use crate::fault::PathFault;
 use crate::following::through;
 use crate::path_sum::PathSum;
 use crate::taking::Reach;
-use rv_gate::{Gate, LineSet, MOST_LINES, Word};
+use rv_gate::{Gate, LineSet, MOST_LINES, Mark, Word};
 use rv_net::Op;
 use rv_terms::{Product, Sum};
 use std::alloc::Global;
@@ -76,17 +76,18 @@ pub(crate) fn suspects(
     lines: u8,
     ops: &[Op],
     flips: &[Gate],
+    marks: &[Mark],
     reach: Reach,
 ) -> Result<Vec<u64>, PathFault>
     requires few { lines ≤ MOST_LINES }
     requires fits { All (λ op. OpFitsIn op lines) ops.now }
     requires each { Every (IsFlipOn lines) flips.now }
 {
-    let state = through(alloc, lines, ops, flips, reach)?;
-    let sets = suspect_lines(alloc, &state)?;
+    let state = through(alloc, lines, ops, flips, marks, reach)?;
+    let sets = suspect_lines(alloc, &state.sum)?;
     let mut numbers = Vec::new(alloc);
     for set in &sets {
-        numbers.push(number_before(lines, *set, flips))?;
+        numbers.push(number_before(lines, state.facts.completed(*set), flips))?;
     }
     Ok(numbers)
 }

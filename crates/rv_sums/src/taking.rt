@@ -1,16 +1,18 @@
 // Which flip of the circuit is taken when: in any order that exchanges allow, searched freely.
-ghost use Rattle.std.specs.Prelude.{◌≡◌, ◌≤◌, ◌∷◌, [], List, length, IfOk, IfSome};
+ghost use Rattle.std.specs.Prelude.{◌≡◌, ◌<◌, ◌≤◌, ◌∷◌, [], List, Bool, length, IfOk, IfSome};
 ghost use Rattle.rv_gate.specs.declared.gate.Shape.{Shape};
 ghost use Rattle.rv_gate.specs.declared.word.TheConstants.{MOST_LINES};
 ghost use Rattle.rv_net.specs.Op.{OpFitsIn};
-ghost use Rattle.rv_sums.specs.inside.State.{IsStart, Leads, Moves, left_of};
+ghost use Rattle.rv_sums.specs.Finding.{HasConstants};
+ghost use Rattle.rv_sums.specs.inside.State.{Holds, HoldsAfter, IsStart, Moves, Takes, left_of};
 ghost use Rattle.rv_sums.specs.declared.taking.Following.{Following as AFollowing};
 
 use crate::by_paths::MOST_TERMS;
+use crate::facts::Facts;
 use crate::fault::PathFault;
 use crate::left::Left;
 use crate::path_sum::PathSum;
-use rv_gate::Gate;
+use rv_gate::{Gate, MOST_LINES, Mark};
 use rv_net::Op;
 use std::alloc::Global;
 
@@ -24,11 +26,12 @@ pub(crate) struct Reach {
     pub steps: u64,
 }
 
-// The sum, the flips of the circuit that are left, and what the search needs: the steps so far, and how heavy the sum
+// The sum, what is known of the circuit's word, the flips of the circuit that are left, and what the search needs: the steps so far, and how heavy the sum
 // was when flips were last taken.
 #[derive(Drop)]
 pub(crate) struct Following {
     pub sum: PathSum,
+    pub facts: Facts,
     pub left: Left,
     pub reach: Reach,
     pub steps: u64,
@@ -51,14 +54,23 @@ fn moves(op: Op) -> bool {
 }
 
 impl Following {
-    pub(crate) fn start(alloc: Global, lines: u8, reach: Reach) -> Result<Following, PathFault>
+    pub(crate) fn start(
+        alloc: Global,
+        lines: u8,
+        marks: &[Mark],
+        reach: Reach,
+    ) -> Result<Following, PathFault>
         requires { lines ≤ MOST_LINES }
-        ensures sum { IfOk result (λ state. IsStart lines state.sum) }
+        ensures sum { IfOk result (λ state. IsStart marks.now lines state.sum) }
+        ensures facts { IfOk result (λ state. (x : List Bool) → HasConstants marks.now x → length x ≡ lines
+            → Holds state.facts.sums.items x) }
         ensures left { IfOk result (λ state. (flips : List Shape) → left_of flips state.left ≡ flips) }
     {
-        let sum = PathSum::start(alloc, lines)?;
+        let sum = PathSum::start(alloc, lines, marks)?;
+        let facts = Facts::start(alloc, marks, &sum.sums)?;
         Ok(Following {
             sum,
+            facts,
             left: Left::all(alloc),
             reach,
             steps: 0,
@@ -70,9 +82,11 @@ impl Following {
         ensures { IfOk result (λ state. (flips : List Shape) → Moves [] flips self.now state) }
     {
         let sum = self.sum.copy(alloc)?;
+        let facts = self.facts.copy(alloc)?;
         let left = self.left.copy(alloc)?;
         Ok(Following {
             sum,
+            facts,
             left,
             reach: self.reach,
             steps: self.steps,
@@ -80,14 +94,32 @@ impl Following {
         })
     }
 
-    // How far the sum is from that of each word to itself.
-    fn weight(&self, sum: &PathSum) -> usize {
-        sum.weight(self.reach.share)
+    // How far a sum is from that of each word to itself, where such facts hold.
+    fn weight_of(&self, sum: &PathSum, facts: &Facts) -> usize {
+        if facts.sums.is_empty() {
+            return sum.weight(self.reach.share);
+        }
+        let away = facts.away(&sum.sums);
+        let away = away.saturating_mul(self.reach.share);
+        sum.phases.len().saturating_add(away)
+    }
+
+    fn weight(&self) -> usize {
+        self.weight_of(&self.sum, &self.facts)
+    }
+
+    // Whether a flip seems to be in the sum of its target.
+    fn leads(&self, gate: Gate) -> bool {
+        if self.facts.sums.is_empty() {
+            return self.sum.leads(gate);
+        }
+        self.facts.lead(&self.sum.sums, gate)
     }
 
     // A step more for each term, if there may be as many.
     fn spend(&mut self, terms: usize) -> Result<(), PathFault>
         ensures sum { IfOk result (λ _. self.new.sum ≡ self.old.sum) }
+        ensures facts { IfOk result (λ _. self.new.facts ≡ self.old.facts) }
         ensures left { IfOk result (λ _. self.new.left ≡ self.old.left) }
     {
         if terms > MOST_TERMS {
@@ -103,28 +135,69 @@ impl Following {
     // Remembers how heavy the sum is, if flips were taken.
     fn note(&mut self, taken: bool)
         ensures sum { self.new.sum ≡ self.old.sum }
+        ensures facts { self.new.facts ≡ self.old.facts }
         ensures left { self.new.left ≡ self.old.left }
     {
         if taken {
-            self.mark = self.weight(&self.sum);
+            self.mark = self.weight();
         }
     }
 
     // Whether the sum has become heavier, by a sixteenth and more.
     fn is_heavy(&self) -> bool {
         let most = self.mark.saturating_add(16).saturating_add(self.mark / 16);
-        self.weight(&self.sum) > most
+        self.weight() > most
     }
 
-    // The sum after a flip more, where it isn't too large.
-    fn after(&self, alloc: Global, gate: Gate) -> Result<Option<PathSum>, PathFault>
-        ensures { IfOk result (λ o. IfSome o (Leads [] (gate ∷ []) self.now.sum)) }
+    // The sum and what is known after a flip more.
+    fn with_flip(&self, alloc: Global, gate: Gate) -> Result<(PathSum, Facts), PathFault>
+        ensures sum { IfOk result (λ r. Takes self.now.facts.sums.items gate self.now.sum r.0) }
+        ensures facts { IfOk result (λ r.
+            HoldsAfter (length self.now.sum.sums.items) gate self.now.facts.sums.items r.1.sums.items) }
     {
-        match self.sum.with_flip(alloc, gate) {
+        let sum = self.sum.with_flip(alloc, &self.facts, gate)?;
+        let lines = self.sum.sums.len();
+        let facts = self.facts.past(alloc, lines, gate)?;
+        Ok((sum, facts))
+    }
+
+    // The same, where the sum isn't too large.
+    fn after(&self, alloc: Global, gate: Gate) -> Result<Option<(PathSum, Facts)>, PathFault>
+        ensures sum { IfOk result (λ o. IfSome o (λ r. Takes self.now.facts.sums.items gate self.now.sum r.0)) }
+        ensures facts { IfOk result (λ o. IfSome o (λ r.
+            HoldsAfter (length self.now.sum.sums.items) gate self.now.facts.sums.items r.1.sums.items)) }
+    {
+        match self.with_flip(alloc, gate) {
             Ok(next) => Ok(Some(next)),
             Err(PathFault::Mem) => Err(PathFault::Mem),
             Err(_) => Ok(None),
         }
+    }
+
+    // A line is as any other where much is known of it.
+    fn forget(&mut self, alloc: Global, line: u8) -> Result<(), PathFault>
+        requires { line < MOST_LINES }
+        ensures { IfOk result (λ _. (flips : List Shape) → Moves [] flips self.old self.new) }
+    {
+        if usize::from(line) >= self.sum.sums.len() || !self.facts.is_large(line) {
+            return Ok(());
+        }
+        let none = self.facts.nought_of(alloc, line)?;
+        self.sum.flip(alloc, line, &none)?;
+        self.facts.lose(alloc, line)?;
+        Ok(())
+    }
+
+    fn forget_large(&mut self, alloc: Global) -> Result<(), PathFault>
+        ensures { IfOk result (λ _. (flips : List Shape) → Moves [] flips self.old self.new) }
+    {
+        if self.facts.sums.is_empty() {
+            return Ok(());
+        }
+        for line in 0..MOST_LINES {
+            self.forget(alloc, line)?;
+        }
+        Ok(())
     }
 
     // Takes a flip of the window, if it may pass those in front of it, and the sum weighs less than so much then. Not
@@ -136,7 +209,7 @@ impl Following {
             return Ok(false);
         }
         let gate = self.left.window[at];
-        if !any && !self.sum.leads(gate) {
+        if !any && !self.leads(gate) {
             return Ok(false);
         }
         if !self.left.may_pass(at, gate) {
@@ -145,12 +218,14 @@ impl Following {
         let Some(next) = self.after(alloc, gate)? else {
             return Ok(false);
         };
-        self.spend(next.size())?;
-        if self.weight(&next) >= limit {
+        self.spend(next.0.size().saturating_add(next.1.size()))?;
+        if self.weight_of(&next.0, &next.1) >= limit {
             return Ok(false);
         }
-        self.sum = next;
+        self.sum = next.0;
+        self.facts = next.1;
         self.left.window.remove(at);
+        self.forget_large(alloc)?;
         Ok(true)
     }
 
@@ -170,7 +245,7 @@ impl Following {
     {
         let count = self.reach.window;
         self.left.fill(flips, count)?;
-        let weight = self.weight(&self.sum);
+        let weight = self.weight();
         for at in 0..count {
             let taken = self.take(alloc, at, weight, any)?;
             if taken {
@@ -200,7 +275,7 @@ impl Following {
         ensures { IfOk result (λ _. (flips : List Shape) (first : AFollowing) → Moves [] flips first self.old
             → Moves [] flips first trial.now → Moves [] flips first self.new) }
     {
-        let weight = self.weight(&trial.sum);
+        let weight = self.weight_of(&trial.sum, &trial.facts);
         if weight >= least {
             return Ok(least);
         }
@@ -213,7 +288,7 @@ impl Following {
     fn look_ahead(&mut self, alloc: Global, flips: &[Gate]) -> Result<bool, PathFault>
         ensures { IfOk result (λ _. Moves [] flips.now self.old self.new) }
     {
-        let start = self.weight(&self.sum);
+        let start = self.weight();
         let most = start.saturating_mul(4).saturating_add(200);
         let mut least = start;
         let mut trial = self.copy(alloc)?;

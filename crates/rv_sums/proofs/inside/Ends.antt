@@ -7,11 +7,11 @@ use Rattle.std.proofs.lemmas.List.Elements.{All-get_or}
 use Rattle.rv_gate.specs.Circuit.{Cascade}
 use Rattle.rv_gate.specs.Every.{Every}
 use Rattle.rv_gate.specs.Gate.{IsFlipOn, act, run, same_word}
+use Rattle.rv_gate.specs.declared.circuit.Mark.{Mark}
 use Rattle.rv_gate.specs.declared.gate.Shape.{Shape}
 use Rattle.rv_gate.proofs.inside.GateLemmas.{act_twice, length-act, length-run}
 use Rattle.rv_net.specs.Amplitude.{amplitude, count_h}
 use Rattle.rv_net.specs.Cyclotomic.{Cyclotomic, nought, power, root2, times_w_power, unity}
-use Rattle.rv_net.specs.Denotes.{Denotes}
 use Rattle.rv_net.specs.Op.{Network, OpFitsIn}
 use Rattle.rv_net.specs.declared.op.Op.{Op}
 use Rattle.rv_net.specs.declared.op.Op.TheVariants.{X, Y, Z, H, S, Sdg, T, Tdg, Cx, Cz, Ccx, Swap, Cswap}
@@ -19,8 +19,9 @@ use Rattle.rv_net.proofs.Step.{Word, bit}
 use Rattle.rv_terms.specs.Products.{odd}
 use Rattle.rv_terms.specs.Phases.{power as phase}
 use Rattle.rv_terms.specs.declared.sum.Sum.{Sum}
+use Rattle.rv_sums.specs.Finding.{DenotesFrom, HasConstants}
 use Rattle.rv_sums.specs.inside.Paths.{is_h, rooted}
-use Rattle.rv_sums.specs.inside.State.{AreFlips, IsStart, Leads, Moves, Reached, left_of, spare, word_at}
+use Rattle.rv_sums.specs.inside.State.{AreFlips, Holds, IsStart, Leads, Moves, Reached, left_of, spare, word_at}
 use Rattle.rv_sums.specs.declared.path_sum.PathSum.{PathSum}
 use Rattle.rv_sums.specs.declared.taking.Following.{Following}
 use Rattle.rv_sums.proofs.Paths.{ended}
@@ -38,17 +39,20 @@ run_back lines (g ∷ rest) u w each lu lw same =
     ∙ ap (act g) (run_back lines rest (act g u) (act g w) each.1 (length-act g u ∙ lu) (length-act g w ∙ lw) same)
     ∙ act_twice g lines w is.0 is.1 is.2 lw
 
-pub reached_start : (lines : ℕ) (ops : List Op) (flips : List Shape) (s : PathSum) → IsStart lines s → Every (IsFlipOn lines) flips
-    → Reached lines ops ops flips flips s
-reached_start lines ops flips s start each = record {
+pub reached_start : (marks : List Mark) (facts : List Sum) (lines : ℕ) (ops : List Op) (flips : List Shape) (s : PathSum) → IsStart marks lines s
+    → ((x : Word) → HasConstants marks x → length x ≡ lines → Holds facts x) → Every (IsFlipOn lines) flips
+    → Reached marks facts lines ops ops flips flips s
+reached_start marks facts lines ops flips s start known each = record {
   lines_are = start.lines_are;
   flips = each;
-  stands = λ w u z lw lu same.
+  holds = λ w u m lw lu same. subst (Holds facts) (sym (run_back lines flips u w each lu lw same)) (known w m lw);
+  stands = λ w u z m lw lu same.
       let at : u ≡ w = run_back lines flips u w each lu lw same in
+      let begins : HasConstants marks u = subst (HasConstants marks) (sym at) m in
       ap (λ d. rooted d (amplitude ops w z)) start.scale
       ∙ sym (rooted_more spare 128 (amplitude ops w z))
       ∙ ap (λ a. rooted spare (rooted 128 a)) (ap (λ x. amplitude ops x z) (sym at) ∙ sym (turns_none 0 (amplitude ops u z) refl))
-      ∙ ap (rooted spare) (sym (ended ops z u 0 (phase s.phases u) (word_at s.sums.items u) (λ v e. start.ends u v lu) (λ v e. ap (λ n. n % 8) (start.phases u v))));
+      ∙ ap (rooted spare) (sym (ended ops z u 0 (phase s.phases u) (word_at s.sums.items u) (λ v e. start.ends u v begins lu) (λ v e. ap (λ n. n % 8) (start.phases u v))));
 }
 
 -- an operation that is read at a place
@@ -65,22 +69,23 @@ pub here_ops : (ops : List Op) (k : ℕ) (op : Op) → k < length ops → op ≡
 here_ops ops k op lt is =
     drop-cons ops k op lt ∙ ap₂ (λ h j. h ∷ drop j ops) (sym is) (let e : suc k ≡ k + 1 = omega arith in e)
 
-pub reached_round : (lines : ℕ) (ops : List Op) (flips : List Shape) (place : ℕ) (op : Op) (s t : Following)
+pub reached_round : (marks : List Mark) (lines : ℕ) (ops : List Op) (flips : List Shape) (place : ℕ) (op : Op) (s t : Following)
     → place < length ops → op ≡ get_or ops place op → Moves (op ∷ []) flips s t
-    → Reached lines ops (drop place ops) flips (left_of flips s.left) s.sum
-    → Reached lines ops (drop (place + 1) ops) flips (left_of flips t.left) t.sum
-reached_round lines ops flips place op s t lt is moves r =
-    let P : List Op → Type 0 = λ rest. Reached lines ops rest flips (left_of flips s.left) s.sum in
-    moves.reached lines ops (drop (place + 1) ops) flips (subst P (here_ops ops place op lt is) r)
+    → Reached marks s.facts.sums.items lines ops (drop place ops) flips (left_of flips s.left) s.sum
+    → Reached marks t.facts.sums.items lines ops (drop (place + 1) ops) flips (left_of flips t.left) t.sum
+reached_round marks lines ops flips place op s t lt is moves r =
+    let P : List Op → Type 0 = λ rest. Reached marks s.facts.sums.items lines ops rest flips (left_of flips s.left) s.sum in
+    moves.reached marks lines ops (drop (place + 1) ops) flips (subst P (here_ops ops place op lt is) r)
 
-pub reached_end : (lines : ℕ) (ops : List Op) (flips : List Shape) (place : ℕ) (s t : Following) (u : PathSum)
-    → length ops ≤ place → Moves [] flips s t → left_of flips t.left ≡ [] → Leads [] [] t.sum u
-    → Reached lines ops (drop place ops) flips (left_of flips s.left) s.sum → Reached lines ops [] flips [] u
-reached_end lines ops flips place s t u all moves none leads r =
-    let P : List Op → Type 0 = λ rest. Reached lines ops rest flips (left_of flips t.left) t.sum in
-    let Q : List Shape → Type 0 = λ left. Reached lines ops [] flips left t.sum in
-    reached_same lines ops [] flips [] t.sum u leads
-    (subst Q none (subst P (drop_of_length-le ops all) (moves.reached lines ops (drop place ops) flips r)))
+pub reached_end : (marks : List Mark) (lines : ℕ) (ops : List Op) (flips : List Shape) (place : ℕ) (s t : Following) (u : PathSum)
+    → length ops ≤ place → Moves [] flips s t → left_of flips t.left ≡ [] → Leads [] t.sum u
+    → Reached marks s.facts.sums.items lines ops (drop place ops) flips (left_of flips s.left) s.sum
+    → Reached marks t.facts.sums.items lines ops [] flips [] u
+reached_end marks lines ops flips place s t u all moves none leads r =
+    let P : List Op → Type 0 = λ rest. Reached marks t.facts.sums.items lines ops rest flips (left_of flips t.left) t.sum in
+    let Q : List Shape → Type 0 = λ left. Reached marks t.facts.sums.items lines ops [] flips left t.sum in
+    reached_same marks t.facts.sums.items t.facts.sums.items lines ops [] flips [] t.sum u leads (λ x h. h)
+    (subst Q none (subst P (drop_of_length-le ops all) (moves.reached marks lines ops (drop place ops) flips r)))
 
 -- ---- sums that are lines
 
@@ -92,10 +97,13 @@ pub lines_more : (sums : List Sum) (k line : ℕ) (sum : Sum) (x v : Word) → k
 lines_more sums k line sum x v lt lx is same here before =
     word_at-take sums k sum x v lt is ∙ ap₂ (λ l b. l ++ b ∷ []) before (here ∙ ap (bit x) same) ∙ sym (take_more x k false lx)
 
+pub lines_at : (sums : List Sum) (k : ℕ) (x v : Word) → length sums ≤ k → length x ≡ length sums → word_at (take k sums) x v ≡ take k x
+    → word_at sums x v ≡ x
+lines_at sums k x v le len before = ap (λ l. word_at l x v) (sym (take_sums sums k le)) ∙ before ∙ take_whole x k (omega arith)
+
 pub lines_all : (sums : List Sum) (k : ℕ) → length sums ≤ k → ((x v : Word) → length sums ≤ length x → word_at (take k sums) x v ≡ take k x)
     → (x v : Word) → length x ≡ length sums → word_at sums x v ≡ x
-lines_all sums k le before x v len =
-    ap (λ l. word_at l x v) (sym (take_sums sums k le)) ∙ before x v (omega arith) ∙ take_whole x k (omega arith)
+lines_all sums k le before x v len = lines_at sums k x v le len (before x v (omega arith))
 
 -- ---- the number of H
 
@@ -141,31 +149,33 @@ rooted_delta : (h : ℕ) (b : Bool) → rooted h (cond b unity nought) ≡ cond 
 rooted_delta h true = sym (rooted_power h)
 rooted_delta h false = rooted_nought h
 
-pub same_denotes : (lines : ℕ) (ops : List Op) (flips : List Shape) (s : PathSum) → Reached lines ops [] flips [] s
-    → ((x v : Word) → length x ≡ length s.sums.items → word_at s.sums.items x v ≡ x) → ((x v : Word) → phase s.phases x v ≡ 0)
-    → s.scale + count_h ops ≡ spare + 128 → Denotes lines ops (run flips)
-unfolding Denotes amplitude
-same_denotes lines ops flips s r ends phases all x z lx lz =
+pub same_denotes : (marks : List Mark) (facts : List Sum) (lines : ℕ) (ops : List Op) (flips : List Shape) (s : PathSum)
+    → Reached marks facts lines ops [] flips [] s
+    → ((x v : Word) → length x ≡ length s.sums.items → Holds facts x → word_at s.sums.items x v ≡ x) → ((x v : Word) → phase s.phases x v ≡ 0)
+    → s.scale + count_h ops ≡ spare + 128 → DenotesFrom marks lines ops (run flips)
+unfolding amplitude
+same_denotes marks facts lines ops flips s r ends phases all x z lx lz m =
     let u : Word = run flips x in
     let lu : length u ≡ lines = length-run flips x ∙ lx in
+    let known : Holds facts u = r.holds x u m lx lu refl in
     at_end s.scale (count_h ops) 0 (amplitude ops x z) u z all
-    (r.stands x u z lx lu refl
-    ∙ ap (rooted spare) (ended [] z u 0 (phase s.phases u) (word_at s.sums.items u) (λ v e. ends u v (lu ∙ sym r.lines_are)) (λ v e. ap (λ n. n % 8) (phases u v))))
+    (r.stands x u z m lx lu refl
+    ∙ ap (rooted spare) (ended [] z u 0 (phase s.phases u) (word_at s.sums.items u) (λ v e. ends u v (lu ∙ sym r.lines_are) known) (λ v e. ap (λ n. n % 8) (phases u v))))
     ∙ ap (rooted (count_h ops)) (turns_none 0 _ refl)
     ∙ rooted_delta (count_h ops) (same_word u z)
 
 -- what holds for flips holds for the gates that they stand for
-pub denotes_gates : (lines : ℕ) (ops : List Op) (gates flips : List Shape) → ((w : Word) → length w ≡ lines → run flips w ≡ run gates w)
-    → Denotes lines ops (run flips) → Denotes lines ops (run gates)
-unfolding Denotes
-denotes_gates lines ops gates flips same is x z lx lz =
-    is x z lx lz ∙ ap (λ u. cond (same_word u z) (power root2 (count_h ops)) nought) (same x lx)
+pub denotes_gates : (marks : List Mark) (lines : ℕ) (ops : List Op) (gates flips : List Shape)
+    → ((w : Word) → length w ≡ lines → run flips w ≡ run gates w)
+    → DenotesFrom marks lines ops (run flips) → DenotesFrom marks lines ops (run gates)
+denotes_gates marks lines ops gates flips same is x z lx lz m =
+    is x z lx lz m ∙ ap (λ u. cond (same_word u z) (power root2 (count_h ops)) nought) (same x lx)
 
 -- the same of a circuit and a network
-pub same_right : (c : Cascade) (net : Network) (lines : ℕ) (ops : List Op) (items flips : List Shape) → lines ≡ net.lines → ops ≡ net.ops
-    → items ≡ flips → length c.names ≡ net.lines → AreFlips (length c.names) c.gates flips → Denotes lines ops (run items)
-    → Denotes net.lines net.ops (run c.gates)
-same_right c net lines ops items flips el eo ei names own is =
-    denotes_gates net.lines net.ops c.gates flips (λ w len. own.run_is w (len ∙ sym names))
-    (subst (λ (l : List Shape). Denotes net.lines net.ops (run l)) ei
-    (subst (λ (l : List Op). Denotes net.lines l (run items)) eo (subst (λ (n : ℕ). Denotes n ops (run items)) el is)))
+pub same_right : (marks : List Mark) (c : Cascade) (net : Network) (lines : ℕ) (ops : List Op) (items flips : List Shape) → lines ≡ net.lines → ops ≡ net.ops
+    → items ≡ flips → length c.names ≡ net.lines → AreFlips (length c.names) c.gates flips → DenotesFrom marks lines ops (run items)
+    → DenotesFrom marks net.lines net.ops (run c.gates)
+same_right marks c net lines ops items flips el eo ei names own is =
+    denotes_gates marks net.lines net.ops c.gates flips (λ w len. own.run_is w (len ∙ sym names))
+    (subst (λ (l : List Shape). DenotesFrom marks net.lines net.ops (run l)) ei
+    (subst (λ (l : List Op). DenotesFrom marks net.lines l (run items)) eo (subst (λ (n : ℕ). DenotesFrom marks n ops (run items)) el is)))

@@ -31,7 +31,7 @@ pub h_leads : (line y at : ℕ) (here turned sum : Sum) (product : Product) (old
     → ((x v : Word) → odd sum x v ≡ value product x v)
     → new.sums.items ≡ set old.sums.items at sum → length new.sums.items ≡ length old.sums.items
     → ((x v : Word) → power new.phases x v ≡ (power old.phases x v + cond (odd turned x v) 4 0) % 8)
-    → old.scale ≡ new.scale + 2 → Leads (H line ∷ []) [] old new
+    → old.scale ≡ new.scale + 2 → Leads (H line ∷ []) old new
 h_leads line y at here turned sum product old new lt same is free is_bit is_turned is_sum now count phases scale = record {
   lines = count;
   stands = λ rest x z whole len stands.
@@ -75,7 +75,7 @@ pub join_leads : (y p : ℕ) (signs rest : Sum) (old new : PathSum) → y < 64 �
     → ((x v : Word) (b : Bool) → odd rest x (set v p b) ≡ odd rest x v)
     → ArePut p rest old.sums.items new.sums.items
     → ((x v : Word) → length v ≡ 64 → power new.phases x v ≡ power old.phases x (set (set v p (odd rest x v)) y false))
-    → new.scale ≡ old.scale + 2 → Leads [] [] old new
+    → new.scale ≡ old.scale + 2 → Leads [] old new
 join_leads y p signs rest old new ly lp apart ends brings is free other put phases scale = record {
   lines = put.lines;
   stands = λ ops x z whole len stands.
@@ -99,7 +99,7 @@ pub half_leads : (y : ℕ) (signs : Sum) (old new : PathSum) → y < 64 → Ends
     → ((x v : Word) (b : Bool) → odd signs x (set v y b) ≡ odd signs x v)
     → new.sums ≡ old.sums
     → ((x v : Word) → length v ≡ 64 → power new.phases x v % 8 ≡ (power old.phases x (set v y false) + cond (odd signs x v) 7 1) % 8)
-    → new.scale ≡ old.scale + 1 → Leads [] [] old new
+    → new.scale ≡ old.scale + 1 → Leads [] old new
 half_leads y signs old new ly ends brings free sums phases scale = record {
   lines = ap (λ s. length s.items) sums;
   stands = λ ops x z whole len stands.
@@ -161,10 +161,10 @@ brings_half y signs one part more phases brings is_one is_more is x v lt =
 
 -- ---- rules, one after another
 
-pub leads_none : (s : PathSum) → Leads [] [] s s
+pub leads_none : (s : PathSum) → Leads [] s s
 leads_none s = record { lines = refl; stands = λ rest x z whole len stands. stands }
 
-pub leads_then : (s t u : PathSum) → Leads [] [] s t → Leads [] [] t u → Leads [] [] s u
+pub leads_then : (s t u : PathSum) → Leads [] s t → Leads [] t u → Leads [] s u
 leads_then s t u first second = record {
   lines = second.lines ∙ first.lines;
   stands = λ rest x z whole len stands. second.stands rest x z whole (len ∙ sym first.lines) (first.stands rest x z whole len stands);

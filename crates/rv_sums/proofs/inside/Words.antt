@@ -5,10 +5,11 @@ use Rattle.std.proofs.lemmas.List.{take_more}
 use Rattle.rv_gate.specs.Circuit.{Cascade}
 use Rattle.rv_gate.specs.Gate.{run, xor}
 use Rattle.rv_gate.specs.Word.{word_of}
+use Rattle.rv_gate.specs.declared.circuit.Mark.{Mark}
 use Rattle.rv_gate.specs.inside.laws.WordLaws.{length-word_of}
 use Rattle.rv_gate.proofs.inside.GateLemmas.{length-run}
 use Rattle.rv_net.specs.Op.{Network}
-use Rattle.rv_sums.specs.Finding.{Breaks}
+use Rattle.rv_sums.specs.Finding.{Breaks, HasConstants}
 use Rattle.rv_gate.proofs.Words.{same_word-false, same_word-same}
 use Rattle.rv_net.specs.Amplitude.{amplitude, count_h}
 use Rattle.rv_net.specs.Cyclotomic.{Cyclotomic, doubled, nought, power, root2, times_w_power, unity}
@@ -23,7 +24,7 @@ use Rattle.rv_terms.specs.declared.sum.Sum.{Sum}
 use Rattle.rv_sums.specs.inside.Paths.{over_paths, rooted}
 use Rattle.rv_ends.specs.Ends.{amount, over_all}
 use Rattle.rv_ends.specs.declared.amount.Amount.{Amount}
-use Rattle.rv_sums.specs.inside.State.{IsStartAt, Leads, ReachedFrom, spare, value_of, word_at}
+use Rattle.rv_sums.specs.inside.State.{DiffersFrom, IsStartAt, Leads, ReachedFrom, spare, value_of, word_at}
 use Rattle.rv_sums.specs.declared.path_sum.PathSum.{PathSum}
 use Rattle.rv_sums.proofs.Paths.{ended}
 use Rattle.rv_sums.proofs.Sums.{same_sum}
@@ -42,7 +43,7 @@ from_start word ops s start = record {
 }
 
 pub from_round : (word : Word) (ops : List Op) (place : ℕ) (op : Op) (s t : PathSum) → place < length ops → op ≡ get_or ops place op
-    → Leads (op ∷ []) [] s t → ReachedFrom word ops (drop place ops) s → ReachedFrom word ops (drop (place + 1) ops) t
+    → Leads (op ∷ []) s t → ReachedFrom word ops (drop place ops) s → ReachedFrom word ops (drop (place + 1) ops) t
 from_round word ops place op s t lt is leads r =
     let P : List Op → Type 0 = λ rest. ReachedFrom word ops rest s in
     let here : ReachedFrom word ops (op ∷ drop (place + 1) ops) s = subst P (here_ops ops place op lt is) r in
@@ -51,7 +52,7 @@ from_round word ops place op s t lt is leads r =
       stands = λ x z lx. leads.stands (drop (place + 1) ops) x z (amplitude ops word z) (lx ∙ sym r.lines_are) (here.stands x z lx);
     }
 
-pub from_end : (word : Word) (ops : List Op) (place : ℕ) (s t : PathSum) → length ops ≤ place → Leads [] [] s t
+pub from_end : (word : Word) (ops : List Op) (place : ℕ) (s t : PathSum) → length ops ≤ place → Leads [] s t
     → ReachedFrom word ops (drop place ops) s → ReachedFrom word ops [] t
 from_end word ops place s t all leads r =
     let P : List Op → Type 0 = λ rest. ReachedFrom word ops rest s in
@@ -157,3 +158,11 @@ breaks_at c net lines number word image ops el lt ew ei eo differs =
             ∙ ap (λ b. cond b (power root2 (count_h net.ops)) nought) (same_word-same y) ∙ ap (λ l. power root2 (count_h l)) (sym eo)),
       ),
     )
+
+-- from a word that holds the constants
+pub found_at : (marks : List Mark) (c : Cascade) (net : Network) (lines number : ℕ) (word image : Word) (ops : List Op) → lines ≡ net.lines
+    → number < 2 ^ lines → word ≡ word_of lines number → image ≡ run c.gates word → ops ≡ net.ops → HasConstants marks word
+    → amplitude ops word image ≢ power root2 (count_h ops) → DiffersFrom marks c net number
+found_at marks c net lines number word image ops el lt ew ei eo constants differs =
+    let right : (number < 2 ^ net.lines) × Breaks c.gates net number = breaks_at c net lines number word image ops el lt ew ei eo differs in
+    (right.0, subst (HasConstants marks) (ew ∙ ap (λ n. word_of n number) el) constants, right.1)

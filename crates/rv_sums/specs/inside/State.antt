@@ -1,18 +1,23 @@
 -- The state of a sum over paths: for each line the sum of products that a path ends at, and the phases.
-use Rattle.std.specs.Prelude.{◌≡◌, ℕ, ◌+◌, ◌%◌, ◌<◌, ◌++◌, Bool, true, false, List, drop, length, map, slice_set, if◌then◌else◌}
+use Rattle.std.specs.Prelude.{◌≡◌, ℕ, ◌+◌, ◌%◌, ◌<◌, ◌≤◌, ◌^◌, ◌++◌, Bool, true, false, List, drop, length, map, slice_set, if◌then◌else◌}
+use Rattle.rv_gate.specs.Circuit.{Cascade}
 use Rattle.rv_gate.specs.Every.{Every}
-use Rattle.rv_gate.specs.Gate.{IsFlipOn, run, xor}
-use Rattle.rv_gate.specs.Word.{bit_of}
+use Rattle.rv_gate.specs.Gate.{IsFlipOn, act, run, xor}
+use Rattle.rv_gate.specs.Word.{bit_of, word_of}
+use Rattle.rv_gate.specs.declared.circuit.Mark.{Mark}
 use Rattle.rv_gate.specs.declared.gate.Shape.{Shape}
 use Rattle.rv_net.specs.Amplitude.{amplitude}
 use Rattle.rv_net.specs.Cyclotomic.{Cyclotomic}
-use Rattle.rv_net.specs.Op.{goes_to, phase_of}
+use Rattle.rv_net.specs.Op.{Network, goes_to, phase_of}
 use Rattle.rv_net.specs.declared.op.Op.{Op}
 use Rattle.rv_terms.specs.Products.{odd}
 use Rattle.rv_terms.specs.Phases.{power}
 use Rattle.rv_terms.specs.declared.phases.Phases.{Phases}
 use Rattle.rv_terms.specs.declared.sum.Sum.{Sum}
+use Rattle.rv_sums.specs.Finding.{Breaks, DenotesFrom, HasConstants}
 use Rattle.rv_sums.specs.inside.Paths.{is_h, over_paths, rooted}
+use Rattle.rv_sums.specs.declared.finding.Finding.{Finding}
+use Rattle.rv_sums.specs.declared.finding.Finding.TheVariants.{Same, Differs, Terms, Steps, Paths}
 use Rattle.rv_sums.specs.declared.left.Left.{Left}
 use Rattle.rv_sums.specs.declared.path_sum.PathSum.{PathSum}
 use Rattle.rv_sums.specs.declared.taking.Following.{Following}
@@ -33,18 +38,40 @@ spare = 1048576
 abbrev pub Stands : PathSum → List Op → List Bool → List Bool → Cyclotomic → Type 0
 Stands s rest x z whole = rooted s.scale whole ≡ rooted spare (value_of s rest x z)
 
--- From one state to another, operations are taken by the network and gates by the circuit: an amplitude for which the
--- sum stood at a word, before those operations, stands at what the gates make of the word, after them.
-pub record Leads (done : List Op) (gates : List Shape) (old new : PathSum) : Type 0 where
+-- From one state to another, operations are taken by the network: an amplitude for which the sum stood at a word, before
+-- those operations, stands there after them.
+pub record Leads (done : List Op) (old new : PathSum) : Type 0 where
   pub lines : length new.sums.items ≡ length old.sums.items
   pub stands :
       (rest : List Op) (x z : List Bool) (whole : Cyclotomic) → length x ≡ length old.sums.items
-      → Stands old (done ++ rest) x z whole → Stands new rest (run gates x) z whole
+      → Stands old (done ++ rest) x z whole → Stands new rest x z whole
 
--- the sum from each word to itself
-pub record IsStart (lines : ℕ) (s : PathSum) : Type 0 where
+-- What is known of a word: its first lines have the bits of these sums.
+pub record Holds (facts : List Sum) (u : List Bool) : Type 0 where
+  pub few : length facts ≤ length u
+  pub bits : (line : ℕ) (v : List Bool) → line < length facts → bit_of (word_at facts u v) line ≡ bit_of u line
+
+-- A flip is taken by the circuit, where the facts hold: an amplitude for which the sum stood at a word stands at what the
+-- flip makes of it.
+pub record Takes (facts : List Sum) (gate : Shape) (old new : PathSum) : Type 0 where
+  pub lines : length new.sums.items ≡ length old.sums.items
+  pub stands :
+      (rest : List Op) (x z : List Bool) (whole : Cyclotomic) → length x ≡ length old.sums.items → Holds facts x
+      → Stands old rest x z whole → Stands new rest (act gate x) z whole
+
+-- what is known after a flip
+abbrev pub HoldsAfter : ℕ → Shape → List Sum → List Sum → Type 0
+HoldsAfter lines gate old new = (u : List Bool) → length u ≡ lines → Holds old u → Holds new (act gate u)
+
+-- The sum is the bit that a line had before the flip, by the bits after it.
+abbrev pub TurnsBack : List Sum → ℕ → Shape → ℕ → Sum → Type 0
+TurnsBack facts lines gate line with =
+    (u v : List Bool) → length u ≡ lines → Holds facts u → slice_set (act gate u) line (odd with (act gate u) v) ≡ u
+
+-- the sum from each word that holds the constants to itself
+pub record IsStart (marks : List Mark) (lines : ℕ) (s : PathSum) : Type 0 where
   pub lines_are : length s.sums.items ≡ lines
-  pub ends : (x v : List Bool) → length x ≡ lines → word_at s.sums.items x v ≡ x
+  pub ends : (x v : List Bool) → HasConstants marks x → length x ≡ lines → word_at s.sums.items x v ≡ x
   pub phases : (x v : List Bool) → power s.phases x v ≡ 0
   pub scale : s.scale ≡ spare + 128
 
@@ -111,13 +138,15 @@ pub record AreTurned (line : ℕ) (with : Sum) (old new : List Sum) : Type 0 whe
   pub ends :
       (x v : List Bool) → line < length x → word_at new x v ≡ word_at old (slice_set x line (odd with x v)) v
 
--- The operations are all but the rest, and the gates all but those left. From each word w, the sum stands at the word u
--- from which those left lead to where all lead from w.
-pub record Reached (lines : ℕ) (ops rest : List Op) (gates left : List Shape) (s : PathSum) : Type 0 where
+-- The operations are all but the rest, and the gates all but those left. From each word w that holds the constants, the
+-- sum stands at the word u from which those left lead to where all lead from w, and the facts hold there.
+pub record Reached (marks : List Mark) (facts : List Sum) (lines : ℕ) (ops rest : List Op) (gates left : List Shape) (s : PathSum) : Type 0 where
   pub lines_are : length s.sums.items ≡ lines
   pub flips : Every (IsFlipOn lines) left
+  pub holds :
+      (w u : List Bool) → HasConstants marks w → length w ≡ lines → length u ≡ lines → run left u ≡ run gates w → Holds facts u
   pub stands :
-      (w u z : List Bool) → length w ≡ lines → length u ≡ lines → run left u ≡ run gates w
+      (w u z : List Bool) → HasConstants marks w → length w ≡ lines → length u ≡ lines → run left u ≡ run gates w
       → Stands s rest u z (amplitude ops w z)
 
 -- the same from one word, whatever x is
@@ -144,11 +173,24 @@ left_of flips l = l.window.items ++ drop l.next flips
 pub record Moves (done : List Op) (flips : List Shape) (old new : Following) : Type 0 where
   pub lines : length new.sum.sums.items ≡ length old.sum.sums.items
   pub reached :
-      (lines : ℕ) (ops rest : List Op) (gates : List Shape)
-      → Reached lines ops (done ++ rest) gates (left_of flips old.left) old.sum
-      → Reached lines ops rest gates (left_of flips new.left) new.sum
+      (marks : List Mark) (lines : ℕ) (ops rest : List Op) (gates : List Shape)
+      → Reached marks old.facts.sums.items lines ops (done ++ rest) gates (left_of flips old.left) old.sum
+      → Reached marks new.facts.sums.items lines ops rest gates (left_of flips new.left) new.sum
 
 -- the same sums, by what they are
 pub record AreCopies (old new : List Sum) : Type 0 where
   pub lines : length new ≡ length old
   pub ends : (x v : List Bool) → word_at new x v ≡ word_at old x v
+
+-- From a word with this number, which holds the constants, some amplitude isn't that of the circuit.
+abbrev pub DiffersFrom : List Mark → Cascade → Network → ℕ → Type 0
+DiffersFrom marks c net number =
+    (number < 2 ^ net.lines) × HasConstants marks (word_of net.lines number) × Breaks c.gates net number
+
+-- what a finding says of the words that hold the constants
+abbrev pub IsFound : List Mark → Cascade → Network → Finding → Type 0
+IsFound marks c net Same = DenotesFrom marks net.lines net.ops (run c.gates)
+IsFound marks c net (Differs number) = DiffersFrom marks c net number
+IsFound marks c net Terms = Unit {0}
+IsFound marks c net Steps = Unit {0}
+IsFound marks c net (Paths left) = Unit {0}

@@ -22,5 +22,5 @@ is_same-requires-clause-each c =
 
 pub returns : goal.returns
 returns c on =
-    same_right c.args.circuit.now c.args.net.now c.lines-lines.result c.ops.result.now c.deref.result.now c.in_ok-flips.flips.items
+    same_right c.args.marks.now c.args.circuit.now c.args.net.now c.lines-lines.result c.ops.result.now c.deref.result.now c.in_ok-flips.flips.items
     c.lines-lines.ensures.value c.ops.ensures c.deref.ensures.value c.requires c.in_ok-flips.ensures (c.in_ok-same.ensures on)

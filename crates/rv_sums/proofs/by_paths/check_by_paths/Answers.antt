@@ -1,5 +1,5 @@
-use Rattle.rv_sums.proofs.Findings.{undecided_result}
+use Rattle.rv_sums.proofs.Findings.{found_right}
 use Rattle.rv_sums.proofs.by_paths.check_by_paths.Goals as goal
 
-pub returns-in-Err : goal.returns-in-Err
-returns-in-Err c = undecided_result c.args.circuit.now c.args.net.now c.finding_of.result c.finding_of.ensures
+pub returns : goal.returns
+returns c = found_right c.args.circuit.now c.args.net.now c.in_ok-finding.finding c.in_ok-finding.ensures

@@ -3,7 +3,7 @@ use Rattle.rv_gate.proofs.inside.GateLemmas.{length-run}
 use Rattle.rv_gate.specs.inside.laws.WordLaws.{length-word_of}
 use Rattle.rv_net.specs.Op.{OpFitsIn}
 use Rattle.rv_net.specs.declared.op.Op.{Op}
-use Rattle.rv_sums.proofs.inside.Words.{breaks_at}
+use Rattle.rv_sums.proofs.inside.Words.{found_at}
 use Rattle.rv_sums.proofs.by_paths.differs_at.Goals as goal
 
 pub run-image-requires : goal.run-image-requires
@@ -23,6 +23,6 @@ differs-requires-clause-fits c =
 
 pub returns-in-Ok : goal.returns-in-Ok
 returns-in-Ok c on =
-    breaks_at c.args.circuit.now c.args.net.now c.lines-lines.result c.args.number c.in-Some.word c.run-image.result c.ops.result.now
-    c.lines-lines.ensures.value c.in-Some.ensures.0.1 c.in-Some.ensures.1 c.run-image.ensures c.ops.ensures
+    found_at c.args.marks.now c.args.circuit.now c.args.net.now c.lines-lines.result c.args.number c.in-Some.word c.run-image.result c.ops.result.now
+    c.lines-lines.ensures.value c.in-Some.ensures.0.1 c.in-Some.ensures.1 c.run-image.ensures c.ops.ensures (c.has_constants.ensures c.if-not-has_constants.false)
     (c.in-Ok.ensures on)

@@ -8,11 +8,11 @@ returns-then-not-moves c = moves_none c.args.flips.now c.args.self.now
 pub returns-then-not-is_h : goal.returns-then-not-is_h
 returns-then-not-is_h c =
     moves_on [] c.args.flips.now c.args.self.now c.take_some.new.self c.note.new.self c.in_ok-some.ensures c.note.ensures.sum
-    c.note.ensures.left
+    c.note.ensures.facts c.note.ensures.left
 
 pub returns : goal.returns
 returns c =
     let flips = c.args.flips.now in
-    let noted = moves_on [] flips c.args.self.now c.take_some.new.self c.note.new.self c.in_ok-some.ensures c.note.ensures.sum c.note.ensures.left in
+    let noted = moves_on [] flips c.args.self.now c.take_some.new.self c.note.new.self c.in_ok-some.ensures c.note.ensures.sum c.note.ensures.facts c.note.ensures.left in
     moves_on [] flips c.args.self.now c.settle.new.self c.note-2.new.self
-    (moves_then [] flips c.args.self.now c.note.new.self c.settle.new.self noted c.in_ok-settle.ensures) c.note-2.ensures.sum c.note-2.ensures.left
+    (moves_then [] flips c.args.self.now c.note.new.self c.settle.new.self noted c.in_ok-settle.ensures) c.note-2.ensures.sum c.note-2.ensures.facts c.note-2.ensures.left

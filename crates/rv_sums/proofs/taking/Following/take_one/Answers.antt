@@ -3,7 +3,7 @@ use Rattle.rv_sums.proofs.inside.Taken.{moves_kept, moves_then}
 use Rattle.rv_sums.proofs.taking.Following.take_one.Goals as goal
 
 pub loop-at-init : goal.loop-at-init
-loop-at-init c = moves_kept c.args.flips.now c.args.self.now _ refl c.in_ok-fill.ensures
+loop-at-init c = moves_kept c.args.flips.now c.args.self.now _ refl refl c.in_ok-fill.ensures
 
 pub loop-at-preserved : goal.loop-at-preserved
 loop-at-preserved c =
