@@ -99,7 +99,7 @@ fn word_of(count: usize) -> usize {
     size_of(count).saturating_sub(1)
 }
 
-fn is_symmetric(task: &Task) -> bool {
+pub(crate) fn is_symmetric(task: &Task) -> bool {
     for word in 0..task.ones.len() {
         let same = word_of(word.count_ones() as usize);
         if at(&task.ones, word, 0) != at(&task.ones, same, 0) {
@@ -110,7 +110,7 @@ fn is_symmetric(task: &Task) -> bool {
 }
 
 // Of each count, the outputs that have the product of its bits among their terms.
-fn terms_of(alloc: Global, task: &Task) -> Result<Vec<u32>, AllocError> {
+pub(crate) fn terms_of(alloc: Global, task: &Task) -> Result<Vec<u32>, AllocError> {
     let mut terms = vec![in alloc; 0u32; task.inputs.saturating_add(1)]?;
     for count in 0..terms.len() {
         let mut term = at(&task.ones, word_of(count), 0);

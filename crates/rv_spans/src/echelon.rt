@@ -28,7 +28,7 @@ impl Echelon {
         echelon
     }
 
-    fn row(&self, place: usize) -> u32 {
+    pub(crate) fn row(&self, place: usize) -> u32 {
         at(&self.rows, place, 0)
     }
 

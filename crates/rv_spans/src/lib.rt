@@ -7,6 +7,7 @@
 mod basis;
 mod beam;
 mod build;
+mod carries;
 mod cells;
 mod count;
 mod cover;

@@ -1,6 +1,7 @@
 // Many short searches, of which the best is kept.
 use crate::beam::{Beam, Way};
 use crate::build::{Found, built};
+use crate::carries::carried;
 use crate::count::counted;
 use crate::pack::{Weights, packed, store_of};
 use crate::random::Random;
@@ -339,6 +340,16 @@ impl Record {
         }
     }
 
+    // Keeps what carries make that are taken off again, if it is enough.
+    fn carry(&mut self, alloc: Global, whole: &Task, lines: u8) -> Result<(), AllocError> {
+        for is_whole in [false, true] {
+            if let Some(steps) = carried(alloc, whole, is_whole)? {
+                self.keep(alloc, whole, lines, &steps)?;
+            }
+        }
+        Ok(())
+    }
+
     // Keeps what counting makes, if it is enough. Gives the work.
     fn count(
         &mut self,
@@ -413,6 +424,7 @@ pub fn all_found(alloc: Global, whole: &Task, search: Search) -> Result<Vec<Foun
         return Ok(record.found);
     }
     record.multiply(alloc, whole, search.lines)?;
+    record.carry(alloc, whole, search.lines)?;
     if most_dimension <= MOST_COORDINATES {
         search_on(alloc, whole, &task, most_dimension, search, &mut record)?;
     }
