@@ -1,5 +1,5 @@
 // A basis of columns of bits, each without the first bits of the others.
-use crate::cells::{at, put_at};
+use crate::cells::{at, first_one, put_at};
 use std::alloc::{AllocError, Global};
 
 // The name of the column of ones.
@@ -19,10 +19,6 @@ pub(crate) struct Basis {
     rows: Vec<Row>,
     // the bits of all rows, one after another
     bits: Vec<bool>,
-}
-
-fn lead_of(column: &[bool]) -> Option<usize> {
-    column.iter().position(|bit| *bit)
 }
 
 impl Basis {
@@ -82,15 +78,10 @@ impl Basis {
     }
 
     // Adds a column. Answers whether it was no sum of those before.
-    pub(crate) fn add(
-        &mut self,
-        alloc: Global,
-        column: &[bool],
-        name: u64,
-    ) -> Result<bool, AllocError> {
-        let mut rest = Vec::from_slice(alloc, column)?;
+    pub(crate) fn add(&mut self, column: Vec<bool>, name: u64) -> Result<bool, AllocError> {
+        let mut rest = column;
         let names = self.reduce(&mut rest) ^ name;
-        let Some(lead) = lead_of(&rest) else {
+        let Some(lead) = first_one(&rest) else {
             return Ok(false);
         };
         self.clear(lead, &rest, names);
@@ -102,7 +93,7 @@ impl Basis {
     // Adds the column of ones.
     pub(crate) fn add_ones(&mut self, alloc: Global) -> Result<(), AllocError> {
         let ones = vec![in alloc; true; self.words]?;
-        let _ = self.add(alloc, &ones, ONES)?;
+        let _ = self.add(ones, ONES)?;
         Ok(())
     }
 

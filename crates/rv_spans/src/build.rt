@@ -1,7 +1,8 @@
 // From steps over spans to gates on lines.
 use crate::basis::{Basis, ONES};
-use crate::cells::{at, bit, has, is_odd, number_of, put_at, top_place};
+use crate::cells::{at, bit, column_of, first_one, has, is_odd, put_at, top_place};
 use crate::lines::{Lines, NO_SUM, Sum, is_on, line_bit, lowest};
+use crate::state::State;
 use crate::step::{MOST_FORMS, Step, t_of};
 use crate::task::Task;
 use rv_gate::Gate;
@@ -52,7 +53,7 @@ fn controls(lines: &mut Lines, step: &Step) -> Result<Option<(u64, u64)>, AllocE
 }
 
 // The line that a product is added to, from which the other lines of the direction are to follow.
-fn target(alloc: Global, lines: &mut Lines, step: &Step) -> Result<Option<u8>, AllocError> {
+fn target(lines: &mut Lines, step: &Step) -> Result<Option<u8>, AllocError> {
     if step.lambda == 0 {
         let Some(line) = lines.free.pop() else {
             return Ok(None);
@@ -63,7 +64,7 @@ fn target(alloc: Global, lines: &mut Lines, step: &Step) -> Result<Option<u8>, A
         })?;
         return Ok(Some(line));
     }
-    let direction = lines.direction(alloc, step.lambda)?;
+    let direction = lines.direction(step.lambda);
     if direction == 0 {
         return Ok(None);
     }
@@ -103,7 +104,6 @@ fn give_back(lines: &mut Lines, step: &Step, is_one: bool) -> Result<bool, Alloc
 
 // One step.
 fn put_step(
-    alloc: Global,
     lines: &mut Lines,
     step: &Step,
     first: u32,
@@ -112,7 +112,7 @@ fn put_step(
     let Some((care, want)) = controls(lines, step)? else {
         return Ok(false);
     };
-    let Some(target) = target(alloc, lines, step)? else {
+    let Some(target) = target(lines, step)? else {
         return Ok(false);
     };
     lines.flip(care, want, target)?;
@@ -132,24 +132,15 @@ fn put_step(
     give_back(lines, step, is_odd(word & step.drop))
 }
 
-// The bits that an output has at the words at which it isn't free, by a test.
-fn column(
-    alloc: Global,
-    task: &Task,
-    words: &[u32],
-    output: usize,
-    place: Option<usize>,
-) -> Result<Vec<bool>, AllocError> {
-    let mut column = Vec::new(alloc);
-    for k in 0..words.len() {
-        let is_cared = task.sign(k, output) != 0;
-        let on = match place {
-            Some(place) => has(at(words, k, 0), place),
-            None => true,
-        };
-        column.push(is_cared && on)?;
+// Leaves of a column the words at which an output isn't free.
+fn cared(task: &Task, output: usize, column: Vec<bool>) -> Vec<bool> {
+    let mut column = column;
+    for k in 0..column.len() {
+        if task.sign(k, output) == 0 {
+            put_at(&mut column, k, false);
+        }
     }
-    Ok(column)
+    column
 }
 
 // An output as a form of the coordinates, if it is one.
@@ -161,18 +152,15 @@ fn output_form(
     output: usize,
 ) -> Result<Option<Output>, AllocError> {
     let mut basis = Basis::new(alloc, words.len());
-    let ones = column(alloc, task, words, output, None)?;
-    let _ = basis.add(alloc, &ones, ONES)?;
+    let ones = vec![in alloc; true; words.len()]?;
+    let _ = basis.add(cared(task, output, ones), ONES)?;
     for place in 0..dimension {
-        let own = column(alloc, task, words, output, Some(place))?;
-        let _ = basis.add(alloc, &own, u64::from(bit(place)))?;
+        let own = cared(task, output, column_of(alloc, words, place)?);
+        let _ = basis.add(own, u64::from(bit(place)))?;
     }
-    let mut rest = Vec::new(alloc);
-    for k in 0..words.len() {
-        rest.push(task.sign(k, output) < 0)?;
-    }
+    let mut rest = cared(task, output, task.column(alloc, output)?);
     let names = basis.reduce(&mut rest);
-    if rest.iter().any(|bit| *bit) {
+    if first_one(&rest).is_some() {
         return Ok(None);
     }
     Ok(Some(Output {
@@ -247,6 +235,19 @@ fn put_outputs(
     Ok(Some(places))
 }
 
+// The lines of all outputs, if they are forms.
+fn outputs_on(
+    alloc: Global,
+    task: &Task,
+    lines: &mut Lines,
+    state: &State,
+) -> Result<Option<Vec<u8>>, AllocError> {
+    match output_forms(alloc, task, &state.words, state.dimension)? {
+        Some(forms) => put_outputs(alloc, lines, &forms),
+        None => Ok(None),
+    }
+}
+
 // T gates of gates, about.
 fn price_of(gates: &[Gate]) -> u64 {
     let mut price = 0u64;
@@ -265,26 +266,20 @@ pub(crate) fn built(
     steps: &[Step],
 ) -> Result<Option<Found>, AllocError> {
     let mut lines = Lines::new(alloc, task.inputs.min(64) as u8, most_lines)?;
-    let mut words: Vec<u32> = (0..number_of(task.words())).collect(alloc)?;
-    let mut dimension = task.inputs;
+    let mut state = State::first(alloc, task)?;
     for step in steps {
-        let first = at(&words, 0, 0);
-        if !put_step(alloc, &mut lines, step, first, dimension)? {
+        let first = at(&state.words, 0, 0);
+        if !put_step(&mut lines, step, first, state.dimension)? {
             return Ok(None);
         }
-        words = step.apply(alloc, &words, dimension)?;
-        dimension = step.dimension(dimension);
+        state.go(step);
     }
-    let Some(forms) = output_forms(alloc, task, &words, dimension)? else {
-        return Ok(None);
-    };
-    let Some(outputs) = put_outputs(alloc, &mut lines, &forms)? else {
-        return Ok(None);
-    };
-    let price = price_of(&lines.gates);
-    Ok(Some(Found {
-        gates: lines.gates,
-        outputs,
-        price,
-    }))
+    match outputs_on(alloc, task, &mut lines, &state)? {
+        Some(outputs) => Ok(Some(Found {
+            price: price_of(&lines.gates),
+            gates: lines.gates,
+            outputs,
+        })),
+        None => Ok(None),
+    }
 }

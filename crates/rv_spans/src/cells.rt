@@ -1,4 +1,5 @@
 // Entries of lists at any place, and forms as bits of a word.
+use std::alloc::{AllocError, Global};
 
 // The entry at a place, or another where there is none.
 #[inline(always)]
@@ -44,6 +45,38 @@ pub(crate) fn has(bits: u32, place: usize) -> bool {
 // The place of the highest bit; 0 of none.
 pub(crate) fn top_place(bits: u32) -> usize {
     31u32.saturating_sub(bits.leading_zeros()) as usize
+}
+
+// The place of the first bit that is 1.
+pub(crate) fn first_one(column: &[bool]) -> Option<usize> {
+    for place in 0..column.len() {
+        if at(column, place, false) {
+            return Some(place);
+        }
+    }
+    None
+}
+
+// The bits of words at a place.
+pub(crate) fn column_of(
+    alloc: Global,
+    words: &[u32],
+    place: usize,
+) -> Result<Vec<bool>, AllocError> {
+    let mut column = vec![in alloc; false; words.len()]?;
+    for k in 0..words.len() {
+        put_at(&mut column, k, has(at(words, k, 0), place));
+    }
+    Ok(column)
+}
+
+// The numbers below a bound.
+pub(crate) fn numbers(alloc: Global, bound: usize) -> Result<Vec<u32>, AllocError> {
+    let mut numbers = vec![in alloc; 0u32; bound]?;
+    for k in 0..bound {
+        put_at(&mut numbers, k, number_of(k));
+    }
+    Ok(numbers)
 }
 
 // How many words there are over so many coordinates.

@@ -1,6 +1,6 @@
 // Products for a table whose outputs tell of a word only how many ones it has: those that count them.
-use crate::cells::{at, bit, has, number_of, size_of};
-use crate::step::Step;
+use crate::cells::{at, bit, has, number_of, put_at, size_of};
+use crate::step::{MOST_FORMS, Step};
 use crate::task::Task;
 use std::alloc::{AllocError, Global};
 
@@ -25,6 +25,32 @@ impl Products {
         let own = bit(self.dimension);
         self.dimension = self.dimension.saturating_add(1);
         Ok(own)
+    }
+
+    // Makes the product of some bits, if they are two at least.
+    fn add_term(&mut self, bits: &[u32], term: usize) -> Result<(), AllocError> {
+        let mut forms = [0u32; MOST_FORMS];
+        let mut count = 0usize;
+        for k in 0..bits.len() {
+            if has(number_of(term), k) {
+                put_at(&mut forms, count, at(bits, k, 0));
+                count = count.saturating_add(1);
+            }
+        }
+        if count > 1 && count <= MOST_FORMS {
+            let _ = self.add(forms.get(..count).unwrap_or(&[]))?;
+        }
+        Ok(())
+    }
+
+    // Makes the products of bits that outputs have among their terms.
+    fn add_terms(&mut self, terms: &[u32], bits: &[u32]) -> Result<(), AllocError> {
+        for term in 0..terms.len() {
+            if at(terms, term, 0) != 0 {
+                self.add_term(bits, term)?;
+            }
+        }
+        Ok(())
     }
 
     // Adds forms: the first two or three of them, and their sum comes last.
@@ -55,9 +81,17 @@ impl Products {
             bits.push(sum.low)?;
             left = sum.carries;
         }
-        bits.push(left.iter().fold(0u32, |sum, form| sum ^ *form))?;
+        bits.push(sum_of(&left))?;
         Ok(bits)
     }
+}
+
+fn sum_of(forms: &[u32]) -> u32 {
+    let mut sum = 0u32;
+    for form in forms {
+        sum ^= *form;
+    }
+    sum
 }
 
 // A word with so many ones.
@@ -65,24 +99,27 @@ fn word_of(count: usize) -> usize {
     size_of(count).saturating_sub(1)
 }
 
-fn is_symmetric(task: &Task) -> bool {
-    (0..task.ones.len()).all(|word| {
+pub(crate) fn is_symmetric(task: &Task) -> bool {
+    for word in 0..task.ones.len() {
         let same = word_of(word.count_ones() as usize);
-        at(&task.ones, word, 0) == at(&task.ones, same, 0)
-    })
+        if at(&task.ones, word, 0) != at(&task.ones, same, 0) {
+            return false;
+        }
+    }
+    true
 }
 
 // Of each count, the outputs that have the product of its bits among their terms.
-fn terms_of(alloc: Global, task: &Task) -> Result<Vec<u32>, AllocError> {
-    let mut terms: Vec<u32> = Vec::new(alloc);
-    for count in 0..task.inputs.saturating_add(1) {
+pub(crate) fn terms_of(alloc: Global, task: &Task) -> Result<Vec<u32>, AllocError> {
+    let mut terms = vec![in alloc; 0u32; task.inputs.saturating_add(1)]?;
+    for count in 0..terms.len() {
         let mut term = at(&task.ones, word_of(count), 0);
         for part in 0..count {
             if part & count == part {
                 term ^= at(&terms, part, 0);
             }
         }
-        terms.push(term)?;
+        put_at(&mut terms, count, term);
     }
     Ok(terms)
 }
@@ -108,18 +145,11 @@ pub(crate) fn counted(alloc: Global, task: &Task) -> Result<Option<Vec<Step>>, A
         dimension: task.inputs,
     };
     let terms = terms_of(alloc, task)?;
-    let forms = (0..task.inputs).map(bit).collect(alloc)?;
-    let bits = products.count(alloc, forms, most_bits(&terms))?;
-    for count in 0..terms.len() {
-        if at(&terms, count, 0) != 0 && count.count_ones() > 1 {
-            let mut own = Vec::new(alloc);
-            for k in 0..bits.len() {
-                if has(number_of(count), k) {
-                    own.push(at(&bits, k, 0))?;
-                }
-            }
-            let _ = products.add(&own)?;
-        }
+    let mut forms = vec![in alloc; 0u32; task.inputs]?;
+    for place in 0..task.inputs {
+        put_at(&mut forms, place, bit(place));
     }
+    let bits = products.count(alloc, forms, most_bits(&terms))?;
+    products.add_terms(&terms, &bits)?;
     Ok(Some(products.steps))
 }

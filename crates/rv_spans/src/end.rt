@@ -3,7 +3,8 @@ use crate::cells::{at, bit, has, is_odd, number_of, put_at, size_of, top_place, 
 use crate::cover::{Wanted, cover, price_of};
 use crate::greedy::{NO_TOP, Top, keep_top};
 use crate::random::Random;
-use crate::step::{MOST_FORMS, Step};
+use crate::state::State;
+use crate::step::{MOST_FORMS, NO_STEP, Step};
 use crate::task::Task;
 use std::alloc::{AllocError, Global};
 
@@ -15,13 +16,6 @@ const MOST_WAYS: usize = 8;
 
 // So many of an output's greatest coefficients are looked at.
 const MOST_TOPS: usize = 12;
-
-// Where a search is: the words over so many coordinates.
-#[derive(Drop)]
-pub(crate) struct State {
-    pub(crate) words: Vec<u32>,
-    pub(crate) dimension: usize,
-}
 
 // A form to which an output comes nearest, and at how many words it is as that says, less the others.
 #[derive(Clone, Copy)]
@@ -44,9 +38,9 @@ fn wanted_of(
     state: &State,
     output: usize,
 ) -> Result<Wanted, AllocError> {
-    let mut signs = Vec::new(alloc);
-    for k in 0..state.words.len() {
-        signs.push(task.sign(k, output))?;
+    let mut signs = vec![in alloc; 0i64; state.words.len()]?;
+    for k in 0..signs.len() {
+        put_at(&mut signs, k, task.sign(k, output));
     }
     Ok(Wanted {
         words: Vec::from_slice(alloc, &state.words)?,
@@ -80,6 +74,16 @@ fn nearest_form(
     Ok(best)
 }
 
+// Whether a direction changes one of some forms.
+fn has_odd(forms: &[u32], direction: u32) -> bool {
+    for form in forms {
+        if is_odd(*form & direction) {
+            return true;
+        }
+    }
+    false
+}
+
 // The directions in which two words lie apart that are to have the same bit, or that change a solved output.
 fn barred(
     alloc: Global,
@@ -91,7 +95,7 @@ fn barred(
     put_at(&mut barred, 0, true);
     for lambda in 1..barred.len() {
         let direction = number_of(lambda);
-        if solved.iter().any(|form| is_odd(*form & direction)) {
+        if has_odd(solved, direction) {
             put_at(&mut barred, lambda, true);
         }
     }
@@ -105,6 +109,16 @@ fn barred(
         }
     }
     Ok(barred)
+}
+
+// The size of the first form that a direction changes.
+fn first_size(tops: &[Top], direction: u32) -> u64 {
+    for top in tops {
+        if is_odd(top.form & direction) {
+            return top.size;
+        }
+    }
+    0
 }
 
 // The directions that are not barred which change the forms of the greatest coefficients.
@@ -124,10 +138,7 @@ fn directions(spectrum: &[i64], barred: &[bool]) -> [Top; MOST_WAYS] {
     for lambda in 1..barred.len() {
         if !at(barred, lambda, true) {
             let form = number_of(lambda);
-            let size = match tops.iter().find(|top| is_odd(top.form & form)) {
-                Some(top) => top.size.wrapping_add(1),
-                None => 1,
-            };
+            let size = first_size(&tops, form).wrapping_add(1);
             keep_top(&mut ways, Top { size, form });
         }
     }
@@ -138,8 +149,8 @@ fn directions(spectrum: &[i64], barred: &[bool]) -> [Top; MOST_WAYS] {
 fn folded(alloc: Global, wanted: &Wanted, lambda: u32) -> Result<Option<Wanted>, AllocError> {
     let place = top_place(lambda);
     let mut seen = vec![in alloc; 0i64; size_of(wanted.dimension)]?;
-    let mut words = Vec::new(alloc);
-    let mut signs = Vec::new(alloc);
+    let mut words = vec![in alloc; 0u32; wanted.words.len()]?;
+    let mut signs = vec![in alloc; 0i64; wanted.words.len()]?;
     for k in 0..wanted.words.len() {
         let word = wanted.word(k);
         let is_on = has(word, place);
@@ -156,8 +167,8 @@ fn folded(alloc: Global, wanted: &Wanted, lambda: u32) -> Result<Option<Wanted>,
         if sign != 0 {
             put_at(&mut seen, low as usize, sign);
         }
-        words.push(low)?;
-        signs.push(sign)?;
+        put_at(&mut words, k, low);
+        put_at(&mut signs, k, sign);
     }
     Ok(Some(Wanted {
         words,
@@ -182,60 +193,68 @@ fn unfolded(product: &Step, lambda: u32) -> Step {
     step
 }
 
-// Steps that add what an output lacks to a direction.
-fn in_place(
+impl Ending {
+    fn none(alloc: Global) -> Ending {
+        Ending {
+            price: i64::MAX,
+            steps: Vec::new(alloc),
+        }
+    }
+
+    fn is_none(&self) -> bool {
+        self.price == i64::MAX
+    }
+
+    // Takes products, if they are cheaper.
+    fn take(&mut self, products: Option<Vec<Step>>) -> bool {
+        match products {
+            Some(products) => {
+                let price = price_of(&products);
+                if price >= self.price {
+                    return false;
+                }
+                self.price = price;
+                self.steps = products;
+                true
+            }
+            None => false,
+        }
+    }
+
+    // Takes products over the coordinates without that of a direction, which they are added to.
+    fn take_in_place(&mut self, products: Option<Vec<Step>>, lambda: u32) {
+        if self.take(products) {
+            for k in 0..self.steps.len() {
+                let step = unfolded(&at(&self.steps, k, NO_STEP), lambda);
+                put_at(&mut self.steps, k, step);
+            }
+        }
+    }
+
+    // Takes products of which the first makes a new coordinate.
+    fn take_beside(&mut self, products: Option<Vec<Step>>, place: usize) {
+        if self.take(products) {
+            for k in 0..self.steps.len() {
+                let step = at(&self.steps, k, NO_STEP);
+                let lambda = if k == 0 { 0 } else { bit(place) };
+                put_at(&mut self.steps, k, Step { lambda, ..step });
+            }
+        }
+    }
+}
+
+// Tries to add what an output lacks to a direction.
+fn try_in_place(
     alloc: Global,
     wanted: &Wanted,
     lambda: u32,
     random: &mut Random,
-) -> Result<Option<Ending>, AllocError> {
-    let Some(mut low) = folded(alloc, wanted, lambda)? else {
-        return Ok(None);
-    };
-    let Some(products) = cover(alloc, &mut low, random)? else {
-        return Ok(None);
-    };
-    let mut steps = Vec::new(alloc);
-    for product in &products {
-        steps.push(unfolded(product, lambda))?;
+    best: &mut Ending,
+) -> Result<(), AllocError> {
+    if let Some(mut low) = folded(alloc, wanted, lambda)? {
+        best.take_in_place(cover(alloc, &mut low, random)?, lambda);
     }
-    let price = price_of(&products);
-    Ok(Some(Ending { price, steps }))
-}
-
-// Steps that make an output on a new coordinate.
-fn beside(
-    alloc: Global,
-    wanted: &mut Wanted,
-    random: &mut Random,
-) -> Result<Option<Ending>, AllocError> {
-    let place = wanted.dimension;
-    let Some(products) = cover(alloc, wanted, random)? else {
-        return Ok(None);
-    };
-    let mut steps = Vec::new(alloc);
-    for product in &products {
-        let lambda = if steps.is_empty() { 0 } else { bit(place) };
-        steps.push(Step { lambda, ..*product })?;
-    }
-    let price = price_of(&products);
-    Ok(Some(Ending { price, steps }))
-}
-
-fn cheaper(one: Option<Ending>, other: Option<Ending>) -> Option<Ending> {
-    match one {
-        None => other,
-        Some(one) => match other {
-            None => Some(one),
-            Some(other) => {
-                if other.price < one.price {
-                    Some(other)
-                } else {
-                    Some(one)
-                }
-            }
-        },
-    }
+    Ok(())
 }
 
 // The cheapest steps for an output.
@@ -247,19 +266,19 @@ fn ending_of(
     solved: &[u32],
     most_dimension: usize,
     random: &mut Random,
-) -> Result<Option<Ending>, AllocError> {
+) -> Result<Ending, AllocError> {
     let mut wanted = wanted_of(alloc, task, state, output)?;
     let barred = barred(alloc, state, &wanted, solved)?;
-    let mut best = None;
-    for way in directions(&wanted.spectrum(alloc)?, &barred) {
-        if way.form != 0 {
-            let found = in_place(alloc, &wanted, way.form, random)?;
-            best = cheaper(best, found);
+    let ways = directions(&wanted.spectrum(alloc)?, &barred);
+    let mut best = Ending::none(alloc);
+    for k in 0..MOST_WAYS {
+        let lambda = at(&ways, k, NO_TOP).form;
+        if lambda != 0 {
+            try_in_place(alloc, &wanted, lambda, random, &mut best)?;
         }
     }
     if state.dimension < most_dimension {
-        let found = beside(alloc, &mut wanted, random)?;
-        best = cheaper(best, found);
+        best.take_beside(cover(alloc, &mut wanted, random)?, state.dimension);
     }
     Ok(best)
 }
@@ -293,22 +312,15 @@ fn next_ending(
     solved: &[u32],
     most_dimension: usize,
     random: &mut Random,
-) -> Result<Option<Ending>, AllocError> {
+) -> Result<Ending, AllocError> {
     for nearest in open {
-        let found = ending_of(
-            alloc,
-            task,
-            state,
-            nearest.output,
-            solved,
-            most_dimension,
-            random,
-        )?;
-        if found.is_some() {
+        let output = nearest.output;
+        let found = ending_of(alloc, task, state, output, solved, most_dimension, random)?;
+        if !found.is_none() {
             return Ok(found);
         }
     }
-    Ok(None)
+    Ok(Ending::none(alloc))
 }
 
 /// Steps after which all outputs are forms, if they are found.
@@ -327,17 +339,12 @@ pub(crate) fn finish(
         if open.is_empty() {
             return Ok(Some(steps));
         }
-        let found = next_ending(alloc, task, &state, &open, &solved, most_dimension, random)?;
-        let Some(ending) = found else {
-            return Ok(None);
-        };
+        let ending = next_ending(alloc, task, &state, &open, &solved, most_dimension, random)?;
         for step in &ending.steps {
-            let words = step.apply(alloc, &state.words, state.dimension)?;
-            let dimension = step.dimension(state.dimension);
-            state = State { words, dimension };
-            steps.push(*step)?;
+            state.go(step);
         }
-        if steps.len() > MOST_STEPS {
+        steps.extend_from_slice(&ending.steps)?;
+        if ending.is_none() || steps.len() > MOST_STEPS {
             return Ok(None);
         }
     }

@@ -130,24 +130,18 @@ impl Lines {
     }
 
     // The lines whose change changes just the coordinates of a direction.
-    pub(crate) fn direction(&self, alloc: Global, lambda: u32) -> Result<u64, AllocError> {
-        let mut rows = Vec::new(alloc);
+    pub(crate) fn direction(&self, lambda: u32) -> u64 {
+        let mut rows = [NO_ROW; MOST_ROWS];
         for k in 0..self.sums.len() {
-            rows.push((at(&self.sums, k, NO_SUM).lines, has(lambda, k)))?;
+            let lines = at(&self.sums, k, NO_SUM).lines;
+            put_at(&mut rows, k, (lines, has(lambda, k)));
         }
         let mut done = 0usize;
         for line in 0..64u8 {
-            let pivot = (done..rows.len()).find(|k| is_on(at(&rows, *k, (0, false)).0, line));
-            if let Some(place) = pivot {
-                let (first, row) = (at(&rows, done, (0, false)), at(&rows, place, (0, false)));
-                put_at(&mut rows, place, first);
-                put_at(&mut rows, done, row);
-                for k in 0..rows.len() {
-                    let other = at(&rows, k, (0, false));
-                    if k != done && is_on(other.0, line) {
-                        put_at(&mut rows, k, (other.0 ^ row.0, other.1 != row.1));
-                    }
-                }
+            let place = pivot_of(&rows, done, line);
+            if place < MOST_ROWS {
+                exchange(&mut rows, done, place);
+                clear(&mut rows, done, line);
                 done = done.wrapping_add(1);
             }
         }
@@ -157,6 +151,40 @@ impl Lines {
                 lines |= line_bit(lowest(row.0));
             }
         }
-        Ok(lines)
+        lines
+    }
+}
+
+// Lines, and whether their sum is to change.
+type Row = (u64, bool);
+
+const NO_ROW: Row = (0, false);
+
+const MOST_ROWS: usize = 32;
+
+// The first row from a place on that has a line.
+fn pivot_of(rows: &[Row], from: usize, line: u8) -> usize {
+    for place in from..rows.len() {
+        if is_on(at(rows, place, NO_ROW).0, line) {
+            return place;
+        }
+    }
+    MOST_ROWS
+}
+
+fn exchange(rows: &mut [Row], one: usize, other: usize) {
+    let (first, second) = (at(rows, one, NO_ROW), at(rows, other, NO_ROW));
+    put_at(rows, other, first);
+    put_at(rows, one, second);
+}
+
+// Takes a row off all others that have a line.
+fn clear(rows: &mut [Row], place: usize, line: u8) {
+    let row = at(rows, place, NO_ROW);
+    for k in 0..rows.len() {
+        let other = at(rows, k, NO_ROW);
+        if k != place && is_on(other.0, line) {
+            put_at(rows, k, (other.0 ^ row.0, other.1 != row.1));
+        }
     }
 }

@@ -1,8 +1,12 @@
 // The products of steps that were found, made again over fewer coordinates: at other times, and added to other
 // directions.
 use crate::basis::Basis;
-use crate::cells::{at, bit, has, is_odd, number_of, put_at, size_of, top_place};
+use crate::cells::{
+    at, bit, column_of, first_one, has, is_odd, number_of, numbers, put_at, size_of, top_place,
+};
+use crate::echelon::{Echelon, NONE};
 use crate::random::Random;
+use crate::state::State;
 use crate::step::{MOST_FORMS, NO_STEP, Step};
 use crate::task::Task;
 use std::alloc::{AllocError, Global};
@@ -29,9 +33,6 @@ pub(crate) struct Weights {
 
 const NOWHERE: usize = usize::MAX;
 
-// No form.
-const NONE: u32 = u32::MAX;
-
 // A product: its forms and itself as sums of functions, and a word at which it holds.
 #[derive(Clone, Copy)]
 struct Made {
@@ -51,7 +52,6 @@ const NO_MADE: Made = Made {
 // The products of steps, and the outputs.
 #[derive(Drop)]
 pub(crate) struct Store {
-    inputs: usize,
     made: Vec<Made>,
     outputs: Vec<u32>,
 }
@@ -64,10 +64,20 @@ struct Rows {
     rows: Vec<u32>,
 }
 
-fn column_of(alloc: Global, words: &[u32], place: usize) -> Result<Vec<bool>, AllocError> {
-    let mut column = Vec::new(alloc);
-    for word in words {
-        column.push(has(*word, place))?;
+// The coordinates at the start, as sums of functions.
+fn inputs_of(alloc: Global, task: &Task) -> Result<Vec<u32>, AllocError> {
+    let mut rows = vec![in alloc; 0u32; task.inputs]?;
+    for place in 0..task.inputs {
+        put_at(&mut rows, place, bit(place));
+    }
+    Ok(rows)
+}
+
+// At which words a product holds.
+fn held_at(alloc: Global, step: &Step, words: &[u32]) -> Result<Vec<bool>, AllocError> {
+    let mut column = vec![in alloc; false; words.len()]?;
+    for k in 0..words.len() {
+        put_at(&mut column, k, step.holds(at(words, k, 0)));
     }
     Ok(column)
 }
@@ -87,39 +97,53 @@ impl Rows {
     fn new(alloc: Global, task: &Task, words: &[u32]) -> Result<Rows, AllocError> {
         let mut basis = Basis::new(alloc, words.len());
         basis.add_ones(alloc)?;
-        let mut rows = Vec::new(alloc);
         for place in 0..task.inputs {
             let column = column_of(alloc, words, place)?;
-            let _ = basis.add(alloc, &column, u64::from(bit(place)))?;
-            rows.push(bit(place))?;
+            let _ = basis.add(column, u64::from(bit(place)))?;
         }
         Ok(Rows {
             basis,
             functions: task.inputs,
-            rows,
+            rows: inputs_of(alloc, task)?,
         })
     }
 
     // A column as a sum of functions, if it is one.
-    fn sum(&self, alloc: Global, column: &[bool]) -> Result<Option<u32>, AllocError> {
-        let mut rest = Vec::from_slice(alloc, column)?;
-        let names = self.basis.reduce(&mut rest);
-        if rest.iter().any(|bit| *bit) {
-            return Ok(None);
+    fn sum(&self, column: &mut [bool]) -> Option<u32> {
+        let names = self.basis.reduce(column);
+        match first_one(column) {
+            Some(_) => None,
+            None => Some((names & 0xFFFF_FFFF) as u32),
         }
-        Ok(Some((names & 0xFFFF_FFFF) as u32))
     }
 
     // The same of a column that becomes a function if it is no sum.
-    fn own(&mut self, alloc: Global, column: &[bool]) -> Result<Option<u32>, AllocError> {
-        let found = self.sum(alloc, column)?;
-        if found.is_some() || self.functions >= MOST_FUNCTIONS {
-            return Ok(found);
-        }
+    fn own(&mut self, column: Vec<bool>) -> Result<Option<u32>, AllocError> {
         let own = bit(self.functions);
-        let _ = self.basis.add(alloc, column, u64::from(own))?;
+        let mut column = column;
+        let names = self.basis.reduce(&mut column);
+        if first_one(&column).is_none() {
+            return Ok(Some((names & 0xFFFF_FFFF) as u32));
+        }
+        if self.functions >= MOST_FUNCTIONS {
+            return Ok(None);
+        }
+        let _ = self.basis.add(column, names ^ u64::from(own))?;
         self.functions = self.functions.wrapping_add(1);
         Ok(Some(own))
+    }
+
+    // The outputs as sums of functions, if they are.
+    fn outputs(&self, alloc: Global, task: &Task) -> Result<Option<Vec<u32>>, AllocError> {
+        let mut outputs = vec![in alloc; 0u32; task.outputs]?;
+        for output in 0..task.outputs {
+            let mut column = task.column(alloc, output)?;
+            match self.sum(&mut column) {
+                Some(sum) => put_at(&mut outputs, output, sum),
+                None => return Ok(None),
+            }
+        }
+        Ok(Some(outputs))
     }
 
     fn made(&self, step: &Step, own: u32, word: usize) -> Made {
@@ -158,37 +182,23 @@ pub(crate) fn store_of(
     task: &Task,
     steps: &[Step],
 ) -> Result<Option<Store>, AllocError> {
-    let mut words: Vec<u32> = (0..number_of(task.words())).collect(alloc)?;
-    let mut rows = Rows::new(alloc, task, &words)?;
+    let mut state = State::first(alloc, task)?;
+    let mut rows = Rows::new(alloc, task, &state.words)?;
     let mut made = Vec::new(alloc);
-    let mut dimension = task.inputs;
     for step in steps {
-        let mut column = Vec::new(alloc);
-        for word in &words {
-            column.push(step.holds(*word))?;
-        }
-        let first = column.iter().position(|bit| *bit).unwrap_or(0);
-        let Some(own) = rows.own(alloc, &column)? else {
+        let column = held_at(alloc, step, &state.words)?;
+        let first = first_one(&column).unwrap_or(0);
+        let Some(own) = rows.own(column)? else {
             return Ok(None);
         };
         made.push(rows.made(step, own, first))?;
         rows.rows = moved(alloc, &rows.rows, step, own)?;
-        words = step.apply(alloc, &words, dimension)?;
-        dimension = step.dimension(dimension);
+        state.go(step);
     }
-    let mut outputs = Vec::new(alloc);
-    for output in 0..task.outputs {
-        let column = task.column(alloc, output)?;
-        match rows.sum(alloc, &column)? {
-            Some(sum) => outputs.push(sum)?,
-            None => return Ok(None),
-        }
+    match rows.outputs(alloc, task)? {
+        Some(outputs) => Ok(Some(Store { made, outputs })),
+        None => Ok(None),
     }
-    Ok(Some(Store {
-        inputs: task.inputs,
-        made,
-        outputs,
-    }))
 }
 
 // A state: rows of functions from a place on, and how it came about.
@@ -222,49 +232,6 @@ const NO_NEXT: Next = Next {
     node: NO_NODE,
 };
 
-// Rows in echelon form by the places of their highest bits, with the coordinates of each.
-#[derive(Clone, Copy)]
-struct Frame {
-    rows: [u32; 32],
-    names: [u32; 32],
-}
-
-impl Frame {
-    fn new(rows: &[u32]) -> Frame {
-        let mut frame = Frame {
-            rows: [0; 32],
-            names: [0; 32],
-        };
-        for k in 0..rows.len() {
-            let (rest, names) = frame.reduced(at(rows, k, 0), bit(k));
-            if rest != 0 {
-                put_at(&mut frame.rows, top_place(rest), rest);
-                put_at(&mut frame.names, top_place(rest), names);
-            }
-        }
-        frame
-    }
-
-    fn reduced(&self, sum: u32, names: u32) -> (u32, u32) {
-        let (mut rest, mut all) = (sum, names);
-        for k in 0..32usize {
-            let place = 31 - k;
-            let row = at(&self.rows, place, 0);
-            if row != 0 && has(rest, place) {
-                rest ^= row;
-                all ^= at(&self.names, place, 0);
-            }
-        }
-        (rest, all)
-    }
-
-    // The form of a sum of functions.
-    fn form(&self, sum: u32) -> u32 {
-        let (rest, names) = self.reduced(sum, 0);
-        if rest == 0 { names } else { NONE }
-    }
-}
-
 // The forms of what counts in a state, and of its sums with a product.
 #[derive(Drop)]
 struct Counted {
@@ -286,23 +253,20 @@ impl Store {
     }
 
     // What counts, one after another: the outputs, and the forms of each product.
-    fn counted(&self, alloc: Global, frame: &Frame, own: u32) -> Result<Counted, AllocError> {
-        let mut counted = Counted {
-            now: Vec::new(alloc),
-            then: Vec::new(alloc),
-        };
-        for output in &self.outputs {
-            counted.now.push(frame.form(*output))?;
-            counted.then.push(frame.form(*output ^ own))?;
-        }
+    fn counted(&self, alloc: Global, frame: &Echelon, own: u32) -> Result<Counted, AllocError> {
+        let mut sums = Vec::from_slice(alloc, &self.outputs)?;
         for made in &self.made {
             for i in 0..made.count.min(MOST_FORMS) {
-                let form = at(&made.forms, i, 0);
-                counted.now.push(frame.form(form))?;
-                counted.then.push(frame.form(form ^ own))?;
+                sums.push(at(&made.forms, i, 0))?;
             }
         }
-        Ok(counted)
+        let mut then = Vec::from_slice(alloc, &sums)?;
+        for k in 0..sums.len() {
+            let sum = at(&sums, k, 0);
+            put_at(&mut sums, k, frame.form(sum));
+            put_at(&mut then, k, frame.form(sum ^ own));
+        }
+        Ok(Counted { now: sums, then })
     }
 
     fn score(&self, counted: &Counted, lambda: u32, weights: Weights) -> u64 {
@@ -327,7 +291,7 @@ impl Store {
     }
 
     // The step of a product but for its direction, if all its forms are there.
-    fn step(&self, frame: &Frame, product: usize) -> Option<Step> {
+    fn step(&self, frame: &Echelon, product: usize) -> Option<Step> {
         let made = self.made(product);
         let mut step = Step {
             count: made.count,
@@ -353,10 +317,13 @@ impl Store {
         (all as u64).saturating_mul(size_of(dimension) as u64) / 4
     }
 
-    fn is_done(&self, frame: &Frame) -> bool {
-        self.outputs
-            .iter()
-            .all(|output| frame.form(*output) != NONE)
+    fn is_done(&self, frame: &Echelon) -> bool {
+        for output in &self.outputs {
+            if frame.form(*output) == NONE {
+                return false;
+            }
+        }
+        true
     }
 }
 
@@ -403,7 +370,7 @@ impl Packing {
         &self,
         alloc: Global,
         store: &Store,
-        frame: &Frame,
+        frame: &Echelon,
         from: Node,
         parent: usize,
         random: &mut Random,
@@ -454,13 +421,14 @@ impl Packing {
         nexts: &mut Vec<Next>,
     ) -> Result<(), AllocError> {
         let node = self.node(parent);
-        let frame = Frame::new(self.rows_of(&node));
+        let frame = Echelon::of(self.rows_of(&node));
         let mut best = [NO_NEXT; KEPT];
         for product in 0..store.made.len() {
             let from = Node { product, ..node };
             self.add_product(alloc, store, &frame, from, parent, random, &mut best)?;
         }
-        for next in best {
+        for k in 0..KEPT {
+            let next = at(&best, k, NO_NEXT);
             if next.score > 0 {
                 nexts.push(next)?;
             }
@@ -472,8 +440,8 @@ impl Packing {
     fn take(&mut self, alloc: Global, store: &Store, next: Next) -> Result<bool, AllocError> {
         let own = store.made(next.node.product).own;
         let rows = moved(alloc, self.rows_of(&next.node), &next.node.step, own)?;
-        let key = key_of(alloc, &rows)?;
-        if self.seen.iter().any(|other| *other == key) {
+        let key = Echelon::of(&rows).key();
+        if self.seen.contains(&key) {
             return Ok(false);
         }
         self.seen.push(key)?;
@@ -512,14 +480,14 @@ impl Packing {
     }
 
     // A node of the front that has all outputs.
-    fn done(&self, alloc: Global, store: &Store) -> Result<Option<usize>, AllocError> {
+    fn done(&self, store: &Store) -> Option<usize> {
         for place in &self.front {
-            let frame = Frame::new(self.rows_of(&self.node(*place)));
+            let frame = Echelon::of(self.rows_of(&self.node(*place)));
             if store.is_done(&frame) {
-                return Ok(Some(*place));
+                return Some(*place);
             }
         }
-        Ok(None)
+        None
     }
 
     // The nodes that lead to one, the last one first.
@@ -537,33 +505,6 @@ impl Packing {
     }
 }
 
-// The number by which spans are told apart.
-fn key_of(alloc: Global, rows: &[u32]) -> Result<u64, AllocError> {
-    let mut all: Vec<u32> = Vec::new(alloc);
-    for k in 0..rows.len() {
-        let mut rest = at(rows, k, 0);
-        for other in &all {
-            rest = rest.min(rest ^ *other);
-        }
-        if rest != 0 {
-            for j in 0..all.len() {
-                let other = at(&all, j, 0);
-                if has(other, top_place(rest)) {
-                    put_at(&mut all, j, other ^ rest);
-                }
-            }
-            all.push(rest)?;
-            all.sort_by_key(|row| u32::MAX - *row)?;
-        }
-    }
-    let mut key = 0x1234_5678_9ABC_DEF1u64;
-    for row in &all {
-        key = (key ^ u64::from(*row)).wrapping_mul(0x9E37_79B9_7F4A_7C15);
-        key ^= key >> 29;
-    }
-    Ok(key)
-}
-
 // The steps of a path, with what is wanted of the forms.
 fn steps_of(
     alloc: Global,
@@ -571,21 +512,16 @@ fn steps_of(
     store: &Store,
     path: &[Node],
 ) -> Result<Vec<Step>, AllocError> {
-    let mut words: Vec<u32> = (0..number_of(task.words())).collect(alloc)?;
-    let mut dimension = store.inputs;
+    let mut state = State::first(alloc, task)?;
     let mut steps = Vec::new(alloc);
     for k in 0..path.len() {
         let node = at(path, path.len() - 1 - k, NO_NODE);
-        let word = at(&words, store.made(node.product).word, 0);
-        let mut want = 0u32;
-        for i in 0..node.step.count.min(MOST_FORMS) {
-            if is_odd(node.step.form(i) & word) {
-                want |= bit(i);
-            }
-        }
-        let step = Step { want, ..node.step };
-        words = step.apply(alloc, &words, dimension)?;
-        dimension = step.dimension(dimension);
+        let word = at(&state.words, store.made(node.product).word, 0);
+        let step = Step {
+            want: node.step.values(word),
+            ..node.step
+        };
+        state.go(&step);
         steps.push(step)?;
     }
     Ok(steps)
@@ -605,10 +541,6 @@ pub(crate) fn packed(
     if store.made.len() > MOST_MADE {
         return Ok(None);
     }
-    let mut rows = Vec::new(alloc);
-    for place in 0..task.inputs {
-        rows.push(bit(place))?;
-    }
     let first = Node {
         dimension: task.inputs,
         ..NO_NODE
@@ -617,7 +549,7 @@ pub(crate) fn packed(
         most_dimension,
         weights,
         nodes: vec![in alloc; first; 1]?,
-        rows,
+        rows: inputs_of(alloc, task)?,
         front: vec![in alloc; 0usize; 1]?,
         seen: Vec::new(alloc),
         work: 0,
@@ -626,7 +558,7 @@ pub(crate) fn packed(
         packing.advance(alloc, store, random)?;
         *work = work.saturating_add(packing.work);
         packing.work = 0;
-        if let Some(place) = packing.done(alloc, store)? {
+        if let Some(place) = packing.done(store) {
             let path = packing.path(alloc, place)?;
             return Ok(Some(steps_of(alloc, task, store, &path)?));
         }

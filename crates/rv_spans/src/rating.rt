@@ -302,24 +302,10 @@ impl Rating {
         }
         transform(&mut self.less, 0, self.dimension);
         let (ways, last) = self.ways(product, &sums, keep.min(MOST_KEPT));
-        for way in ways {
-            if way.price < NEVER {
-                let step = Step {
-                    lambda: way.lambda,
-                    ..*product
-                };
-                choices.push(choice_of(way.price, step))?;
-            }
+        for k in 0..MOST_KEPT {
+            add_way(product, at(&ways, k, NO_WAY), 0, choices)?;
         }
-        if last.price < NEVER {
-            let step = Step {
-                lambda: last.lambda,
-                drop: sums.line,
-                ..*product
-            };
-            choices.push(choice_of(last.price, step))?;
-        }
-        Ok(())
+        add_way(product, last, sums.line, choices)
     }
 
     // The best directions, and the best one after which a form is constant.
@@ -424,6 +410,24 @@ fn choice_of(price: i64, step: Step) -> Choice {
         dimension: 0,
         step,
     }
+}
+
+// The step of a product by a way, if there is one.
+fn add_way(
+    product: &Step,
+    way: Way,
+    drop: u32,
+    choices: &mut Vec<Choice>,
+) -> Result<(), AllocError> {
+    if way.price < NEVER {
+        let step = Step {
+            lambda: way.lambda,
+            drop,
+            ..*product
+        };
+        choices.push(choice_of(way.price, step))?;
+    }
+    Ok(())
 }
 
 // Puts a way among the first so many, which are sorted; the last of them goes.

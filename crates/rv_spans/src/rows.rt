@@ -121,6 +121,19 @@ impl Rows {
         }
         Ok(())
     }
+
+    fn add_all(&mut self) -> Result<(), AllocError> {
+        self.begin()?;
+        for place in 1..self.inputs.saturating_sub(self.width) {
+            let outputs = if place == 1 {
+                self.width
+            } else {
+                self.width.saturating_add(place)
+            };
+            self.add(Row { place, outputs })?;
+        }
+        Ok(())
+    }
 }
 
 // The number that the outputs are at a word: the first of them is its highest bit.
@@ -134,33 +147,41 @@ fn value(task: &Task, word: usize) -> u32 {
 
 // Whether the outputs are the product of the lower inputs, so many, and the others.
 fn is_product(task: &Task, width: usize) -> bool {
-    task.outputs == task.inputs
-        && (0..task.ones.len()).all(|word| {
-            let high = word.checked_shr(number_of(width)).unwrap_or(0);
-            let low = word & (bit(width) as usize).wrapping_sub(1);
-            value(task, word) == number_of(high.wrapping_mul(low))
-        })
+    if task.outputs != task.inputs {
+        return false;
+    }
+    for word in 0..task.ones.len() {
+        let high = word.checked_shr(number_of(width)).unwrap_or(0);
+        let low = word & (bit(width) as usize).wrapping_sub(1);
+        if value(task, word) != number_of(high.wrapping_mul(low)) {
+            return false;
+        }
+    }
+    true
+}
+
+// How wide the first number is, if the outputs are a product.
+fn width_of(task: &Task) -> Option<usize> {
+    for width in 2..task.inputs.saturating_sub(1) {
+        if is_product(task, width) {
+            return Some(width);
+        }
+    }
+    None
 }
 
 /// Steps after which all outputs are forms, if they are the product of two numbers.
 pub(crate) fn multiplied(alloc: Global, task: &Task) -> Result<Option<Vec<Step>>, AllocError> {
-    let last = task.inputs.saturating_sub(1);
-    let Some(width) = (2..last).find(|width| is_product(task, *width)) else {
-        return Ok(None);
-    };
-    let mut rows = Rows {
-        steps: Vec::new(alloc),
-        inputs: task.inputs,
-        width,
-    };
-    rows.begin()?;
-    for place in 1..task.inputs.saturating_sub(width) {
-        let outputs = if place == 1 {
-            width
-        } else {
-            width.saturating_add(place)
-        };
-        rows.add(Row { place, outputs })?;
+    match width_of(task) {
+        Some(width) => {
+            let mut rows = Rows {
+                steps: Vec::new(alloc),
+                inputs: task.inputs,
+                width,
+            };
+            rows.add_all()?;
+            Ok(Some(rows.steps))
+        }
+        None => Ok(None),
     }
-    Ok(Some(rows.steps))
 }

@@ -1,6 +1,7 @@
 // Many short searches, of which the best is kept.
 use crate::beam::{Beam, Way};
 use crate::build::{Found, built};
+use crate::carries::carried;
 use crate::count::counted;
 use crate::pack::{Weights, packed, store_of};
 use crate::random::Random;
@@ -29,7 +30,7 @@ const MOST_FOUND: usize = 24;
 const MOST_LEVEL: usize = 60;
 
 /// What is looked for: circuits on at most so many lines.
-#[derive(Clone, Copy, Debug, PartialEq, Eq)]
+#[derive(Clone, Copy)]
 pub struct Search {
     pub lines: u8,
     pub effort: u16,
@@ -174,7 +175,12 @@ impl Record {
     }
 
     fn holds(&self, found: &Found) -> bool {
-        self.found.iter().any(|other| *other.gates == *found.gates)
+        for other in &self.found {
+            if *other.gates == *found.gates {
+                return true;
+            }
+        }
+        false
     }
 
     // The first steps of those found, some of them: none where nothing was found.
@@ -195,20 +201,32 @@ impl Record {
         }
     }
 
-    // Keeps what the ways of a beam make, where it is cheaper.
-    fn take(
+    // Whether nothing better was found for long.
+    fn is_idle(&self, most_work: u64) -> bool {
+        self.idle >= IDLE && self.idle_work > most_work / 32
+    }
+
+    // Searches from some of the first steps of those found, and keeps what is cheaper. Gives the work.
+    fn go_on(
         &mut self,
         alloc: Global,
         whole: &Task,
+        task: &Task,
         lines: u8,
-        beam: &Beam,
-    ) -> Result<(), AllocError> {
+        way: Way,
+        turn: usize,
+        random: &mut Random,
+    ) -> Result<u64, AllocError> {
+        let start = self.start(alloc, turn, random)?;
+        let most_level = self.level.saturating_sub(level_of(&start)).max(1);
+        let mut beam = Beam::new(alloc, task, Way { most_level, ..way }, start)?;
+        beam.run(alloc, task, random)?;
         self.idle = self.idle.saturating_add(1);
         self.idle_work = self.idle_work.saturating_add(beam.work);
         for steps in &beam.ways {
             self.keep(alloc, whole, lines, steps)?;
         }
-        Ok(())
+        Ok(beam.work.max(1 << 16))
     }
 
     // Keeps what steps make, where it is cheaper, and besides the others where it is as cheap.
@@ -322,6 +340,16 @@ impl Record {
         }
     }
 
+    // Keeps what carries make that are taken off again, if it is enough.
+    fn carry(&mut self, alloc: Global, whole: &Task, lines: u8) -> Result<(), AllocError> {
+        for is_whole in [false, true] {
+            if let Some(steps) = carried(alloc, whole, is_whole)? {
+                self.keep(alloc, whole, lines, &steps)?;
+            }
+        }
+        Ok(())
+    }
+
     // Keeps what counting makes, if it is enough. Gives the work.
     fn count(
         &mut self,
@@ -347,11 +375,9 @@ fn search_on(
     task: &Task,
     most_dimension: usize,
     search: Search,
-    record: Record,
-) -> Result<Record, AllocError> {
+    record: &mut Record,
+) -> Result<(), AllocError> {
     let mut random = Random::new(u64::from(search.seed).wrapping_add(FIRST));
-    let mut record = record;
-    let effort = usize::from(search.effort);
     let most_work = u64::from(search.effort).saturating_mul(WORK);
     let lines = search.lines;
     let work = record.count(alloc, whole, task, most_dimension, lines, &mut random)?;
@@ -371,24 +397,19 @@ fn search_on(
             left = left.saturating_sub(work);
         }
     }
-    for turn in 0..effort.saturating_mul(4) {
-        if left == 0 || (record.idle >= IDLE && record.idle_work > most_work / 32) {
-            return Ok(record);
+    for turn in 0..usize::from(search.effort).saturating_mul(4) {
+        if left == 0 || record.is_idle(most_work) {
+            return Ok(());
         }
-        let start = record.start(alloc, turn, &mut random)?;
-        let most_level = record.level.saturating_sub(level_of(&start)).max(1);
         let way = Way {
             most_dimension,
-            most_level,
             most_work: left,
             ..way_of(turn / 2)
         };
-        let mut beam = Beam::new(alloc, task, way, start)?;
-        beam.run(alloc, task, &mut random)?;
-        left = left.saturating_sub(beam.work.max(1 << 16));
-        record.take(alloc, whole, search.lines, &beam)?;
+        let work = record.go_on(alloc, whole, task, lines, way, turn, &mut random)?;
+        left = left.saturating_sub(work);
     }
-    Ok(record)
+    Ok(())
 }
 
 /// The cheapest gates that are found for a table, on lines of which the first are its inputs and the others begin
@@ -403,10 +424,11 @@ pub fn all_found(alloc: Global, whole: &Task, search: Search) -> Result<Vec<Foun
         return Ok(record.found);
     }
     record.multiply(alloc, whole, search.lines)?;
-    if most_dimension > MOST_COORDINATES {
-        return Ok(record.found);
+    record.carry(alloc, whole, search.lines)?;
+    if most_dimension <= MOST_COORDINATES {
+        search_on(alloc, whole, &task, most_dimension, search, &mut record)?;
     }
-    Ok(search_on(alloc, whole, &task, most_dimension, search, record)?.found)
+    Ok(record.found)
 }
 
 /// The gates of one of them.

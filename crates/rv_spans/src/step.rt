@@ -1,6 +1,5 @@
 // Steps of a search: a product of forms is added to a direction.
 use crate::cells::{at, bit, has, is_odd, put_at, top_place, without};
-use std::alloc::{AllocError, Global};
 
 // A product has at most so many forms.
 pub(crate) const MOST_FORMS: usize = 8;
@@ -55,6 +54,17 @@ impl Step {
         true
     }
 
+    // The values of the forms at a word.
+    pub(crate) fn values(&self, word: u32) -> u32 {
+        let mut values = 0u32;
+        for i in 0..self.count.min(MOST_FORMS) {
+            if is_odd(self.form(i) & word) {
+                values |= bit(i);
+            }
+        }
+        values
+    }
+
     // Whether a direction changes one of the forms.
     pub(crate) fn is_changed_by(&self, lambda: u32) -> bool {
         for i in 0..self.count.min(MOST_FORMS) {
@@ -94,23 +104,17 @@ impl Step {
         without(next, top_place(self.drop))
     }
 
-    // The words over the coordinates, after the step.
-    pub(crate) fn apply(
-        &self,
-        alloc: Global,
-        words: &[u32],
-        dimension: usize,
-    ) -> Result<Vec<u32>, AllocError> {
+    // Makes the words over so many coordinates those after the step.
+    pub(crate) fn change(&self, words: &mut [u32], dimension: usize) {
         let lambda = if self.lambda == 0 {
             bit(dimension)
         } else {
             self.lambda
         };
-        let mut after = Vec::new(alloc);
-        for word in words {
-            after.push(self.after(*word, lambda))?;
+        for k in 0..words.len() {
+            let word = self.after(at(words, k, 0), lambda);
+            put_at(words, k, word);
         }
-        Ok(after)
     }
 }
 

@@ -2,7 +2,7 @@
 ghost use Rattle.std.specs.Prelude.{◌≡◌};
 
 use crate::basis::Basis;
-use crate::cells::{at, bit, has, size_of};
+use crate::cells::{at, bit, column_of, has, put_at, size_of};
 use rv_pla::{Entry, Pla};
 use std::alloc::{AllocError, Global};
 
@@ -23,8 +23,8 @@ impl Task {
     /// The task of a table.
     pub fn new(alloc: Global, pla: &Pla) -> Result<Task, AllocError> {
         let (inputs, outputs) = (pla.inputs(), pla.outputs());
-        let mut ones = Vec::new(alloc);
-        let mut cares = Vec::new(alloc);
+        let mut ones = vec![in alloc; 0u32; 1usize << inputs]?;
+        let mut cares = vec![in alloc; 0u32; 1usize << inputs]?;
         for number in 0..1u32 << inputs {
             let (mut one, mut care) = (0u32, 0u32);
             for output in 0..outputs {
@@ -36,8 +36,8 @@ impl Task {
                     care |= bit(usize::from(output));
                 }
             }
-            ones.push(one)?;
-            cares.push(care)?;
+            put_at(&mut ones, number as usize, one);
+            put_at(&mut cares, number as usize, care);
         }
         Task::of(
             alloc,
@@ -56,10 +56,9 @@ impl Task {
         ones: Vec<u32>,
         cares: Vec<u32>,
     ) -> Result<Task, AllocError> {
-        let mut counts = Vec::new(alloc);
+        let mut counts = vec![in alloc; 0i64; outputs]?;
         for output in 0..outputs {
-            let count = cares.iter().filter(|care| has(**care, output)).count();
-            counts.push(i64::try_from(count).unwrap_or(0))?;
+            put_at(&mut counts, output, count_of(&cares, output));
         }
         Ok(Task {
             inputs,
@@ -91,27 +90,28 @@ impl Task {
 
     // Whether an output is free nowhere.
     fn is_whole(&self, output: usize) -> bool {
-        self.cares.iter().all(|care| has(*care, output))
+        for care in &self.cares {
+            if !has(*care, output) {
+                return false;
+            }
+        }
+        true
     }
 
     // The bits of an output at all words.
     pub(crate) fn column(&self, alloc: Global, output: usize) -> Result<Vec<bool>, AllocError> {
-        let mut column = Vec::new(alloc);
-        for one in &self.ones {
-            column.push(has(*one, output))?;
-        }
-        Ok(column)
+        column_of(alloc, &self.ones, output)
     }
 
-    // The outputs that are no sums of those before them.
-    fn kept(&self, alloc: Global) -> Result<Vec<usize>, AllocError> {
+    // The outputs that are no sums of those before them, as bits.
+    fn kept(&self, alloc: Global) -> Result<u32, AllocError> {
         let mut basis = Basis::new(alloc, self.words());
         basis.add_ones(alloc)?;
-        let mut kept = Vec::new(alloc);
-        for output in 0..self.outputs {
+        let mut kept = 0u32;
+        for output in 0..self.outputs.min(32) {
             let column = self.column(alloc, output)?;
-            if !self.is_whole(output) || basis.add(alloc, &column, 0)? {
-                kept.push(output)?;
+            if !self.is_whole(output) || basis.add(column, 0)? {
+                kept |= bit(output);
             }
         }
         Ok(kept)
@@ -120,23 +120,41 @@ impl Task {
     // The task without outputs that are sums of others.
     pub(crate) fn independent(&self, alloc: Global) -> Result<Task, AllocError> {
         let kept = self.kept(alloc)?;
-        let ones = picked(alloc, &self.ones, &kept)?;
-        let cares = picked(alloc, &self.cares, &kept)?;
-        Task::of(alloc, self.inputs, kept.len(), ones, cares)
+        let ones = picked(alloc, &self.ones, kept)?;
+        let cares = picked(alloc, &self.cares, kept)?;
+        Task::of(alloc, self.inputs, kept.count_ones() as usize, ones, cares)
     }
 }
 
-// Of each word the bits at places.
-fn picked(alloc: Global, words: &[u32], places: &[usize]) -> Result<Vec<u32>, AllocError> {
-    let mut picked = Vec::new(alloc);
-    for word in words {
-        let mut bits = 0u32;
-        for k in 0..places.len() {
-            if has(*word, at(places, k, 32)) {
-                bits |= bit(k);
-            }
+// At how many words an output isn't free.
+fn count_of(cares: &[u32], output: usize) -> i64 {
+    let mut count = 0i64;
+    for care in cares {
+        if has(*care, output) {
+            count = count.wrapping_add(1);
         }
-        picked.push(bits)?;
+    }
+    count
+}
+
+// The bits of a word that others have, side by side.
+fn picked_of(word: u32, kept: u32) -> u32 {
+    let (mut bits, mut next) = (0u32, 0usize);
+    for place in 0..32usize {
+        if has(kept, place) {
+            if has(word, place) {
+                bits |= bit(next);
+            }
+            next = next.wrapping_add(1);
+        }
+    }
+    bits
+}
+
+fn picked(alloc: Global, words: &[u32], kept: u32) -> Result<Vec<u32>, AllocError> {
+    let mut picked = vec![in alloc; 0u32; words.len()]?;
+    for k in 0..words.len() {
+        put_at(&mut picked, k, picked_of(at(words, k, 0), kept));
     }
     Ok(picked)
 }

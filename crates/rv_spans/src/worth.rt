@@ -141,6 +141,16 @@ fn share(coefficient: usize, all: i64) -> i64 {
     quotient(whole, all)
 }
 
+// The first form at which a function has so great a coefficient; 0 if there is none.
+fn first_form(values: &[i64], size: usize, lane: usize, all: u64) -> usize {
+    for form in 0..size {
+        if value_in(values, size, lane, form).unsigned_abs() == all {
+            return form;
+        }
+    }
+    0
+}
+
 // The forms that solved outputs hold, with their sums.
 fn solved_forms(
     alloc: Global,
@@ -156,11 +166,8 @@ fn solved_forms(
         if bins.count(lane, all) == 0 || forms.len() > MOST_SOLVED {
             continue;
         }
-        let solved = (0..size).find(|u| value_in(values, size, lane, *u).unsigned_abs() == all);
-        let Some(form) = solved else {
-            continue;
-        };
-        if !forms.iter().any(|other| *other == form) {
+        let form = first_form(values, size, lane, all);
+        if !forms.contains(&form) {
             for k in 0..forms.len() {
                 forms.push(at(&forms, k, 0) ^ form)?;
             }
