@@ -78,5 +78,6 @@ pub(crate) fn circuits_in_place(
     add_optimal(alloc, spec, Library::Positive, &mut pool)?;
     add_optimal(alloc, spec, Library::Mixed, &mut pool)?;
     pool.shorten(alloc, true)?;
+    pool.shorten_by_goals(alloc, first)?;
     Ok(pool.circuits)
 }

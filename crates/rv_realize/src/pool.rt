@@ -16,6 +16,9 @@ const MOST_MARKED_LINES: u8 = 8;
 
 const MOST_GATES: usize = 1 << 10;
 
+// Circuits of at most so many gates are made shorter by more than one goal.
+const FEW_GATES: usize = 64;
+
 #[derive(Drop)]
 pub(crate) struct Pool {
     alloc: Global,
@@ -64,18 +67,31 @@ impl Pool {
         circuit: &Circuit,
         marked: bool,
     ) -> Result<Circuit, AllocError> {
-        let RealizeOptions {
-            goal,
-            effort,
-            seed,
-            ..
-        } = self.options;
-        let (goal, effort) = (short_goal(goal), (effort / PART).max(1));
+        let goal = short_goal(self.options.goal);
         if marked {
-            resynth_by_marks(alloc, circuit, goal, effort, seed)
+            resynth_by_marks(alloc, circuit, goal, self.effort(), self.options.seed)
         } else {
-            resynth(alloc, circuit, goal, effort, seed)
+            resynth(alloc, circuit, goal, self.effort(), self.options.seed)
         }
+    }
+
+    // The effort for one circuit.
+    fn effort(&self) -> u16 {
+        (self.options.effort / PART).max(1)
+    }
+
+    /// Makes a circuit of few gates shorter by what it does to every word: by T, and by the quantum cost.
+    pub(crate) fn shorten_by_goals(
+        &mut self,
+        alloc: Global,
+        circuit: &Circuit,
+    ) -> Result<(), AllocError> {
+        if circuit.gates().len() > FEW_GATES {
+            return Ok(());
+        }
+        let (effort, seed) = (self.effort(), self.options.seed);
+        self.add(resynth(alloc, circuit, ShortGoal::T, effort, seed)?)?;
+        self.add(resynth(alloc, circuit, ShortGoal::Quantum, effort, seed)?)
     }
 
     // What is made of the best circuits, if they have few gates enough: of few lines by their marks, else as they are.
