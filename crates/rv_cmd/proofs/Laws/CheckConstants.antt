@@ -1,6 +1,7 @@
 -- What `check --by paths --constants` answers.
-use Rattle.std.proofs.Common.{◌≡◌, ◌≢◌, ◌≤◌, ◌<◌, ◌+◌, ◌^◌, ◌==◌, if◌then◌else◌, nat_lt, ℕ, Bool, true, false, length, List, Option, Some, None, Result, Ok, Err, IfOk, IsTrue, refl, ap, sym, subst, ◌∙◌, inl, inr, arith}
+use Rattle.std.proofs.Common.{◌≡◌, ◌≢◌, ◌≤◌, ◌<◌, ◌+◌, ◌^◌, ◌==◌, if◌then◌else◌, nat_lt, ℕ, Bool, true, false, length, List, [], Option, Some, None, Result, Ok, Err, IfOk, IsTrue, refl, ap, sym, subst, ◌∙◌, inl, inr, arith}
 use Rattle.std.proofs.lemmas.Bool.{eq-eqb, ltb-false, ltb-true, ne_eqb, true≢false}
+use Rattle.std.proofs.Math.ListN.{get_or-eq_default}
 use Rattle.std.specs.Prelude.{slice_index_or}
 use Rattle.rv_gate.specs.Circuit.{Cascade}
 use Rattle.rv_gate.specs.Gate.{run}
@@ -35,30 +36,21 @@ use Rattle.rv_cmd.specs.inside.Told.{told_finding}
 
 -- ---- the words that hold the constants
 
-is-true : (b : Bool) → b ≡ true → IsTrue b
-is-true true is = tt
-is-true false is = absurd (true≢false (sym is))
-
-of-true : (b : Bool) → IsTrue b → b ≡ true
-of-true true is = refl
-of-true false is = absurd is
-
 beyond : (marks : List Mark) (line : ℕ) → length marks ≤ line → slice_index_or marks line Input ≡ Input
-beyond marks line over = grind arith
+beyond marks line over = get_or-eq_default marks Input over
 
 holds-has : (marks : List Mark) (word : List Bool) → holds_constants marks word ≡ true → HasConstants marks word
 holds-has marks word holds line = by (nat_lt line (length marks)) refl
   where
     by : (below : Bool) → nat_lt line (length marks) ≡ below → IsTrue (may_begin (slice_index_or marks line Input) (bit_of word line))
     by true is =
-        is-true (may_begin (slice_index_or marks line Input) (bit_of word line))
-        (all_below-at (λ at. may_begin (slice_index_or marks at Input) (bit_of word at)) (length marks) line holds (ltb-true line (length marks) is))
-    by false is = rw (beyond marks line (ltb-false line (length marks) is)) tt
+        all_below-at (λ at. may_begin (slice_index_or marks at Input) (bit_of word at)) (length marks) line holds (ltb-true line (length marks) is)
+    by false is = rw (beyond marks line (ltb-false line (length marks) is)) refl
 
 has-holds : (marks : List Mark) (word : List Bool) → HasConstants marks word → holds_constants marks word ≡ true
 has-holds marks word has =
     all_below-from (λ at. may_begin (slice_index_or marks at Input) (bit_of word at)) (length marks)
-    (λ line lt. of-true (may_begin (slice_index_or marks line Input) (bit_of word line)) (has line))
+    (λ line lt. has line)
 
 -- ---- whether they differ
 
