@@ -4,4 +4,5 @@ pub mod Halves
 pub mod Cores
 pub mod Phases
 pub mod Joins
+pub mod Fewer
 pub mod Whole

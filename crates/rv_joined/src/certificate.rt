@@ -20,8 +20,8 @@ use rv_net::Op;
 use std::alloc::{AllocError, Global};
 use std::collections::HashMap;
 
-// More terms than this are not followed.
-const MOST_TERMS: usize = 1 << 24;
+/// More terms than this are not followed.
+pub(crate) const MOST_TERMS: usize = 1 << 24;
 
 // What a line holds at the beginning.
 fn start_form(alloc: Global, setup: Setup, line: u8) -> Result<Form, AllocError>
@@ -34,7 +34,8 @@ fn start_form(alloc: Global, setup: Setup, line: u8) -> Result<Form, AllocError>
     }
 }
 
-fn start_held(alloc: Global, setup: Setup) -> Result<Vec<Form>, AllocError>
+/// What the lines hold at the beginning.
+pub(crate) fn start_held(alloc: Global, setup: Setup) -> Result<Vec<Form>, AllocError>
     requires few { setup.lines + setup.extra ≤ MOST_LINES }
     ensures { IfOk result (λ held. AreStart setup (columns setup) held.items) }
 {

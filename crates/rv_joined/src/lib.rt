@@ -5,7 +5,9 @@
 //! of the circuit: the network is found, and then followed by forms.
 #![tactic(auto)]
 
+mod best;
 mod block;
+mod cancel;
 mod certificate;
 mod follow;
 mod mapping;
@@ -13,6 +15,7 @@ mod phase;
 mod plan;
 mod planner;
 mod setup;
+mod shorter;
 mod slots;
 mod state;
 

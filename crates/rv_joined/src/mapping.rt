@@ -11,13 +11,12 @@ ghost use Rattle.rv_ladder.specs.Counts.{operations, relative_count, turns};
 ghost use Rattle.rv_ladder.specs.Relative.{MapsRelative};
 ghost use Rattle.rv_joined.specs.Joined.{MapsJoined};
 
-use crate::certificate::certified;
-use crate::planner::planned;
+use crate::best::{best, t_count};
 use crate::setup::Setup;
 use rv_gate::{Circuit, Gate};
 use rv_ladder::{RelativeFault, relative};
 use rv_mct::{Aux, flips_of};
-use rv_net::{MOST_OPS, Net, Op};
+use rv_net::{MOST_OPS, Net};
 use std::alloc::{AllocError, Global};
 
 // The flips of all gates.
@@ -30,15 +29,6 @@ fn all_flips(alloc: Global, gates: &[Gate]) -> Result<Vec<Gate>, AllocError>
         flips.extend_from_slice(&some[..count])?;
     }
     Ok(flips)
-}
-
-// How many operations are T or its inverse.
-fn t_count(ops: &[Op]) -> usize
-    ensures { result ≡ count_by is_t ops.now }
-{
-    ops.iter()
-        .filter(|op| matches!(op, Op::T(_) | Op::Tdg(_)))
-        .count()
 }
 
 // A network with joined phases, if one is found with no more T than this one.
@@ -58,10 +48,7 @@ fn found(alloc: Global, circuit: &Circuit, aux: Aux, net: &Net) -> Result<Option
         extra: all - lines,
     };
     let flips = all_flips(alloc, circuit.gates())?;
-    let Some(plan) = planned(alloc, setup, &flips)? else {
-        return Ok(None);
-    };
-    let Some(ops) = certified(alloc, setup, &flips, &plan)? else {
+    let Some(ops) = best(alloc, setup, &flips)? else {
         return Ok(None);
     };
     if ops.len() > MOST_OPS || t_count(&ops) > t_count(net.ops()) {

@@ -34,15 +34,22 @@ struct Entry {
     power: u8,
 }
 
-// What a flip does to values. The first two are those of its controls, if it has two.
+/// What a flip does to values. The first two are those of its controls, if it has two.
 #[derive(Clone, Copy)]
-struct Step {
-    claim: Option<u32>,
+pub(crate) struct Step {
+    pub(crate) claim: Option<u32>,
     toffoli: Option<Toffoli>,
     a: Value,
     c: Value,
     before: Value,
     after: Value,
+}
+
+impl Step {
+    /// A number for what is added to the target, 0 for nothing.
+    pub(crate) fn added(&self) -> u64 {
+        self.before.plus(self.after).whole()
+    }
 }
 
 // The values of a circuit.
@@ -53,14 +60,14 @@ struct Values {
     constant: u8,
 }
 
-// The flips so far.
+/// The flips so far.
 #[derive(Drop)]
-struct Draft {
+pub(crate) struct Draft {
     held: Vec<Form>,
     own: Vec<Value>,
-    terms: Vec<Term>,
+    pub(crate) terms: Vec<Term>,
     products: HashMap<u64, u32>,
-    steps: Vec<Step>,
+    pub(crate) steps: Vec<Step>,
     values: Values,
     columns: usize,
 }
@@ -243,7 +250,8 @@ fn key_of(literals: &[Value]) -> Option<u64> {
 }
 
 impl Draft {
-    fn new(alloc: Global, setup: Setup) -> Result<Draft, AllocError> {
+    /// No flip.
+    pub(crate) fn new(alloc: Global, setup: Setup) -> Result<Draft, AllocError> {
         let mut held = Vec::new(alloc);
         let mut own = Vec::new(alloc);
         for line in 0..setup.lines.saturating_add(setup.extra) {
@@ -391,7 +399,8 @@ impl Draft {
         Ok(true)
     }
 
-    fn steps(&mut self, alloc: Global, flips: &[Gate]) -> Result<bool, AllocError> {
+    /// All flips. `false` where one can't be followed.
+    pub(crate) fn steps(&mut self, alloc: Global, flips: &[Gate]) -> Result<bool, AllocError> {
         for line in 0..MOST_LINES {
             let value = self.value(line, true);
             self.values.note_line(value, 0, line)?;

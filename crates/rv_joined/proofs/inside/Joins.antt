@@ -200,7 +200,7 @@ brings_phase s terms held slots grown p form line other is more = record {
 
 -- ---- the whole
 
-tells_start : (s : Setup) (held : List Form) (bits x : Word) → AreStart s (columns s) held → MayStand s x
+pub tells_start : (s : Setup) (held : List Form) (bits x : Word) → AreStart s (columns s) held → MayStand s x
     → ((i : ℕ) → i < columns s → bit_of bits i ≡ bit_of x i) → Tells bits held x
 tells_start s held bits x start ok first = record {
   count = held_length s.aux s.lines s.extra x ok ∙ sym start.lines;
