@@ -169,6 +169,15 @@ impl Linked {
         node.id
     }
 
+    /// No place has a greater number.
+    pub fn greatest_number(&self) -> u32
+        ensures most { (id : ℕ) → IsTrue (live id self.now.nodes) → id ≤ result }
+        ensures few { result ≤ MOST_GATES }
+    {
+        self.recall_invariant();
+        self.order.greatest()
+    }
+
     /// The number that was noted of the gate last. It goes with the place: nothing but [`set_note`](Linked::set_note)
     /// changes it.
     pub fn note(&self, node: NodeId) -> u32

@@ -1,5 +1,5 @@
-ghost use Rattle.std.specs.Prelude.{◌≡◌, ◌+◌, ◌-◌, ◌*◌, ◌^◌, ◌<◌, ◌≤◌, [], ◌∷◌, ◌++◌, length, IfOk, IsTrue, IsFalse};
-ghost use Rattle.rv_links.specs.Order.{lists, head, next_in, prev_in};
+ghost use Rattle.std.specs.Prelude.{◌≡◌, ℕ, ◌+◌, ◌-◌, ◌*◌, ◌^◌, ◌<◌, ◌≤◌, [], ◌∷◌, ◌++◌, length, IfOk, IsTrue, IsFalse};
+ghost use Rattle.rv_links.specs.Order.{lists, head, next_in, prev_in, Rising};
 ghost use Rattle.rv_links.specs.inside.Ring.{without};
 
 use std::alloc::{AllocError, Global};
@@ -56,6 +56,15 @@ impl Ring {
     {
         let id = self.next[self.room as usize];
         if id == self.room { None } else { Some(id) }
+    }
+
+    /// Where the numbers rise, one than which none there is greater: the last one. `room` where there is none.
+    pub fn greatest(&self) -> u32
+        requires { Rising self.now.ids }
+        ensures most { (x : ℕ) → IsTrue (lists x self.now.ids) → x ≤ result }
+        ensures few { result ≤ self.now.room }
+    {
+        self.prev[self.room as usize]
     }
 
     /// The number after this one. `None` at the end.

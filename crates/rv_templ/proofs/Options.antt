@@ -1,6 +1,6 @@
 -- Answers that may be missing.
 use Rattle.std.proofs.Common.{arith}
-use Rattle.std.proofs.Common.{◌≡◌, List, ◌++◌, refl, inl, inr, sym}
+use Rattle.std.proofs.Common.{◌≡◌, List, ◌++◌, refl, inl, inr}
 use Rattle.std.specs.Option.{option_or}
 use Rattle.std.specs.Prelude.{◌⊎◌, Option, Some, None, option_map}
 use Rattle.std.proofs.lemmas.Option.{none-some, same_Some}

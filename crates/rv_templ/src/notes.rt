@@ -26,37 +26,28 @@ use crate::stops::commutes_before;
 use rv_gate::{Gate, MOST_GATES};
 use rv_links::{Linked, NodeId};
 
-// The note of a node that makes no pair, and on how many gates after it that depends at most; at most `left` gates are
-// after it.
-fn note_for(linked: &Linked, node: NodeId, stop: Option<u32>, left: usize) -> (u32, usize)
+// The note of a node that makes no pair, and on how many gates after it that depends at most.
+fn note_for(linked: &Linked, node: NodeId, stop: Option<u32>) -> (u32, usize)
     requires live { IsTrue (live node linked.now.nodes) }
     requires none { NoMate linked.now.nodes node }
     requires stop { IsStop linked.now.nodes (node_gate node linked.now.nodes) node stop }
-    requires left { length (nodes_from (next_in node (ids_in linked.now.nodes)) linked.now.nodes) ≤ left }
     ensures quiet { Quiet result.0 (node_gate node linked.now.nodes)
         (nodes_from (next_in node (ids_in linked.now.nodes)) linked.now.nodes) result.1 }
     ensures some { result.0 ≢ 0 }
 {
     linked.recall_invariant();
+    let own = linked.number(node);
     match stop {
-        None => (1, left),
-        Some(last) => (last + 2, (last - linked.number(node)) as usize),
+        None => (1, (linked.greatest_number() - own) as usize),
+        Some(last) => (last + 2, (last - own) as usize),
     }
 }
 
-/// Notes that the node makes no pair, with its stop, where at most `left` gates are after it. Answers on how many gates
-/// after it a note depends at most.
-pub fn note_quiet(
-    linked: &mut Linked,
-    node: NodeId,
-    stop: Option<u32>,
-    far: usize,
-    left: usize,
-) -> usize
+/// Notes that the node makes no pair, with its stop. Answers on how many gates after it a note depends at most.
+pub fn note_quiet(linked: &mut Linked, node: NodeId, stop: Option<u32>, far: usize) -> usize
     requires live { IsTrue (live node linked.old.nodes) }
     requires none { NoMate linked.old.nodes node }
     requires stop { IsStop linked.old.nodes (node_gate node linked.old.nodes) node stop }
-    requires left { length (nodes_from (next_in node (ids_in linked.old.nodes)) linked.old.nodes) ≤ left }
     requires right { Noted linked.old.notes linked.old.nodes far }
     ensures frame { linked.new.frame ≡ linked.old.frame }
     ensures nodes { linked.new.nodes ≡ linked.old.nodes }
@@ -65,7 +56,7 @@ pub fn note_quiet(
     ensures others { Others node linked.old.notes linked.new.notes }
 {
     linked.recall_invariant();
-    let (note, seen) = note_for(linked, node, stop, left);
+    let (note, seen) = note_for(linked, node, stop);
     linked.set_note(node, note);
     far.max(seen)
 }

@@ -151,16 +151,10 @@ pub fn make_pair(linked: &mut Linked, a: NodeId, b: NodeId)
     }
 }
 
-// The nearest node with which the node is a pair. Where there is none, that is noted; at most `left` gates are after
-// the node. Answers too on how many gates after it a note depends at most.
-fn mate_or_note(
-    linked: &mut Linked,
-    node: NodeId,
-    far: usize,
-    left: usize,
-) -> (Option<NodeId>, usize)
+// The nearest node with which the node is a pair. Where there is none, that is noted. Answers too on how many gates
+// after it a note depends at most.
+fn mate_or_note(linked: &mut Linked, node: NodeId, far: usize) -> (Option<NodeId>, usize)
     requires live { IsTrue (live node linked.old.nodes) }
-    requires left { length (nodes_from (next_in node (ids_in linked.old.nodes)) linked.old.nodes) ≤ left }
     requires right { Noted linked.old.notes linked.old.nodes far }
     ensures frame { linked.new.frame ≡ linked.old.frame }
     ensures nodes { linked.new.nodes ≡ linked.old.nodes }
@@ -176,7 +170,7 @@ fn mate_or_note(
     if let Some(other) = partner_of(linked, node, stop) {
         return (Some(other), far);
     }
-    let far = note_quiet(linked, node, stop, far, left);
+    let far = note_quiet(linked, node, stop, far);
     (None, far)
 }
 
@@ -188,9 +182,8 @@ pub struct Looked {
 }
 
 /// Looks for the first pair, where the gates before the place `from` have notes. Then those before the pair have, or
-/// all. There are at most `most` gates.
-pub fn first_pair(linked: &mut Linked, from: Cursor, far: usize, most: usize) -> Looked
-    requires most { length linked.old.nodes ≤ most }
+/// all.
+pub fn first_pair(linked: &mut Linked, from: Cursor, far: usize) -> Looked
     requires cursor { IsCursor linked.old.nodes from.place from.before }
     requires right { Noted linked.old.notes linked.old.nodes far }
     requires known { AllNoted linked.old.notes (take from.place linked.old.nodes) }
@@ -207,7 +200,7 @@ pub fn first_pair(linked: &mut Linked, from: Cursor, far: usize, most: usize) ->
     let mut place = from.place;
     let mut at = node_at(linked, from);
     while let Some(node) = at {
-        let (mate, now) = mate_or_note(linked, node, far, most - place);
+        let (mate, now) = mate_or_note(linked, node, far);
         far = now;
         if let Some(other) = mate {
             let pair = Pair {

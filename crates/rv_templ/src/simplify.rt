@@ -15,7 +15,7 @@ ghost use Rattle.rv_templ.specs.inside.Notes.{Noted, AllNoted, NoneNoted, IsKnow
 ghost use Rattle.rv_templ.specs.inside.Sizes.{AreSizes};
 
 use crate::Library;
-use crate::along::{Cursor, back, cursor_at, front, gate_count};
+use crate::along::{Cursor, back, cursor_at, front};
 use crate::notes::{forget, forget_all, forget_pair};
 use crate::pairs::{Pair, first_pair, make_pair};
 use crate::sizes::{Sizes, sizes_of};
@@ -100,18 +100,15 @@ fn step_window(
     Known { clean, due, far }
 }
 
-// Makes the chosen step, by what is known. Answers what is known then, and `None` where there is no step. There are at
-// most `count` gates.
+// Makes the chosen step, by what is known. Answers what is known then, and `None` where there is no step.
 fn make_step(
     linked: &mut Linked,
     templates: &[Vec<Gate>],
     sizes: Sizes,
-    count: usize,
     known: Known,
 ) -> Option<Known>
     requires templates { AreTemplates (templates_in templates.now) }
     requires sizes { AreSizes sizes.most sizes.least sizes.wide (templates_in templates.now) }
-    requires count { length linked.old.nodes ≤ count }
     requires known { IsKnown (templates_in templates.now) linked.old.nodes linked.old.notes known.clean known.due
         known.far }
     ensures stepped { IfSome result (λ next.
@@ -124,7 +121,7 @@ fn make_step(
 {
     linked.recall_invariant();
     let clean = known.clean;
-    let looked = first_pair(linked, known.due, known.far, count);
+    let looked = first_pair(linked, known.due, known.far);
     let (found, far) = (looked.pair, looked.far);
     if let Some(pair) = found {
         let next = step_pair(linked, &pair, clean, far, sizes.most);
@@ -152,14 +149,13 @@ fn simplify(linked: &mut Linked, templates: &[Vec<Gate>])
 {
     linked.recall_invariant();
     let sizes = sizes_of(templates);
-    let count = gate_count(linked);
     let mut known = Some(Known {
         clean: front(),
         due: front(),
         far: 0,
     });
     while let Some(places) = known {
-        known = make_step(linked, templates, sizes, count, places);
+        known = make_step(linked, templates, sizes, places);
     }
 }
 

@@ -7,7 +7,7 @@ use Rattle.std.proofs.lemmas.Bool.{cases_eq, cases_lt, cases_Bool, cond-true, co
 use Rattle.std.proofs.lemmas.List.{get_or_past, get_or_read, get_or_push, get_or_append_left}
 use Rattle.std.proofs.lemmas.List.Elements.{recursion_from_All}
 use Rattle.std.proofs.lemmas.Map.Steps.{length-le_from_distinct_below}
-use Rattle.rv_links.specs.Order.{lists, head, next_in, prev_from, prev_in, NoTwice}
+use Rattle.rv_links.specs.Order.{lists, head, next_in, prev_from, prev_in, NoTwice, Rising}
 use Rattle.rv_links.specs.inside.Ring.{Order, without, Joined, walk, IsChain, ids_of, IsRing}
 
 -- ---- lists of numbers
@@ -449,6 +449,33 @@ next_by next prev room ids x v k on e = grind (arith, common_steps, read, next_i
 pub prev_by : (next prev : List ℕ) (room : ℕ) (ids : List ℕ) (x v : ℕ) → IsChain next prev room ids → lists x ids ≡ true → v ≡ get_or prev x v
     → cond (eqb v room) None (Some v) ≡ prev_in x ids
 prev_by next prev room ids x v k on e = grind (arith, common_steps, read, prev_is)
+
+-- where they rise, the last one is the greatest
+prev_end : (N P : ℕ → ℕ) (a : ℕ) (zs : List ℕ) (z : ℕ) → Joined N P a zs z → (P z ≡ a) ⊎ (lists (P z) zs ≡ true)
+prev_end N P a [] z j = inl j.1
+prev_end N P a (w ∷ ws) z j =
+    elim (prev_end N P w ws z j.2) [
+      | inl e ↦ inr (ap (λ n. lists n (w ∷ ws)) e ∙ lists_here w ws)
+      | inr l ↦ inr (lists_more (P z) w ws l)
+    ]
+
+last_most : (N P : ℕ → ℕ) (a : ℕ) (zs : List ℕ) (z x : ℕ) → Joined N P a zs z → Rising zs → lists x zs ≡ true → x ≤ P z
+last_most N P a [] z x j r h = absurd (false≢true h)
+last_most N P a (w ∷ ws) z x j r h =
+    elim (lists_cases x w ws h) [
+      | inl e ↦
+          (elim (prev_end N P w ws z j.2) [
+            | inl is ↦ omega (arith, e, is)
+            | inr on ↦ let lt = r.0 (P z) on in omega (arith, e, lt)
+          ])
+      | inr l ↦ last_most N P w ws z x j.2 r.1 l
+    ]
+
+pub greatest_by : (next prev : List ℕ) (room : ℕ) (ids : List ℕ) (v x : ℕ) → IsChain next prev room ids → Rising ids → v ≡ get_or prev room v → lists x ids ≡ true → x ≤ v
+greatest_by next prev room ids v x k r e on =
+    let is : v ≡ get_or prev room 0 = read prev room room v k.long_prev (omega arith) e in
+    let le : x ≤ get_or prev room 0 = last_most (slice_index next) (slice_index prev) room ids room x k.joined r on in
+    omega (arith, is, le)
 
 -- ---- a new ring
 

@@ -20,7 +20,7 @@ use Rattle.rv_templ.proofs.inside.LinkedPairs.{before_second}
 use Rattle.rv_templ.proofs.inside.LinkedWindows.{head_at}
 use Rattle.rv_templ.proofs.inside.PairWalk.{node_here}
 use Rattle.rv_templ.proofs.inside.PartnerWalk.{passes_each}
-use Rattle.rv_templ.proofs.NodeLists.{listed_at, gate_split, later_than, sooner_than, is_after, rising_last, each_of}
+use Rattle.rv_templ.proofs.NodeLists.{listed_at, live_last, gate_split, later_than, sooner_than, is_after, rising_last, each_of}
 use Rattle.rv_templ.proofs.Options.{after_none}
 use Rattle.rv_templ.proofs.PairSteps.{partner_pass}
 use Rattle.rv_templ.proofs.inside.NoteLaws.{fewer_on, fewer_set, fewer_noted, fewer_zero, kept_split, kept_before, noted_last, noted_far, unknown_noted, unknown_split, quiet_more, free_quiet, not_joined}
@@ -97,17 +97,31 @@ free_passes nodes a b m g h r d e all =
 pub mate_none : (nodes : List Node) (a : ℕ) → NoTwice (ids_in nodes) → live a nodes ≡ true → NoMate nodes a → partner (node_gate a nodes) (gates_in (nodes_from (next_in a (ids_in nodes)) nodes)) ≡ None
 mate_none nodes a d on k = grind (arith, node_here, gates_in, nodes_from, next_in, ids_in)
 
+-- numbers that rise after a are no more than those up to the greatest one
+few_after : (l : List Node) (a left : ℕ) → Rising (ids_in l) → ((x : ℕ) → live x l ≡ true → a < x) → ((x : ℕ) → live x l ≡ true → x ≤ a + left) → length l ≤ left
+few_after [] a left r late most = omega arith
+few_after (n ∷ rest) a left r late most =
+    let here : live n.id (n ∷ rest) ≡ true = listed_at [] n rest in
+    let lt = late n.id here in
+    let le = most n.id here in
+    let fewer = few_after rest n.id (a + left - n.id) r.1 r.0 (λ x on. let le1 = most x (live_last x (n ∷ []) rest on) in omega (arith, le, le1)) in
+    omega (arith, lt, le, fewer)
+
 -- with all after it it commutes
 pub quiet_end : (nodes : List Node) (a left : ℕ) → Rising (ids_in nodes) → NoTwice (ids_in nodes) → live a nodes ≡ true → NoMate nodes a → ((x : ℕ) → live x nodes ≡ true → a < x → rule (node_gate a nodes) (node_gate x nodes) ≡ true)
-    → length (nodes_from (next_in a (ids_in nodes)) nodes) ≤ left → Quiet 1 (node_gate a nodes) (nodes_from (next_in a (ids_in nodes)) nodes) left
-quiet_end nodes a left r d on k all le =
+    → ((x : ℕ) → live x nodes ≡ true → x ≤ a + left) → Quiet 1 (node_gate a nodes) (nodes_from (next_in a (ids_in nodes)) nodes) left
+quiet_end nodes a left r d on k all most =
     let h = node_here nodes k.before k.first k.after a d k.split k.is on in
     let g = node_gate a nodes in
     let rest : List Node = nodes_from (next_in a (ids_in nodes)) nodes in
-    let whole : nodes ≡ (k.before ++ (k.first ∷ [])) ++ (k.after ++ []) = k.split ∙ sym (append_assoc k.before (k.first ∷ []) k.after) ∙ ap (λ l. (k.before ++ (k.first ∷ [])) ++ l) (sym (append-nil k.after)) in
+    let front : List Node = k.before ++ (k.first ∷ []) in
+    let short : nodes ≡ front ++ k.after = k.split ∙ sym (append_assoc k.before (k.first ∷ []) k.after) in
+    let whole : nodes ≡ front ++ (k.after ++ []) = short ∙ ap (λ l. front ++ l) (sym (append-nil k.after)) in
     let r2 : Rising (ids_in (k.before ++ (k.first ∷ k.after))) = subst (λ (l : List Node). Rising (ids_in l)) k.split r in
-    let each = each_of (λ x h. rule g h ≡ true) nodes (k.before ++ (k.first ∷ [])) k.after [] whole d (λ x l o. all x o (let q = later_than k.before k.first k.after x r2 l in omega (arith, q, k.is))) in
-    quiet_more 1 g rest (length rest) left le (free_quiet g rest (mate_none nodes a d on k) (ap (λ l. passes g (gates_in l)) h.1 ∙ passes_each g k.after each))
+    let late : (x : ℕ) → live x k.after ≡ true → a < x = λ x l. let q = later_than k.before k.first k.after x r2 l in omega (arith, q, k.is) in
+    let each = each_of (λ x h. rule g h ≡ true) nodes front k.after [] whole d (λ x l o. all x o (late x l)) in
+    let few = few_after k.after a left (rising_last front k.after (subst (λ (l : List Node). Rising (ids_in l)) short r)) late (λ x l. most x (ap (live x) short ∙ live_last x front k.after l)) in
+    quiet_more 1 g rest (length rest) left (omega (arith, few, ap length h.1)) (free_quiet g rest (mate_none nodes a d on k) (ap (λ l. passes g (gates_in l)) h.1 ∙ passes_each g k.after each))
 
 -- up to a node with which it does not commute
 stop_walk : (nodes front rest : List Node) (g : Shape) (s a far : ℕ) → NoTwice (ids_in nodes) → Rising (ids_in rest) → nodes ≡ front ++ rest → partner g (gates_in rest) ≡ None

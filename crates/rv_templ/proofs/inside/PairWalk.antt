@@ -1,5 +1,5 @@
 -- The walk along all nodes for the first pair.
-use Rattle.std.proofs.Common.{◌≡◌, ◌≢◌, ℕ, ◌+◌, ◌-◌, ◌≤◌, true, false, List, [], ◌∷◌, ◌++◌, length, refl, sym, ◌∙◌, ap, arith, subst, append_assoc, length-append, take}
+use Rattle.std.proofs.Common.{◌≡◌, ◌≢◌, ℕ, ◌+◌, ◌≤◌, true, false, List, [], ◌∷◌, ◌++◌, length, refl, sym, ◌∙◌, ap, arith, subst, append_assoc, length-append, take}
 use Rattle.std.specs.Prelude.{Option, Some, None}
 use Rattle.std.proofs.Math.Seq.{take-append_seam}
 use Rattle.std.proofs.lemmas.Option.{none-some, same_Some}
@@ -88,15 +88,6 @@ along_more nodes old new place at next a d w e some o en =
       at_is = en ∙ there_next nodes w.before w.after a t d;
       known = known_append new w.before (t.node ∷ []) (known_others old new a w.before (there_off nodes w.before w.after a t d) o w.known) ((λ z. some (ap (λ x. noted x new) (sym t.is) ∙ z)), tt);
     }
-
--- so many stand after it
-pub along_left : (nodes : List Node) (notes : List ℕ) (place most : ℕ) (at : Option ℕ) (a : ℕ) → NoTwice (ids_in nodes) → Along nodes notes place at → at ≡ Some a → length nodes ≤ most
-    → length (nodes_from (next_in a (ids_in nodes)) nodes) ≤ most - place
-along_left nodes notes place most at a d w e le =
-    let t = there nodes w.before w.after at a w.split w.at_is e in
-    let n = w.count in
-    let rest = (node_here nodes w.before t.node t.rest a d t.split t.is (there_live nodes w.before w.after a t)).1 in
-    omega (arith, n, le, ap length rest, ap length t.split, length-append w.before (t.node ∷ t.rest))
 
 -- the nodes before it
 pub along_known : (nodes : List Node) (old new : List ℕ) (place : ℕ) (at : Option ℕ) (a : ℕ) → NoTwice (ids_in nodes) → Along nodes old place at → at ≡ Some a → Others a old new → AllNoted new (take place nodes)

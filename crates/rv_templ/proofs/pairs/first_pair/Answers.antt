@@ -4,12 +4,8 @@ use Rattle.rv_links.specs.Nodes.{Node, ids_in}
 use Rattle.rv_templ.specs.inside.Mates.{Mate}
 use Rattle.rv_templ.specs.inside.Notes.{Noted}
 use Rattle.rv_templ.proofs.inside.LinkedWindows.{shorter_next}
-use Rattle.rv_templ.proofs.inside.PairWalk.{along_live, along_more, along_left, along_known, along_all, along_hit, no_pair}
+use Rattle.rv_templ.proofs.inside.PairWalk.{along_live, along_more, along_known, along_all, along_hit, no_pair}
 use Rattle.rv_templ.proofs.pairs.first_pair.Goals as goal
-
-pub mate_or_note-mate-requires-clause-left : goal.mate_or_note-mate-requires-clause-left
-mate_or_note-mate-requires-clause-left c =
-    rw c.loop-at.invariant.nodes (along_left c.args.linked.now.nodes c.loop-at.linked.notes c.loop-at.place c.args.most c.loop-at.at c.in-Some.node c.recall_invariant.ensures.once c.loop-at.invariant.along c.in-Some.is c.requires.most)
 
 pub returns-in-Some-mate-clause-known : goal.returns-in-Some-mate-clause-known
 returns-in-Some-mate-clause-known c =
