@@ -19,6 +19,9 @@ use rv_mct::{Aux, flips_of};
 use rv_net::{MOST_OPS, Net};
 use std::alloc::{AllocError, Global};
 
+// Of more operations than these no phases are joined: it would take several times the time and memory.
+const MOST_JOINED: usize = 1 << 20;
+
 // The flips of all gates.
 fn all_flips(alloc: Global, gates: &[Gate]) -> Result<Vec<Gate>, AllocError>
     ensures { IfOk result (λ flips. flips.items ≡ flat_map flips_of gates.now) }
@@ -31,11 +34,18 @@ fn all_flips(alloc: Global, gates: &[Gate]) -> Result<Vec<Gate>, AllocError>
     Ok(flips)
 }
 
+fn is_large(net: &Net) -> bool {
+    net.ops().len() > MOST_JOINED
+}
+
 // A network with joined phases, if one is found with no more T than this one.
 fn found(alloc: Global, circuit: &Circuit, aux: Aux, net: &Net) -> Result<Option<Net>, AllocError>
     requires { MapsRelative aux circuit.now net.now }
     ensures { IfOk result (λ o. IfSome o (MapsJoined aux circuit.now)) }
 {
+    if is_large(net) {
+        return Ok(None);
+    }
     circuit.recall_invariant();
     let lines = circuit.line_count();
     let all = net.lines();
@@ -60,7 +70,8 @@ fn found(alloc: Global, circuit: &Circuit, aux: Aux, net: &Net) -> Result<Option
 /// The network of a circuit with gates of any size, over {x, h, z, s, t, tdg, cx}: on its lines, and after them as
 /// many helper lines as [`decompose`](rv_mct::decompose) adds.
 ///
-/// It has no more T than that of [`relative`](rv_ladder::relative), which is refused where this one is.
+/// It has no more T than that of [`relative`](rv_ladder::relative), which is refused where this one is. Where that one
+/// has more than 2^20 operations, it is written.
 pub fn joined(alloc: Global, circuit: &Circuit, aux: Aux) -> Result<Net, RelativeFault>
     ensures ok { IfOk result (λ net. MapsJoined aux circuit.now net) }
     ensures too_many_lines { (n : ℕ) → (result ≡ Err (RelativeFault.TooManyLines n))
