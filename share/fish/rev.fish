@@ -48,7 +48,7 @@ complete -c rev -n '__fish_seen_subcommand_from realize' -l goal -x -a 't cx qua
 complete -c rev -n '__fish_seen_subcommand_from resynth' -l goal -x -a 'quantum t gates' -d 'what the search is to make small'
 complete -c rev -n '__fish_seen_subcommand_from reduce' -l goal -x -a 'ops t cx depth' -d 'what a longer search is to make small; without it a quick one makes operations and T fewer'
 complete -c rev -n '__fish_seen_subcommand_from esop' -l effort -x -d 'how long the search goes on, 0 to 1000; needs --goal'
-complete -c rev -n '__fish_seen_subcommand_from realize' -l curve -d 'what circuits on more and more lines cost, in place of a circuit; of tables'
+complete -c rev -n '__fish_seen_subcommand_from compute realize' -l curve -d 'what circuits on more and more lines cost, in place of a circuit'
 complete -c rev -n '__fish_seen_subcommand_from compute realize' -l effort -x -d 'how long the search goes on, 0 to 1000'
 complete -c rev -n '__fish_seen_subcommand_from resynth' -l effort -x -d 'how long the search goes on, 0 to 1000'
 complete -c rev -n '__fish_seen_subcommand_from reduce' -l effort -x -d 'how long the search goes on, 0 to 1000; needs --goal'

@@ -28,6 +28,7 @@ use Rattle.rv_cmd.specs.Commands.Draw.{draw_row}
 use Rattle.rv_cmd.specs.Commands.Esop.{esop_row}
 use Rattle.rv_cmd.specs.Commands.Flow.{flow_row, flow_synthesis}
 use Rattle.rv_cmd.specs.Commands.Map.{map_row}
+use Rattle.rv_cmd.specs.Commands.Compute.{compute_row}
 use Rattle.rv_cmd.specs.Commands.Realize.{realize_row}
 use Rattle.rv_cmd.specs.Goals.{search_goal}
 use Rattle.rv_cmd.specs.Commands.Reduce.{reduce_row}
@@ -112,6 +113,10 @@ realize_alike form.Perm curve asked seed most = tt
 realize_alike _ true asked seed most = tt
 realize_alike _ false asked seed most = tt
 
+compute_alike : (curve : Bool) (asked : search.Goal) (effort seed most : ℕ) → NeverDiffers (compute_row curve asked effort seed most)
+compute_alike true asked effort seed most = tt
+compute_alike false asked effort seed most = tt
+
 -- ---- `simulate`
 
 words_alike : (wrong : Option ℕ) (text : List ℕ) → IsAlike (words_end wrong text)
@@ -157,6 +162,7 @@ rows_alike command.Draw settings other = draw_alike settings.origin settings.pic
 rows_alike command.Esop settings other = esop_alike settings.to settings.goal
 rows_alike command.Flow settings other = flow_alike settings.origin (flow_synthesis settings.method) settings.simplify settings.blocks settings.aux
 rows_alike command.Realize settings other = realize_alike settings.origin settings.curve (search_goal settings.goal) settings.seed settings.lines
+rows_alike command.Compute settings other = compute_alike settings.curve (search_goal settings.goal) settings.effort settings.seed settings.lines
 rows_alike _ settings other = tt
 
 row-alike : (row : Row) → IsAlikeRow row → (found : List ℕ) (contents : Contents) → IsAlike (outcome row found contents).end

@@ -93,7 +93,7 @@ row_for command.Route s = reads_first route_row
 row_for command.Draw s = reads_first (draw_row s.origin s.picture s.wrap)
 row_for command.Compare s = reads_first (compare_row s.origin s.all s.nodes)
 row_for command.Resynth s = reads_first (resynth_row (resynth_goal s.goal) s.effort s.marks)
-row_for command.Compute s = reads_first (compute_row s.lines)
+row_for command.Compute s = reads_first (compute_row s.curve (search_goal s.goal) s.effort s.seed s.lines)
 row_for command.Optimal s = reads_first (optimal_row s.gates)
 row_for command.Realize s = reads_first (realize_row s.origin s.curve (search_goal s.goal) s.seed s.lines)
 

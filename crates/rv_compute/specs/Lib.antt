@@ -2,3 +2,4 @@ pub mod Lines
 pub mod Computed
 pub mod Bounds
 pub mod inside
+pub mod Points

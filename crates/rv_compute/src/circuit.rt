@@ -10,6 +10,7 @@ ghost use Rattle.rv_compute.specs.declared.circuit.ComputeFault.TheVariants.{Mem
 use crate::found::{best_circuit, fewer};
 use crate::options::ComputeOptions;
 use crate::own::on_own_lines;
+use crate::searched::{MOST_NODES, Searched, look_for_plans};
 use rv_blif::{Logic, Node};
 use rv_gate::{Circuit, MOST_GATES, MOST_LINES};
 use rv_schedule::{best_plan, net_of};
@@ -36,9 +37,6 @@ impl From<AllocError> for ComputeFault {
         ComputeFault::Mem
     }
 }
-
-// More nodes than this are not looked at where there are lines for fewer.
-const MOST_NODES: usize = 1 << 16;
 
 // By how many more work lines an order is looked for that doesn't fit.
 static MORE_LINES: [u8; 8] = [1, 2, 4, 8, 16, 32, 64, 128];
@@ -110,6 +108,56 @@ fn too_many_lines(
     }
 }
 
+// The fewest work lines of a plan.
+fn least(searched: &Option<Searched>) -> Option<u8> {
+    match searched {
+        Some(searched) => searched.least(),
+        None => None,
+    }
+}
+
+/// A circuit for a logic network on at most so many lines, by what was searched.
+pub(crate) fn on_lines(
+    alloc: Global,
+    logic: &Logic,
+    options: ComputeOptions,
+    searched: &Option<Searched>,
+) -> Result<Circuit, ComputeFault>
+    requires { options.lines ≤ MOST_LINES }
+    ensures computed { IfOk result (IsComputed logic.now) }
+    ensures gives { IfOk result (Gives logic.now) }
+    ensures lines { IfOk result (λ c. length c.names ≤ options.lines) }
+    ensures too_many_lines { (found : ℕ) → result ≡ Err (ComputeFault.TooManyLines found)
+        → (options.lines < found) × (found ≤ line_bound logic.now) }
+    ensures too_many_gates { result ≡ Err ComputeFault.TooManyGates → MOST_GATES < gate_bound logic.now }
+{
+    let lines = logic.input_count() + logic.output_count();
+    if lines > u32::from(options.lines) {
+        return Err(ComputeFault::TooManyLines(lines));
+    }
+    let nodes = logic.nodes().len();
+    if nodes <= MOST_NODES {
+        let extra = options.lines - lines as u8;
+        if let Some(circuit) = best_circuit(alloc, logic, extra, options.goal, searched)? {
+            return Ok(circuit);
+        }
+    }
+    if lines + nodes as u32 > u32::from(options.lines) {
+        return Err(ComputeFault::TooManyLines(too_many_lines(
+            alloc,
+            logic,
+            options.lines,
+            lines,
+            least(searched),
+        )?));
+    }
+    if !gates_fit(logic) {
+        return Err(ComputeFault::TooManyGates);
+    }
+    let circuit = on_own_lines(alloc, logic)?;
+    Ok(circuit)
+}
+
 /// A circuit for a logic network, on at most so many lines.
 ///
 /// Lines `x0`, `x1`, .. are the inputs, which stand as they were at the end and are garbage. Lines `y0`, `y1`, .. are
@@ -132,30 +180,6 @@ pub fn compute(
         → (options.lines < found) × (found ≤ line_bound logic.now) }
     ensures too_many_gates { result ≡ Err ComputeFault.TooManyGates → MOST_GATES < gate_bound logic.now }
 {
-    let lines = logic.input_count() + logic.output_count();
-    if lines > u32::from(options.lines) {
-        return Err(ComputeFault::TooManyLines(lines));
-    }
-    let nodes = logic.nodes().len();
-    let mut least = None;
-    if nodes <= MOST_NODES {
-        let extra = options.lines - lines as u8;
-        if let Some(circuit) = best_circuit(alloc, logic, extra, options, &mut least)? {
-            return Ok(circuit);
-        }
-    }
-    if lines + nodes as u32 > u32::from(options.lines) {
-        return Err(ComputeFault::TooManyLines(too_many_lines(
-            alloc,
-            logic,
-            options.lines,
-            lines,
-            least,
-        )?));
-    }
-    if !gates_fit(logic) {
-        return Err(ComputeFault::TooManyGates);
-    }
-    let circuit = on_own_lines(alloc, logic)?;
-    Ok(circuit)
+    let searched = look_for_plans(alloc, logic, options)?;
+    on_lines(alloc, logic, options, &searched)
 }

@@ -32,6 +32,20 @@ fn is_cheaper(
     Ok(cost < cost_of(alloc, goal, other.line_count(), other.gates())?)
 }
 
+/// Whether a circuit on more lines than another is worth them: it costs less, and by the goal of lines has fewer T gates.
+pub(crate) fn is_worth_lines(
+    alloc: Global,
+    goal: Goal,
+    new: &Circuit,
+    old: &Circuit,
+) -> Result<bool, AllocError> {
+    let part = match goal {
+        Goal::Lines => Goal::T,
+        _ => goal,
+    };
+    is_cheaper(alloc, part, new, old)
+}
+
 /// Whether there is a circuit, and it costs less than another, if there is one.
 pub(crate) fn is_better(
     alloc: Global,

@@ -5,21 +5,14 @@ ghost use Rattle.rv_compute.specs.Computed.{IsComputedWithin};
 ghost use Rattle.rv_compute.specs.inside.Held.{line_count};
 
 use crate::cost::is_better;
-use crate::options::ComputeOptions;
 use crate::planned::planned;
 use crate::run::certified;
+use crate::searched::Searched;
 use rv_blif::Logic;
 use rv_gate::{Circuit, MOST_LINES};
 use rv_price::Goal;
 use rv_schedule::{best_plan, fewest_plan, net_of};
 use std::alloc::{AllocError, Global};
-
-/// A circuit, if one was found, and the fewest work lines that were met.
-#[derive(Drop)]
-pub(crate) struct Found {
-    pub(crate) circuit: Option<Circuit>,
-    pub(crate) least: Option<u8>,
-}
 
 /// The lesser one.
 pub(crate) fn fewer(one: Option<u8>, other: Option<u8>) -> Option<u8> {
@@ -51,26 +44,24 @@ fn ordered(
     }
 }
 
-/// The best circuit that is found on at most so many work lines, if there is one. Notes the fewest work lines of a plan.
+/// The best circuit that is found on at most so many work lines, if there is one.
 pub(crate) fn best_circuit(
     alloc: Global,
     logic: &Logic,
     extra: u8,
-    options: ComputeOptions,
-    least: &mut Option<u8>,
+    goal: Goal,
+    searched: &Option<Searched>,
 ) -> Result<Option<Circuit>, AllocError>
     requires { line_count logic.now extra ≤ MOST_LINES }
     ensures { IfOk result (λ o. IfSome o (IsComputedWithin logic.now (line_count logic.now extra))) }
 {
-    let one = ordered(alloc, logic, extra, options.goal)?;
-    if options.effort == 0 {
-        return Ok(one);
+    let one = ordered(alloc, logic, extra, goal)?;
+    match searched {
+        Some(searched) => {
+            let other = planned(alloc, logic, extra, searched, goal)?;
+            let is_other = is_better(alloc, goal, &other, &one)?;
+            Ok(if is_other { other } else { one })
+        }
+        None => Ok(one),
     }
-    let Found {
-        circuit: other,
-        least: met,
-    } = planned(alloc, logic, extra, options)?;
-    *least = met;
-    let is_other = is_better(alloc, options.goal, &other, &one)?;
-    Ok(if is_other { other } else { one })
 }

@@ -17,7 +17,9 @@ mod options;
 mod own;
 mod place;
 mod planned;
+mod points;
 mod run;
+mod searched;
 mod start;
 mod step;
 mod sum;
@@ -25,3 +27,4 @@ mod turns;
 
 pub use circuit::{ComputeFault, compute};
 pub use options::ComputeOptions;
+pub use points::{Point, curve};

@@ -4,5 +4,5 @@
 mod report;
 mod row;
 
-pub use report::{Curve, write_curve};
+pub use report::{Curve, Search, write_curve};
 pub use row::{Counts, Row, row_of};

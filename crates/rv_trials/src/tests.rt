@@ -121,6 +121,13 @@ macro_rules! circuit_report {
     };
 }
 
+// The names of the numbers in a report of circuits on more and more lines.
+macro_rules! curve {
+    ($rows:literal) => {
+        concat!("lines t cnot quantum gates call\n", $rows)
+    };
+}
+
 // The report of a network: its lines, operations, T, H and CNOT, its depth and T-depth.
 macro_rules! network_report {
     ($lines:literal, $operations:literal, $t:literal, $h:literal, $cnot:literal, $depth:literal, $t_depth:literal) => {

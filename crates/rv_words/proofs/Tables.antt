@@ -1,7 +1,7 @@
 -- What tables of arguments ask for.
 use Rattle.std.proofs.Common.{◌≡◌, [], ◌∷◌, Err, None, Some, refl, codes}
 use Rattle.clap.proofs.OnLiterals.{clap_on_literals}
-use Rattle.rv_words.specs.declared.command.Command.TheVariants.{Synth, Embed, Esop, Decompose, Map, Simulate, Demo, Fold, Check, Single, Route, Compute, Realize}
+use Rattle.rv_words.specs.declared.command.Command.TheVariants.{Synth, Embed, Esop, Decompose, Map, Simulate, Demo, Fold, Check, Single, Route, Compute, Realize, Resynth}
 use Rattle.rv_words.specs.declared.fault.ArgumentFault.TheVariants.{NotUnderstood, UnknownCommand, NotUsed, BadValue, InputCount, TwiceStandard}
 use Rattle.rv_words.specs.declared.options.TheConstants.{METHOD, TO, FROM, AUX, LINES, SEED, ALL, GOAL, EFFORT, BLOCKS, AS, GATES, CURVE, CONSTANTS}
 use Rattle.rv_words.specs.Line.{value_of, line, refusal}
@@ -164,9 +164,9 @@ curve_of_permutations : settings_of (codes "realize" ∷ codes "--curve" ∷ cod
 unfolding settings_of read read_by values_in refusal value_of line clap_on_literals
 curve_of_permutations = refl
 
-curve_of_networks : settings_of (codes "compute" ∷ codes "--curve" ∷ []) ≡ Err (NotUsed Compute CURVE)
+curve_of_circuits : settings_of (codes "resynth" ∷ codes "--curve" ∷ []) ≡ Err (NotUsed Resynth CURVE)
 unfolding settings_of read read_by values_in refusal value_of line clap_on_literals
-curve_of_networks = refl
+curve_of_circuits = refl
 
 constants_by_words : settings_of (codes "check" ∷ codes "--constants" ∷ codes "a.real" ∷ []) ≡ Err (NotUsed Check CONSTANTS)
 unfolding settings_of read read_by values_in refusal value_of line clap_on_literals

@@ -36,7 +36,7 @@ usage_of Route = row (codes "route") 0 1 []
 usage_of Draw = row (codes "draw") 0 1 (FROM ∷ WRAP ∷ AS ∷ [])
 usage_of Compare = row (codes "compare") 1 2 (FROM ∷ ALL ∷ NODES ∷ [])
 usage_of Resynth = row (codes "resynth") 0 1 (GOAL ∷ EFFORT ∷ SEED ∷ MARKS ∷ [])
-usage_of Compute = row (codes "compute") 0 1 (LINES ∷ GOAL ∷ EFFORT ∷ SEED ∷ [])
+usage_of Compute = row (codes "compute") 0 1 (LINES ∷ GOAL ∷ EFFORT ∷ SEED ∷ CURVE ∷ [])
 usage_of Optimal = row (codes "optimal") 0 1 (GATES ∷ [])
 usage_of Realize = row (codes "realize") 0 1 (FROM ∷ LINES ∷ GOAL ∷ EFFORT ∷ SEED ∷ CURVE ∷ [])
 

@@ -110,7 +110,7 @@ pub(crate) fn usage_of(command: Command) -> Usage
         Command::Draw => row("draw", 0, 1, &[FROM, WRAP, AS]),
         Command::Compare => row("compare", 1, 2, &[FROM, ALL, NODES]),
         Command::Resynth => row("resynth", 0, 1, &[GOAL, EFFORT, SEED, MARKS]),
-        Command::Compute => row("compute", 0, 1, &[LINES, GOAL, EFFORT, SEED]),
+        Command::Compute => row("compute", 0, 1, &[LINES, GOAL, EFFORT, SEED, CURVE]),
         Command::Optimal => row("optimal", 0, 1, &[GATES]),
         Command::Realize => row("realize", 0, 1, &[FROM, LINES, GOAL, EFFORT, SEED, CURVE]),
     }

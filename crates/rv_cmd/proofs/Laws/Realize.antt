@@ -48,7 +48,7 @@ module _ (most : ℕ) (pla : TwoLevel) where
   }
 
   -- circuits are found on more and more lines
-  pub curve-answers : (asked : Goal) (seed : ℕ) (curve : Curve) → IsCurve asked seed most pla (curve_text curve.goal curve.seed curve.rows.items)
+  pub curve-answers : (asked : Goal) (seed : ℕ) (curve : Curve) → IsCurve asked seed most pla (curve_text curve.search curve.goal curve.seed curve.rows.items)
       → IsProductOf (found_within (realize_limits pla) (product_text (product.Curve curve))) (IsCurve asked seed most pla) (product.Curve curve)
   curve-answers asked seed curve meant = record { kept = tt; is = refl; means = meant }
 

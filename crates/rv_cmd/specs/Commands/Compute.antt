@@ -1,12 +1,19 @@
--- `compute`: a circuit that a search finds for a logic network.
-use Rattle.std.specs.Prelude.{◌≡◌, ℕ, ◌+◌, ◌<◌, ◌≤◌, List, [], ◌∷◌, length, Ok}
+-- `compute`: a circuit that a search finds for a logic network; or what such circuits cost.
+use Rattle.std.specs.Prelude.{◌≡◌, ℕ, ◌+◌, ◌<◌, ◌≤◌, Bool, true, false, List, [], ◌∷◌, All, length, map, Ok}
 use Rattle.rv_gate.specs.Circuit.{Cascade}
 use Rattle.rv_gate.specs.declared.circuit.TheConstants.{MOST_GATES}
 use Rattle.rv_blif.specs.Logic.{Logic}
 use Rattle.rv_compute.specs.Bounds.{gate_bound, line_bound}
 use Rattle.rv_compute.specs.Computed.{Gives, IsComputed}
+use Rattle.rv_compute.specs.Points.{AreOnMore, IsPoint}
 use Rattle.rv_compute.specs.declared.circuit.ComputeFault.{ComputeFault}
 use Rattle.rv_compute.specs.declared.circuit.ComputeFault.TheVariants as fault
+use Rattle.rv_compute.specs.declared.points.Point.{Point}
+use Rattle.rv_curve.specs.Report.{curve_text}
+use Rattle.rv_curve.specs.Row.{row_of}
+use Rattle.rv_curve.specs.declared.report.Search.TheVariants as command
+use Rattle.rv_curve.specs.declared.row.Row as counted
+use Rattle.rv_price.specs.declared.goal.Goal.{Goal}
 use Rattle.rv_real.specs.Reading.{real_of}
 use Rattle.rv_real.specs.Text.{text_of}
 use Rattle.rv_faults.specs.declared.fault.InputFault.{InputFault}
@@ -55,5 +62,22 @@ pub record IsComputation (most : ℕ) (network : Logic) (text : List ℕ) : Type
   pub gives : Gives network circuit
   pub lines : length circuit.names ≤ most
 
-abbrev pub compute_row : ℕ → ReadsFirst
-compute_row most = finds logic (compute_limits most) (EndsInVain most) (IsComputation most)
+-- what a circuit costs, and the lines and the effort for which it was asked
+abbrev pub row_at : ℕ → Point → counted.Row
+row_at effort p = row_of p.lines effort p.circuit
+
+-- The text is the report of circuits, at least one, each on more lines than those before it. By its marks each gives the
+-- network's outputs at each input word, on at most as many lines as its call allows, which are no more than so many. The
+-- goal, the effort and the seed of the calls are those that were asked for.
+pub record IsCurve (goal : Goal) (effort seed most : ℕ) (network : Logic) (text : List ℕ) : Type 0 where
+  pub points : List Point
+  pub is : text ≡ curve_text command.Compute goal seed (map (row_at effort) points)
+  pub some : 1 ≤ length points
+  pub computed : All (IsPoint network most) points
+  pub rising : AreOnMore points
+
+-- a circuit, or the report of several
+abbrev pub compute_row : Bool → Goal → ℕ → ℕ → ℕ → ReadsFirst
+compute_row true goal effort seed most =
+    finds logic (compute_limits most) (EndsInVain most) (IsCurve goal effort seed most)
+compute_row false goal effort seed most = finds logic (compute_limits most) (EndsInVain most) (IsComputation most)

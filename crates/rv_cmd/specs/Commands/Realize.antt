@@ -7,6 +7,7 @@ use Rattle.rv_pla.specs.Pla.{TwoLevel}
 use Rattle.rv_price.specs.declared.goal.Goal.{Goal}
 use Rattle.rv_curve.specs.Report.{curve_text}
 use Rattle.rv_curve.specs.Row.{row_of}
+use Rattle.rv_curve.specs.declared.report.Search.TheVariants as command
 use Rattle.rv_curve.specs.declared.row.Row as counted
 use Rattle.rv_realize.specs.Realized.{AreOnMore, IsInPlace, IsPoint, IsRealized, IsTooFew, IsTooLong}
 use Rattle.rv_realize.specs.declared.options.RealizeFault.{RealizeFault}
@@ -65,7 +66,7 @@ row_at p = row_of p.lines p.effort p.circuit
 -- The goal and the seed of the calls are those that were asked for.
 pub record IsCurve (goal : Goal) (seed most : ℕ) (pla : TwoLevel) (text : List ℕ) : Type 0 where
   pub points : List Point
-  pub is : text ≡ curve_text goal seed (map row_at points)
+  pub is : text ≡ curve_text command.Realize goal seed (map row_at points)
   pub some : 1 ≤ length points
   pub realized : All (IsPoint pla most) points
   pub rising : AreOnMore points

@@ -31,7 +31,7 @@ product_text (Summary summary) = summary_text summary
 product_text (Verdict lines verdict) = verdict_text lines verdict
 product_text (Witness lines word) = witness_text lines word
 product_text (Comparison inputs answer) = comparison_text inputs answer
-product_text (Curve curve) = curve_text curve.goal curve.seed curve.rows.items
+product_text (Curve curve) = curve_text curve.search curve.goal curve.seed curve.rows.items
 product_text (Drawing circuit picture wrap) = circuit_text picture wrap circuit
 product_text (NetDrawing lines net picture wrap) = network_text picture wrap lines net.ops
 

@@ -12,7 +12,7 @@ ghost use Rattle.rv_cmd.specs.inside.Making.{Makes};
 use crate::names::name_of;
 use crate::product::{Made, Product};
 use crate::steps::search_goal;
-use rv_curve::{Curve, Row, row_of};
+use rv_curve::{Curve, Row, Search, row_of};
 use rv_faults::{InputFault, Refusal, Unmade};
 use rv_gate::MOST_GATES;
 use rv_inputs::read_one;
@@ -110,12 +110,13 @@ fn curve_for(alloc: Global, pla: &Pla, options: RealizeOptions) -> Result<Curve,
     requires { options.lines ≤ MOST_LINES }
     ensures curve { IfOk result
         (λ curve. IsCurve options.goal options.seed options.lines pla.now
-        (curve_text curve.goal curve.seed curve.rows.items)) }
+        (curve_text curve.search curve.goal curve.seed curve.rows.items)) }
     ensures too_many_lines { (n : ℕ) → result ≡ Err (TooManyLines n) → IsTooFew pla.now options.lines n }
     ensures too_many_gates { result ≡ Err TooManyGates → IsTooLong pla.now options.lines }
 {
     match points_for(alloc, pla, options) {
         Ok(points) => Ok(Curve {
+            search: Search::Realize,
             goal: options.goal,
             seed: options.seed,
             rows: rows_of(alloc, &points)?,

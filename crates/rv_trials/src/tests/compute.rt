@@ -126,6 +126,39 @@ fn a_circuit_with_work_lines_gives_the_network(rt: HostRuntime) {
     expect_over_two(&rt, alloc, words, first, second, told(0, "same\n"));
 }
 
+// A Toffoli gate adds a conjunction, and nothing one that is never true: on its inputs and outputs no circuit is cheaper.
+#[test]
+fn a_curve_tells_costs_and_calls(rt: HostRuntime) {
+    const CASES: [(&str, &str, u8, &str); 4] = [
+        (
+            "compute --curve --effort 1",
+            over!("s", ".names a b c s\n1-1 1\n"),
+            0,
+            curve!("4 7 6 5 1 rev compute --lines 4 --goal t --effort 1 --seed 0\n"),
+        ),
+        // Without a search the circuit is that on so many lines as there may be.
+        (
+            "compute --lines 5 --goal gates --effort 0 --seed 9 --curve",
+            over!("s", ".names a b c s\n1-1 1\n"),
+            0,
+            curve!("4 7 6 5 1 rev compute --lines 5 --goal gates --effort 0 --seed 9\n"),
+        ),
+        (
+            "compute --curve --lines 4 --effort 1",
+            over!("s", ".names s\n"),
+            0,
+            curve!("4 0 0 0 0 rev compute --lines 4 --goal t --effort 1 --seed 0\n"),
+        ),
+        (
+            "compute --curve --lines 3",
+            over!("s", ".names s\n"),
+            5,
+            "-: 4 lines of inputs and outputs are more than 3",
+        ),
+    ];
+    expect_each(&rt, rt.alloc(), &CASES);
+}
+
 // The line is that of the first fault.
 #[test]
 fn a_text_that_denotes_no_network_is_refused(rt: HostRuntime) {

@@ -48,13 +48,6 @@ fn a_permutation_keeps_its_lines_and_marks(rt: HostRuntime) {
     expect_texts(&rt, rt.alloc(), words, "p.txt", &CASES);
 }
 
-// The names of the numbers in a report.
-macro_rules! curve {
-    ($rows:literal) => {
-        concat!("lines t cnot quantum gates call\n", $rows)
-    };
-}
-
 // One Toffoli gate is a conjunction, and none a line that stays; of each there is no cheaper circuit on more lines.
 #[test]
 fn a_curve_tells_costs_and_calls(rt: HostRuntime) {

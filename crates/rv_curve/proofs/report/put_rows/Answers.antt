@@ -11,10 +11,10 @@ pub loop-row-preserved : goal.loop-row-preserved
 loop-row-preserved g c =
     let rows = c.args.rows.now in
     let i = c.loop-row.row-index in
-    adds_more (row_text c.args.goal c.args.seed) rows i _ (slice_get-get_or rows i _ c.loop-row-test.true) c.loop-row.invariant c.put_row.ensures
+    adds_more (row_text c.args.search c.args.goal c.args.seed) rows i _ (slice_get-get_or rows i _ c.loop-row-test.true) c.loop-row.invariant c.put_row.ensures
 
 pub returns : goal.returns
 returns g c =
     let rows = c.args.rows.now in
     let all : length rows ≤ c.loop-row.row-index = omega (arith, c.loop-row-test.false) in
-    adds_as (ap (flat_map (row_text c.args.goal c.args.seed)) (take_all c.loop-row.row-index rows all)) c.loop-row.invariant
+    adds_as (ap (flat_map (row_text c.args.search c.args.goal c.args.seed)) (take_all c.loop-row.row-index rows all)) c.loop-row.invariant

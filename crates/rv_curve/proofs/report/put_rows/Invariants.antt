@@ -6,4 +6,4 @@ use Rattle.rv_curve.proofs.report.put_rows.Given as goal
 
 abbrev pub invariant-loop-row : goal.invariant-loop-row
 invariant-loop-row g l =
-    Adds l.initial.writer (g.O.Sink.view l.initial.out) (flat_map (row_text l.goal l.seed) (take l.row-index l.rows)) l.writer (g.O.Sink.view l.out)
+    Adds l.initial.writer (g.O.Sink.view l.initial.out) (flat_map (row_text l.search l.goal l.seed) (take l.row-index l.rows)) l.writer (g.O.Sink.view l.out)

@@ -20,7 +20,7 @@ returns-in-Ok-circuit_for g c =
 pub returns-in-Ok : goal.returns-in-Ok
 returns-in-Ok g c =
     let e = c.in-Err-circuit_for.ensures in
-    compute-refuses c.args.options.lines c.in-Ok.network c.in-Err-circuit_for.fault c.args.name.now (g.F.Files.view c.args.files.now)
+    compute-refuses c.args.options.lines c.in-Ok.network (IsComputation c.args.options.lines) c.in-Err-circuit_for.fault c.args.name.now (g.F.Files.view c.args.files.now)
     (g.F.Files.view c.read_one.new.files) c.unmade-in-Err-circuit_for.result (λ found is. e.too_many_lines found (ap Err is))
     (λ is. e.too_many_gates (ap Err is))
     (omega (arith, c.if-ends-from.false, c.input_count.ensures.value, c.output_count.ensures.value, c.from.ensures))
@@ -28,7 +28,7 @@ returns-in-Ok g c =
 
 pub returns-then-ends-from : goal.returns-then-ends-from
 returns-then-ends-from g c =
-    compute-cramped c.args.options.lines c.in-Ok.network c.args.name.now (g.F.Files.view c.args.files.now) (g.F.Files.view c.read_one.new.files)
+    compute-cramped c.args.options.lines c.in-Ok.network (IsComputation c.args.options.lines) c.args.name.now (g.F.Files.view c.args.files.now) (g.F.Files.view c.read_one.new.files)
     (c.input_count.result + c.output_count.result) c.unmade.result (omega (arith, c.input_count.ensures.value, c.output_count.ensures.value))
     (omega (arith, c.if-ends-from.true, c.from.ensures)) (c.unmade.ensures ∙ ap unmade_by c.cramped.ensures) c.read_one.ensures.keeps c.in-Ok.ensures.read
 

@@ -1,5 +1,6 @@
 use Rattle.std.proofs.Common.{◌∙◌, ap, map}
 use Rattle.rv_curve.specs.Report.{curve_text}
+use Rattle.rv_curve.specs.declared.report.Search.TheVariants.{Realize}
 use Rattle.rv_cmd.specs.Commands.Realize.{row_at}
 use Rattle.rv_cmd.proofs.commands.realize.curve_for.Goals as goal
 
@@ -8,7 +9,7 @@ returns-in_ok-rows_of-in-Ok-clause-curve c =
     let e = c.in-Ok.ensures in
     let options = c.args.options in record {
       points = c.in-Ok.points.items;
-      is = ap (curve_text options.goal options.seed) (c.in_ok-rows_of-in-Ok.ensures ∙ ap (map row_at) c.deref.ensures.value);
+      is = ap (curve_text Realize options.goal options.seed) (c.in_ok-rows_of-in-Ok.ensures ∙ ap (map row_at) c.deref.ensures.value);
       some = e.some;
       realized = e.realized;
       rising = e.rising;

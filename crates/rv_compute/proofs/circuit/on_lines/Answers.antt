@@ -1,5 +1,5 @@
 use Rattle.rv_compute.proofs.Gives.{gives, gives_found}
-use Rattle.rv_compute.proofs.circuit.compute.Goals as goal
+use Rattle.rv_compute.proofs.circuit.on_lines.Goals as goal
 
 pub returns-in-Some-clause-gives : goal.returns-in-Some-clause-gives
 returns-in-Some-clause-gives c =
