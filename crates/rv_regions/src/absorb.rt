@@ -1,5 +1,5 @@
 // Even terms as changes of odd ones: what can't be is written on few pairs of lines.
-use crate::common::{at, bit, exchange, is_single, lowest, number_of, put_at, without_lowest};
+use crate::common::{add, at, bit, exchange, is_single, lowest, number_of, put_at, without_lowest};
 use crate::echelon::Echelon;
 use crate::flow::{Flow, Term, minus, plus};
 use crate::random::Random;
@@ -209,8 +209,7 @@ impl Absorbing {
     }
 
     fn push_fresh(&mut self, home: usize, set: u64, power: u8) -> Result<(), AllocError> {
-        self.fresh.push(Term { home, set, power })?;
-        Ok(())
+        add(&mut self.fresh, Term { home, set, power })
     }
 
     // The pairs and the single lines are terms of the region.

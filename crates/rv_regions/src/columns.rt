@@ -69,13 +69,6 @@ pub(crate) struct Step {
     left: usize,
 }
 
-fn append(list: &mut Vec<u64>, words: &[u64]) -> Result<(), AllocError> {
-    for word in words {
-        list.push(*word)?;
-    }
-    Ok(())
-}
-
 fn number(low: usize, high: usize) -> usize {
     (high.wrapping_mul(high.wrapping_add(1)) / 2).wrapping_add(low)
 }
@@ -198,7 +191,7 @@ impl Step {
             }
         }
         self.rests.set_others(self.squares.others());
-        append(&mut self.units, self.rests.row())
+        self.units.extend_from_slice(self.rests.row())
     }
 
     fn begin(&mut self, alloc: Global) -> Result<(), AllocError> {
@@ -380,6 +373,11 @@ impl Step {
         Ok(())
     }
 
+    // The groups in any order.
+    fn shuffle(&mut self) {
+        self.groups.sort_unstable_by_key(|group| group.tie);
+    }
+
     /// Takes the best step, of those that are as good the first one in the usual order or in any. Whether there is
     /// one, and how much work is left.
     pub(crate) fn take(
@@ -392,7 +390,7 @@ impl Step {
         self.push_pairs()?;
         self.push_groups(random)?;
         if is_shuffled {
-            self.groups.sort_unstable_by_key(|group| group.tie);
+            self.shuffle();
         }
         self.look(random)?;
         Ok((self.apply()?, self.left))
@@ -469,7 +467,7 @@ impl Step {
         self.begin(alloc)?;
         self.push_pairs()?;
         self.push_groups(random)?;
-        self.groups.sort_unstable_by_key(|group| group.tie);
+        self.shuffle();
         let pairs = self.columns.len().wrapping_mul(self.columns.len());
         let steps = pairs.wrapping_mul(self.squares.words());
         self.left = self.left.saturating_sub(steps);

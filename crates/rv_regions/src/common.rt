@@ -1,4 +1,5 @@
 // Sets of lines, and lists that answer at any place.
+use std::alloc::AllocError;
 
 /// The entry at a place, or another one past the end.
 pub(crate) fn at<T: Copy>(list: &[T], place: usize, other: T) -> T {
@@ -6,6 +7,18 @@ pub(crate) fn at<T: Copy>(list: &[T], place: usize, other: T) -> T {
         Some(entry) => *entry,
         None => other,
     }
+}
+
+/// One entry more.
+pub(crate) fn add<T: Copy>(list: &mut Vec<T>, entry: T) -> Result<(), AllocError> {
+    list.push(entry)?;
+    Ok(())
+}
+
+/// Other entries.
+pub(crate) fn set<T: Copy>(list: &mut Vec<T>, entries: &[T]) -> Result<(), AllocError> {
+    list.clear();
+    list.extend_from_slice(entries)
 }
 
 /// Puts an entry at a place, if there is one.

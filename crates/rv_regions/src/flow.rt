@@ -1,5 +1,7 @@
 // A network as regions with linear maps, and terms.
-use crate::common::{at, bit, has, lowest, part, put_at, size_of, sum_of, without_lowest};
+use crate::common::{
+    add, at, bit, has, lowest, part, put_at, set, size_of, sum_of, without_lowest,
+};
 use crate::frame::Frame;
 use crate::levels::{Placed, place_all};
 use crate::plan::Plan;
@@ -115,8 +117,7 @@ impl Flow {
             set,
             power: power & 7,
         });
-        self.terms.push(term)?;
-        Ok(())
+        add(&mut self.terms, term)
     }
 
     /// Joins equal parities.
@@ -171,11 +172,7 @@ impl Flow {
 
     /// Other terms.
     pub(crate) fn set_terms(&mut self, terms: &[Term]) -> Result<(), AllocError> {
-        self.terms.clear();
-        for term in terms {
-            self.terms.push(*term)?;
-        }
-        Ok(())
+        set(&mut self.terms, terms)
     }
 
     /// How many terms have an odd power, and on how many lines they are.
@@ -264,36 +261,34 @@ impl Reading {
         self.cx(a, b)
     }
 
+    fn y(&mut self, q: u8) -> Result<(), AllocError> {
+        self.phase_on(q, 4)?;
+        self.turn(q);
+        self.flow.constant = plus(self.flow.constant, 2);
+        Ok(())
+    }
+
     fn step(&mut self, op: Op) -> Result<(), AllocError> {
         match op {
             Op::X(q) => self.turn(q),
-            Op::Y(q) => {
-                self.phase_on(q, 4)?;
-                self.turn(q);
-                self.flow.constant = plus(self.flow.constant, 2);
-            }
-            Op::Z(q) => self.phase_on(q, 4)?,
-            Op::S(q) => self.phase_on(q, 2)?,
-            Op::Sdg(q) => self.phase_on(q, 6)?,
-            Op::T(q) => self.phase_on(q, 1)?,
-            Op::Tdg(q) => self.phase_on(q, 7)?,
+            Op::Y(q) => return self.y(q),
+            Op::Z(q) => return self.phase_on(q, 4),
+            Op::S(q) => return self.phase_on(q, 2),
+            Op::Sdg(q) => return self.phase_on(q, 6),
+            Op::T(q) => return self.phase_on(q, 1),
+            Op::Tdg(q) => return self.phase_on(q, 7),
             Op::H(q) => self.cut |= bit(usize::from(q)),
-            Op::Cx(a, b) => self.cx(a, b)?,
-            Op::Cz(a, b) => self.cz(a, b)?,
-            Op::Swap(a, b) => self.swap(a, b)?,
+            Op::Cx(a, b) => return self.cx(a, b),
+            Op::Cz(a, b) => return self.cz(a, b),
+            Op::Swap(a, b) => return self.swap(a, b),
             Op::Ccx(_, _, _) | Op::Cswap(_, _, _) => {}
         }
         Ok(())
     }
 
     fn push_rows(&mut self) -> Result<(), AllocError> {
-        for row in &self.frame.rows {
-            self.flow.maps.push(*row)?;
-        }
-        for set in &self.frame.inverse {
-            self.flow.inverses.push(*set)?;
-        }
-        Ok(())
+        self.flow.maps.extend_from_slice(&self.frame.rows)?;
+        self.flow.inverses.extend_from_slice(&self.frame.inverse)
     }
 
     // Ends a region. A turned line before an H is a phase of 4 after it.
@@ -301,7 +296,7 @@ impl Reading {
         let signs = self.flow.turned & self.cut;
         self.flow.turned &= !self.cut;
         self.push_rows()?;
-        self.flow.cuts.push(self.cut)?;
+        add(&mut self.flow.cuts, self.cut)?;
         self.plan.close()?;
         self.frame.begin();
         self.cut = 0;

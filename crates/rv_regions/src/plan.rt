@@ -1,9 +1,9 @@
 // The flips of each region.
-use crate::common::{at, part, put_at};
+use crate::common::{add, at, part, put_at};
 use std::alloc::{AllocError, Global};
 
 /// A line is added to another one.
-#[derive(Clone, Copy, PartialEq, Eq)]
+#[derive(Clone, Copy)]
 pub(crate) struct Flip {
     pub(crate) control: u8,
     pub(crate) target: u8,
@@ -37,14 +37,12 @@ impl Plan {
     }
 
     pub(crate) fn push(&mut self, control: u8, target: u8) -> Result<(), AllocError> {
-        self.flips.push(Flip { control, target })?;
-        Ok(())
+        add(&mut self.flips, Flip { control, target })
     }
 
     /// A region ends here.
     pub(crate) fn close(&mut self) -> Result<(), AllocError> {
-        self.ends.push(self.flips.len())?;
-        Ok(())
+        add(&mut self.ends, self.flips.len())
     }
 
     pub(crate) fn len(&self) -> usize {

@@ -11,7 +11,7 @@ use rv_net::Op;
 use std::alloc::{AllocError, Global};
 
 /// What there is to be less of.
-#[derive(Clone, Copy, Debug, PartialEq, Eq)]
+#[derive(Clone, Copy)]
 pub enum Goal {
     /// `T` first, then `Cx`.
     T,
@@ -157,7 +157,7 @@ fn lower(alloc: Global, flow: &mut Flow, effort: Effort) -> Result<(), AllocErro
     if effort.lightens && effort.searches > 0 {
         let words = effort.words.saturating_mul(flow.odd_count());
         let mut lowering = Lowering::new(alloc, flow.lines, effort.seed, words, true)?;
-        lowering.run(alloc, flow)?;
+        return lowering.run(alloc, flow);
     }
     Ok(())
 }
@@ -288,13 +288,6 @@ fn improved(
     in_rounds(alloc, lines, &best, last, 1)
 }
 
-fn append(list: &mut Vec<Op>, ops: &[Op]) -> Result<(), AllocError> {
-    for op in ops {
-        list.push(*op)?;
-    }
-    Ok(())
-}
-
 /// A network on so many lines with fewer `T` or `Cx`, if one is found; else these operations.
 ///
 /// The effort is about how many windows are searched for each `Cx`; the same arguments find the same network.
@@ -308,14 +301,14 @@ pub fn fewer(
 ) -> Result<Vec<Op>, AllocError> {
     let mut list = Vec::new(alloc);
     if lines > 64 || ops.iter().any(|op| has_three_lines(*op)) {
-        append(&mut list, ops)?;
+        list.extend_from_slice(ops)?;
         return Ok(list);
     }
     let pieces = (ops.len() / PIECE).saturating_add(1);
     let effort = effort_of(goal, usize::from(effort), pieces, u64::from(seed));
     for piece in ops.chunks(PIECE) {
         let best = improved(alloc, usize::from(lines), piece, effort)?;
-        append(&mut list, &best)?;
+        list.extend_from_slice(&best)?;
     }
     Ok(list)
 }

@@ -1,5 +1,5 @@
 // Of each region the parities that carry terms there.
-use crate::common::{at, number_of, part};
+use crate::common::{add, at, number_of, part};
 use crate::flow::Flow;
 use std::alloc::{AllocError, Global};
 
@@ -80,8 +80,7 @@ impl Table {
         if start <= end {
             self.entries[start..end].sort_unstable_by_key(|entry| entry.set);
         }
-        self.ends.push(end)?;
-        Ok(())
+        add(&mut self.ends, end)
     }
 }
 

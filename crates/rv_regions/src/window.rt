@@ -1,5 +1,5 @@
 // A search for few flips on few lines that make given sums on the way, and end with a given linear map.
-use crate::common::{at, put_at};
+use crate::common::{add, at, put_at, set};
 use crate::packed::{UNIT, add_column, add_row, count, lacking, row, without, wrong};
 use crate::random::Random;
 use std::alloc::{AllocError, Global};
@@ -221,7 +221,7 @@ impl Search {
             return Ok(());
         }
         if self.next.len() < WIDTH {
-            self.next.push(state)?;
+            add(&mut self.next, state)?;
         } else {
             let last = at(&self.next, WIDTH - 1, state);
             if !state.is_before(&last) {
@@ -290,13 +290,7 @@ impl Search {
                 self.go_on(way, &from, bound, random)?;
             }
         }
-        self.now.clear();
-        for place in 0..self.next.len() {
-            if let Some(state) = self.next.get(place).copied() {
-                self.now.push(state)?;
-            }
-        }
-        Ok(())
+        set(&mut self.now, &self.next)
     }
 
     // Each state without sums is finished by itself. The shortest one, if it is shorter than the bound or as short.
@@ -324,8 +318,7 @@ impl Search {
     ) -> Result<Option<State>, AllocError> {
         let mut start = start;
         start.score = score_of(way, &start);
-        self.now.clear();
-        self.now.push(start)?;
+        set(&mut self.now, &[start])?;
         let mut bound = bound.min(MOST_FLIPS);
         let mut best = None;
         for step in 0..MOST_FLIPS + 1 {

@@ -1,5 +1,5 @@
 // A flow and a plan as operations again.
-use crate::common::{at, bit, line_of, lowest, put_at, without_lowest};
+use crate::common::{add, at, bit, line_of, lowest, put_at, without_lowest};
 use crate::flow::{Flow, minus, plus};
 use crate::frame::Frame;
 use crate::plan::Plan;
@@ -55,24 +55,22 @@ impl Writing {
         })
     }
 
+    fn two(&mut self, first: Op, second: Op) -> Result<(), AllocError> {
+        add(&mut self.ops, first)?;
+        add(&mut self.ops, second)
+    }
+
     fn phase(&mut self, line: u8, power: u8) -> Result<(), AllocError> {
         match power & 7 {
-            0 => {}
-            1 => self.ops.push(Op::T(line))?,
-            2 => self.ops.push(Op::S(line))?,
-            3 => {
-                self.ops.push(Op::S(line))?;
-                self.ops.push(Op::T(line))?;
-            }
-            4 => self.ops.push(Op::Z(line))?,
-            5 => {
-                self.ops.push(Op::Z(line))?;
-                self.ops.push(Op::T(line))?;
-            }
-            6 => self.ops.push(Op::Sdg(line))?,
-            _ => self.ops.push(Op::Tdg(line))?,
+            0 => Ok(()),
+            1 => add(&mut self.ops, Op::T(line)),
+            2 => add(&mut self.ops, Op::S(line)),
+            3 => self.two(Op::S(line), Op::T(line)),
+            4 => add(&mut self.ops, Op::Z(line)),
+            5 => self.two(Op::Z(line), Op::T(line)),
+            6 => add(&mut self.ops, Op::Sdg(line)),
+            _ => add(&mut self.ops, Op::Tdg(line)),
         }
-        Ok(())
     }
 
     fn term(&mut self, flow: &Flow, place: usize, line: u8) -> Result<(), AllocError> {
@@ -80,10 +78,9 @@ impl Writing {
         if place != self.reversed {
             return self.phase(line, power);
         }
-        self.ops.push(Op::X(line))?;
+        add(&mut self.ops, Op::X(line))?;
         self.phase(line, minus(power))?;
-        self.ops.push(Op::X(line))?;
-        Ok(())
+        add(&mut self.ops, Op::X(line))
     }
 
     // Writes the term of what a line holds, if it has one that isn't written yet.
@@ -114,7 +111,7 @@ impl Writing {
         let lines = self.frame.lines_of(entry.set);
         let mut left = lines;
         for _ in 0..lines.count_ones() {
-            self.ops.push(Op::Z(line_of(lowest(left))))?;
+            add(&mut self.ops, Op::Z(line_of(lowest(left))))?;
             left = without_lowest(left);
         }
         Ok(())
@@ -136,7 +133,7 @@ impl Writing {
     ) -> Result<(), AllocError> {
         for flip in plan.of_region(region) {
             let (control, target) = (usize::from(flip.control), usize::from(flip.target));
-            self.ops.push(Op::Cx(flip.control, flip.target))?;
+            add(&mut self.ops, Op::Cx(flip.control, flip.target))?;
             self.frame.flip(control, target);
             self.held(flow, table, region, target)?;
         }
@@ -147,7 +144,7 @@ impl Writing {
         let cut = flow.cut(region);
         let mut left = cut;
         for _ in 0..cut.count_ones() {
-            self.ops.push(Op::H(line_of(lowest(left))))?;
+            add(&mut self.ops, Op::H(line_of(lowest(left))))?;
             left = without_lowest(left);
         }
         self.frame.pass(flow.map(region), flow.inverse(region));
@@ -177,14 +174,14 @@ impl Writing {
         }
         let mut turned = flow.turned;
         if power != 0 && turned == 0 {
-            self.ops.push(Op::X(0))?;
+            add(&mut self.ops, Op::X(0))?;
             turned = bit(0);
         }
         let mut left = turned;
         for _ in 0..turned.count_ones() {
             let line = line_of(lowest(left));
             self.phase(line, power)?;
-            self.ops.push(Op::X(line))?;
+            add(&mut self.ops, Op::X(line))?;
             self.phase(line, power)?;
             left = without_lowest(left);
             power = 0;
