@@ -1,0 +1,3 @@
+-- Roots of two, and the exact amplitudes of calls.
+mod Roots
+mod Laws
