@@ -1,3 +1,4 @@
--- Roots of two, and the exact amplitudes of calls.
+-- Roots of two, the exact amplitudes of calls, and angles.
 mod Roots
 mod Laws
+mod Tokens

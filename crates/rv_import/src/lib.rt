@@ -10,9 +10,11 @@ mod call;
 mod fault;
 mod made;
 mod named;
+mod statement;
 
 pub use angles::{Angles, MOST_ANGLES};
 pub use call::{Call, Qubits};
 pub use fault::CallFault;
 pub use made::{add, net_of};
 pub use named::call_of;
+pub use statement::{AnglesRead, angles_from, qubits_of};
