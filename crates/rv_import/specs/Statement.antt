@@ -1,8 +1,10 @@
 -- A statement of a gate on qubits of one register: its name, angles in parentheses if it has some, and its qubits.
-use Rattle.std.specs.Prelude.{ℕ, ◌+◌, ◌==◌, nat_lt, ◌&&◌, List, [], ◌∷◌, length, map, slice_index_or, codes, bytes_eq, if◌then◌else◌, Option, Some, None, option_map}
+use Rattle.std.specs.Prelude.{ℕ, ◌+◌, ◌==◌, nat_lt, ◌&&◌, List, [], ◌∷◌, drop, length, map, slice_index_or, codes, bytes_eq, if◌then◌else◌, Option, Some, None, option_map}
 use Rattle.std.specs.Global.{Vec}
 use Rattle.rv_text.specs.Decimal.{decimal_value, is_decimal}
-use Rattle.rv_import.specs.Angles.{AnglesSoFar, angles_step, next_angle, right_angles}
+use Rattle.rv_import.specs.Angles.{AnglesSoFar, angles_step, next_angle, right_angles, no_angles}
+use Rattle.rv_import.specs.declared.call.Call.{Call}
+use Rattle.rv_import.specs.Named.{call_of}
 use Rattle.rv_import.specs.declared.call.Qubits.{Qubits}
 use Rattle.rv_import.specs.declared.call.Qubits.TheVariants.{One, Two, Three}
 
@@ -68,3 +70,30 @@ angles_from a [] = None
 angles_from a (token ∷ tokens) =
     if bytes_eq token (codes ")") then angles_and tokens (right_angles (next_angle a))
     else angles_from (angles_step a token) tokens
+
+-- ---- a gate
+
+abbrev pub with_qubits : List ℕ → List ℕ → Option Qubits → Option Call
+with_qubits name angles None = None
+with_qubits name angles (Some qubits) = call_of name angles qubits
+
+-- of a name and angles, on the qubits that tokens name
+abbrev pub call_on : List ℕ → ℕ → List ℕ → List ℕ → List (List ℕ) → Option Call
+call_on register size name angles tokens = with_qubits name angles (qubits_of register size tokens)
+
+abbrev pub call_with : List ℕ → ℕ → List ℕ → Option AnglesAnd → Option Call
+call_with register size name None = None
+call_with register size name (Some read) = call_on register size name read.angles read.rest
+
+-- after its name
+abbrev pub named_call : List ℕ → ℕ → List ℕ → List (List ℕ) → Option Call
+named_call register size name tokens =
+    if length tokens == 0 then None
+    else (if bytes_eq (token_at tokens 0) (codes "(")
+    then call_with register size name (angles_from no_angles (drop 1 tokens))
+    else call_on register size name [] tokens)
+
+-- a statement without its `;`
+abbrev pub gate_call : List ℕ → ℕ → List (List ℕ) → Option Call
+gate_call register size tokens =
+    if length tokens == 0 then None else named_call register size (token_at tokens 0) (drop 1 tokens)

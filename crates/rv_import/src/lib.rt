@@ -2,7 +2,8 @@
 //!
 //! A [`Call`] is a gate on qubits, one that a network has or one with angles that are multiples of pi/4. [`net_of`]
 //! makes a network of calls, which has exactly their amplitudes by the standards' definitions of the gates. [`call_of`]
-//! knows the gates by their names, and [`Angles`] reads the angles between a gate's parentheses.
+//! knows the gates by their names, and [`Angles`] reads the angles between a gate's parentheses. [`gate_call`]
+//! reads a whole statement of a gate from its tokens.
 #![tactic(auto)]
 
 mod angles;
@@ -17,4 +18,4 @@ pub use call::{Call, Qubits};
 pub use fault::CallFault;
 pub use made::{add, net_of};
 pub use named::call_of;
-pub use statement::{AnglesRead, angles_from, qubits_of};
+pub use statement::{AnglesRead, angles_from, gate_call, qubits_of};

@@ -2,10 +2,12 @@
 ghost use Rattle.std.specs.Prelude.{ℕ, List, ◌≡◌, ◌+◌, ◌≤◌, ◌<◌, drop, length, option_map, IfSome};
 ghost use Rattle.rv_import.specs.Angles.{next_angle, no_angles, right_angles};
 ghost use Rattle.rv_import.specs.Statement.{angles_and, angles_from, at_comma, bytes_of, place_at, place_of};
-ghost use Rattle.rv_import.specs.Statement.{qubits_of, three_of, token_at, two_of};
+ghost use Rattle.rv_import.specs.Statement.{call_on, call_with, gate_call, named_call, qubits_of, three_of, token_at};
+ghost use Rattle.rv_import.specs.Statement.{two_of};
 
 use crate::angles::Angles;
-use crate::call::Qubits;
+use crate::call::{Call, Qubits};
+use crate::named::call_of;
 use arrayvec::ArrayVec;
 use rv_text::decimal_value;
 
@@ -161,4 +163,61 @@ pub fn angles_from(tokens: &[Vec<u8>]) -> Option<AnglesRead>
         angles.step(token);
     }
     None
+}
+
+fn call_on(
+    register: &[u8],
+    size: u8,
+    name: &[u8],
+    angles: &[u8],
+    tokens: &[Vec<u8>],
+) -> Option<Call>
+    ensures { result ≡ call_on register.now size name.now angles.now (bytes_of tokens.now) }
+{
+    match qubits_of(register, size, tokens) {
+        Some(qubits) => call_of(name, angles, qubits),
+        None => None,
+    }
+}
+
+// After the opening parenthesis.
+#[tactic(auto, using(crate::proofs::Tokens::bytes_after))]
+fn call_with(register: &[u8], size: u8, name: &[u8], tokens: &[Vec<u8>]) -> Option<Call>
+    ensures { result
+        ≡ call_with register.now size name.now (angles_from no_angles (bytes_of tokens.now)) }
+{
+    match angles_from(tokens) {
+        Some(read) => call_on(
+            register,
+            size,
+            name,
+            read.angles.as_slice(),
+            &tokens[read.count..],
+        ),
+        None => None,
+    }
+}
+
+#[tactic(auto, using(crate::proofs::Tokens::bytes_after))]
+fn named_call(register: &[u8], size: u8, name: &[u8], tokens: &[Vec<u8>]) -> Option<Call>
+    ensures { result ≡ named_call register.now size name.now (bytes_of tokens.now) }
+{
+    if tokens.is_empty() {
+        return None;
+    }
+    if token_at(tokens, 0) == b"(".as_slice() {
+        return call_with(register, size, name, &tokens[1..]);
+    }
+    call_on(register, size, name, &[], tokens)
+}
+
+/// The gate that the tokens of a statement are, on qubits of a register of this name and size.
+#[tactic(auto, using(crate::proofs::Tokens::bytes_after))]
+pub fn gate_call(register: &[u8], size: u8, tokens: &[Vec<u8>]) -> Option<Call>
+    ensures { result ≡ gate_call register.now size (bytes_of tokens.now) }
+{
+    if tokens.is_empty() {
+        return None;
+    }
+    named_call(register, size, token_at(tokens, 0), &tokens[1..])
 }
