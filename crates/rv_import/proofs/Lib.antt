@@ -2,3 +2,4 @@
 mod Roots
 mod Laws
 mod Tokens
+mod Examples
