@@ -1,0 +1,5 @@
+-- Roots of two, the exact amplitudes of calls, and angles.
+mod Roots
+mod Laws
+mod Tokens
+mod Examples

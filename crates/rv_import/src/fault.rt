@@ -1,0 +1,28 @@
+ghost use Rattle.std.specs.Prelude.{◌≡◌};
+ghost use Rattle.rv_import.specs.declared.fault.CallFault.TheVariants.{Mem};
+
+use std::alloc::AllocError;
+use thiserror::Error;
+
+/// Why a call was not added to a network.
+#[derive(Clone, Copy, Debug, PartialEq, Eq, Error)]
+pub enum CallFault {
+    /// No Clifford and T operations make the gate exactly.
+    #[error("no exact form")]
+    NoForm,
+    /// They are not as many as the gate has, are not in the network, or are not apart.
+    #[error("wrong qubits")]
+    WrongQubits,
+    #[error("too many operations")]
+    TooManyOps,
+    #[error("out of memory")]
+    Mem,
+}
+
+impl From<AllocError> for CallFault {
+    ghost from_gives = { λ _ fault. fault ≡ Mem };
+
+    fn from(_: AllocError) -> CallFault {
+        CallFault::Mem
+    }
+}

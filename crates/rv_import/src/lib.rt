@@ -1,0 +1,21 @@
+//! Networks of gates that other tools write, with their exact amplitudes.
+//!
+//! A [`Call`] is a gate on qubits, one that a network has or one with angles that are multiples of pi/4. [`net_of`]
+//! makes a network of calls, which has exactly their amplitudes by the standards' definitions of the gates. [`call_of`]
+//! knows the gates by their names, and [`Angles`] reads the angles between a gate's parentheses. [`gate_call`]
+//! reads a whole statement of a gate from its tokens.
+#![tactic(auto)]
+
+mod angles;
+mod call;
+mod fault;
+mod made;
+mod named;
+mod statement;
+
+pub use angles::{Angles, MOST_ANGLES};
+pub use call::{Call, Qubits};
+pub use fault::CallFault;
+pub use made::{add, net_of};
+pub use named::call_of;
+pub use statement::{AnglesRead, angles_from, gate_call, qubits_of};
