@@ -65,6 +65,23 @@ fn best_of(
     first_certified(alloc, logic, extra, &ranked.plans, &choices)
 }
 
+// The better of two circuits, as far as there are any.
+fn better(
+    alloc: Global,
+    logic: &Logic,
+    extra: u8,
+    goal: Goal,
+    one: Option<Circuit>,
+    other: Option<Circuit>,
+) -> Result<Option<Circuit>, AllocError>
+    requires one { IfSome one (IsComputedWithin logic.now (line_count logic.now extra)) }
+    requires other { IfSome other (IsComputedWithin logic.now (line_count logic.now extra)) }
+    ensures { IfOk result (λ o. IfSome o (IsComputedWithin logic.now (line_count logic.now extra))) }
+{
+    let is_other = is_better(alloc, goal, &other, &one)?;
+    Ok(if is_other { other } else { one })
+}
+
 /// The best circuit of a plan on at most so many work lines, if there is one.
 pub(crate) fn planned(
     alloc: Global,
@@ -76,8 +93,10 @@ pub(crate) fn planned(
     requires { line_count logic.now extra ≤ MOST_LINES }
     ensures { IfOk result (λ o. IfSome o (IsComputedWithin logic.now (line_count logic.now extra))) }
 {
-    let one = best_of(alloc, logic, extra, &searched.few)?;
-    let other = best_of(alloc, logic, extra, &searched.all)?;
-    let is_other = is_better(alloc, goal, &other, &one)?;
-    Ok(if is_other { other } else { one })
+    let mut best = None;
+    for ranked in &searched.ranked {
+        let other = best_of(alloc, logic, extra, ranked)?;
+        best = better(alloc, logic, extra, goal, best, other)?;
+    }
+    Ok(best)
 }
