@@ -2,4 +2,5 @@
 mod Roots
 mod Laws
 mod Tokens
+mod Lexing
 mod Examples

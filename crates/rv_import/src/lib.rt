@@ -9,6 +9,7 @@
 mod angles;
 mod call;
 mod fault;
+mod lexer;
 mod made;
 mod named;
 mod statement;
@@ -16,6 +17,7 @@ mod statement;
 pub use angles::{Angles, MOST_ANGLES};
 pub use call::{Call, Qubits};
 pub use fault::CallFault;
+pub use lexer::tokens_of;
 pub use made::{add, net_of};
 pub use named::call_of;
 pub use statement::{AnglesRead, angles_from, gate_call, qubits_of};
