@@ -27,7 +27,7 @@ fn rest_of(bytes: &[u8], from: usize) -> &[u8]
     &bytes[from..]
 }
 
-fn begins_name(byte: u8) -> bool
+pub(crate) fn begins_name(byte: u8) -> bool
     ensures { result ≡ begins_name byte }
 {
     byte.is_ascii_alphabetic() || byte == b'_'

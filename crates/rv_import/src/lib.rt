@@ -12,6 +12,7 @@ mod fault;
 mod lexer;
 mod made;
 mod named;
+mod so_far;
 mod statement;
 
 pub use angles::{Angles, MOST_ANGLES};
@@ -20,4 +21,5 @@ pub use fault::CallFault;
 pub use lexer::tokens_of;
 pub use made::{add, net_of};
 pub use named::call_of;
+pub use so_far::SoFar;
 pub use statement::{AnglesRead, angles_from, gate_call, qubits_of};

@@ -51,7 +51,7 @@ fn three_of(a: Option<u8>, b: Option<u8>, c: Option<u8>) -> Option<Qubits>
     }
 }
 
-fn token_at(tokens: &[Vec<u8>], index: usize) -> &[u8]
+pub(crate) fn token_at(tokens: &[Vec<u8>], index: usize) -> &[u8]
     requires { index < length tokens.now }
     ensures { result.now ≡ token_at (bytes_of tokens.now) index }
 {
