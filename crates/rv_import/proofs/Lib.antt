@@ -3,4 +3,5 @@ mod Roots
 mod Laws
 mod Tokens
 mod Lexing
+mod Parts
 mod Examples

@@ -1,5 +1,5 @@
 -- What the statements of a text give: gates on the qubits of one register.
-use Rattle.std.specs.Prelude.{ℕ, ◌+◌, ◌==◌, nat_lt, Bool, true, false, not, ◌&&◌, ◌||◌, List, [], ◌∷◌, ◌++◌, length, codes, bytes_eq, if◌then◌else◌, Option, Some, None, Result, Ok, Err}
+use Rattle.std.specs.Prelude.{◌≡◌, ℕ, ◌+◌, ◌==◌, nat_lt, Bool, true, false, not, ◌&&◌, ◌||◌, List, [], ◌∷◌, ◌++◌, length, codes, bytes_eq, if◌then◌else◌, Option, Some, None, Result, Ok, Err}
 use Rattle.std.specs.List.{slice_split}
 use Rattle.rv_text.specs.Decimal.{decimal_value, is_decimal}
 use Rattle.rv_gate.specs.declared.word.TheConstants.{MOST_LINES}
@@ -7,6 +7,8 @@ use Rattle.rv_qasm.specs.Tokens.{is_identifier}
 use Rattle.rv_import.specs.Lexer.{tokens_of}
 use Rattle.rv_import.specs.Statement.{gate_call, token_at}
 use Rattle.rv_import.specs.declared.call.Call.{Call}
+use Rattle.rv_import.specs.declared.fault.TextFault.{TextFault}
+use Rattle.rv_import.specs.declared.fault.TextFault.TheVariants.{Statement}
 use Rattle.rv_import.specs.declared.so_far.Kind.{Kind}
 use Rattle.rv_import.specs.declared.so_far.Kind.TheVariants.{Include, Qreg, PassedOver, Measure, Gate}
 
@@ -113,3 +115,7 @@ tokens_read tokens = parts_read 1 nothing_so_far (slice_split is_end tokens)
 -- what a text denotes
 abbrev pub read : List ℕ → Result SoFar ℕ
 read text = tokens_read (tokens_of text)
+
+-- if a statement is to blame, it is the one that breaks a rule
+abbrev pub IsFault : Result SoFar ℕ → TextFault → Type 0
+IsFault reading fault = (number : ℕ) → fault ≡ Statement number → reading ≡ Err number
