@@ -3,7 +3,9 @@ use Rattle.std.specs.Prelude.{◌≡◌, ℕ, ◌+◌, ◌==◌, nat_lt, Bool, t
 use Rattle.std.specs.List.{slice_split}
 use Rattle.rv_text.specs.Decimal.{decimal_value, is_decimal}
 use Rattle.rv_gate.specs.declared.word.TheConstants.{MOST_LINES}
+use Rattle.rv_net.specs.Op.{Network}
 use Rattle.rv_qasm.specs.Tokens.{is_identifier}
+use Rattle.rv_import.specs.Calls.{IsExactNet}
 use Rattle.rv_import.specs.Lexer.{tokens_of}
 use Rattle.rv_import.specs.Statement.{gate_call, token_at}
 use Rattle.rv_import.specs.declared.call.Call.{Call}
@@ -119,3 +121,9 @@ read text = tokens_read (tokens_of text)
 -- if a statement is to blame, it is the one that breaks a rule
 abbrev pub IsFault : Result SoFar ℕ → TextFault → Type 0
 IsFault reading fault = (number : ℕ) → fault ≡ Statement number → reading ≡ Err number
+
+-- A network is of a text: the text denotes gates on so many qubits, and it has exactly their amplitudes.
+pub record IsNetOf (text : List ℕ) (net : Network) : Type 0 where
+  pub so_far : SoFar
+  pub is : read text ≡ Ok so_far
+  pub exact : IsExactNet so_far.size so_far.calls net

@@ -48,3 +48,11 @@ impl From<AllocError> for TextFault {
         TextFault::Mem
     }
 }
+
+impl From<CallFault> for TextFault {
+    ghost from_gives = { λ call fault. fault ≡ text.Call call };
+
+    fn from(fault: CallFault) -> TextFault {
+        TextFault::Call(fault)
+    }
+}

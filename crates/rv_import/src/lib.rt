@@ -12,9 +12,9 @@ mod fault;
 mod lexer;
 mod made;
 mod named;
-mod read;
 mod so_far;
 mod statement;
+mod text;
 
 pub use angles::{Angles, MOST_ANGLES};
 pub use call::{Call, Qubits};
@@ -22,6 +22,6 @@ pub use fault::{CallFault, TextFault};
 pub use lexer::tokens_of;
 pub use made::{add, net_of};
 pub use named::call_of;
-pub use read::statements_read;
 pub use so_far::SoFar;
 pub use statement::{AnglesRead, angles_from, gate_call, qubits_of};
+pub use text::{read, statements_read};

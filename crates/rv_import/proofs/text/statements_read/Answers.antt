@@ -6,10 +6,10 @@ use Rattle.std.proofs.Common.{length-drop}
 use Rattle.rv_import.specs.Statement.{bytes_of}
 use Rattle.rv_import.specs.Reading.{and_then, IsFault, is_end, parts_read, SoFar}
 use Rattle.rv_import.proofs.Parts.{part_last, part_more, read_no, read_yes, same_number}
-use Rattle.rv_import.proofs.read.statements_read.Goals as goal
+use Rattle.rv_import.proofs.text.statements_read.Goals as goal
 
-pub returns-then-not-branch : goal.returns-then-not-branch
-returns-then-not-branch c = λ number e.
+pub returns-then-not-branch-clause-exact : goal.returns-then-not-branch-clause-exact
+returns-then-not-branch-clause-exact c = λ number e.
     let xs = bytes_of c.args.tokens.now in
     let n = c.loop-end.number in
     let all = length-map c.args.tokens.now (λ (token : Vec ℕ). token.items) in
@@ -35,12 +35,12 @@ loop-end-preserved c =
       omega (arith, i.1, i.3),
     )
 
-pub returns : goal.returns
-returns c =
+pub returns-clause-exact : goal.returns-clause-exact
+returns-clause-exact c =
     let xs = bytes_of c.args.tokens.now in
     let n = c.loop-end.number in
     let all = length-map c.args.tokens.now (λ (token : Vec ℕ). token.items) in
     let i = c.loop-end.invariant in
     subst (λ (r : Result SoFar ℕ). MatchResult c.at_end.result (λ s. r ≡ Ok s) (λ fault. IsFault r fault))
     (sym (i.0 ∙ part_last n c.loop-end.so_far xs c.loop-end.start (omega (arith, all, i.1, i.2)) (omega (arith, all, i.1, c.loop-end-test.false)) (omega (arith, all, i.1, i.2))))
-    (c.at_end.ensures (drop c.loop-end.start xs) (omega (arith, all, length-drop c.loop-end.start xs)))
+    (c.at_end.ensures.exact (drop c.loop-end.start xs) (omega (arith, all, length-drop c.loop-end.start xs)))

@@ -1,12 +1,17 @@
 // A whole text.
-ghost use Rattle.std.specs.Prelude.{ℕ, List, ◌≡◌, ◌≤◌, ◌+◌, ◌-◌, take, drop, length, IfOk, MatchResult, Ok};
+ghost use Rattle.std.specs.Prelude.{ℕ, List, ◌≡◌, ◌≢◌, ◌≤◌, ◌+◌, ◌-◌, take, drop, length, IfOk, MatchResult, Ok};
 ghost use Rattle.std.specs.List.{position_or_len};
 ghost use Rattle.rv_import.specs.Statement.{bytes_of};
-ghost use Rattle.rv_import.specs.Reading.{at_end, is_end, IsFault, read_if, statement_read, tokens_read};
+ghost use Rattle.rv_import.specs.Reading.{at_end, is_end, IsFault, IsNetOf, read, read_if, statement_read, tokens_read};
+ghost use Rattle.rv_import.specs.Calls.{IsExactNet};
+ghost use Rattle.rv_import.specs.declared.fault.TextFault.TheVariants.{Statement};
 
 use crate::fault::TextFault;
+use crate::lexer::tokens_of;
+use crate::made::net_of;
 use crate::so_far::SoFar;
 use crate::statement::token_at;
+use rv_net::Net;
 use std::alloc::{AllocError, Global};
 
 // The first `;` from a place on, or the end.
@@ -43,9 +48,10 @@ fn part_read(
 
 // At the end of a text, where this stands after the last `;`.
 fn at_end(so_far: SoFar, number: usize, rest: usize) -> Result<SoFar, TextFault>
-    ensures { (tokens : List (List ℕ)) → length tokens ≡ rest → MatchResult result
+    ensures exact { (tokens : List (List ℕ)) → length tokens ≡ rest → MatchResult result
         (λ s. at_end number so_far tokens ≡ Ok s)
         (λ fault. IsFault (at_end number so_far tokens) fault) }
+    ensures some { IfOk result (λ s. 1 ≤ s.size) }
 {
     if rest != 0 || so_far.size() == 0 {
         return Err(TextFault::Statement(number));
@@ -55,9 +61,10 @@ fn at_end(so_far: SoFar, number: usize, rest: usize) -> Result<SoFar, TextFault>
 
 /// What the statements of a text give, one after another.
 pub fn statements_read(alloc: Global, tokens: &[Vec<u8>]) -> Result<SoFar, TextFault>
-    ensures { MatchResult result
+    ensures exact { MatchResult result
         (λ s. tokens_read (bytes_of tokens.now) ≡ Ok s)
         (λ fault. IsFault (tokens_read (bytes_of tokens.now)) fault) }
+    ensures some { IfOk result (λ s. 1 ≤ s.size) }
 {
     let mut so_far = SoFar::new(alloc);
     let mut number = 1;
@@ -72,4 +79,24 @@ pub fn statements_read(alloc: Global, tokens: &[Vec<u8>]) -> Result<SoFar, TextF
         end = end_from(tokens, start);
     }
     at_end(so_far, number, tokens.len() - start)
+}
+
+// The network of what statements gave.
+fn net_from(alloc: Global, so_far: &SoFar) -> Result<Net, TextFault>
+    requires { 1 ≤ so_far.now.size }
+    ensures { MatchResult result
+        (λ net. IsExactNet so_far.now.size so_far.now.calls net)
+        (λ fault. (number : ℕ) → fault ≢ Statement number) }
+{
+    let net = net_of(alloc, so_far.size(), so_far.calls())?;
+    Ok(net)
+}
+
+/// The network of a text in OpenQASM 2.0: gates on one register, with angles that are multiples of pi/4.
+pub fn read(alloc: Global, text: &[u8]) -> Result<Net, TextFault>
+    ensures { MatchResult result (λ net. IsNetOf text.now net) (λ fault. IsFault (read text.now) fault) }
+{
+    let tokens = tokens_of(alloc, text)?;
+    let so_far = statements_read(alloc, tokens.as_slice())?;
+    net_from(alloc, &so_far)
 }

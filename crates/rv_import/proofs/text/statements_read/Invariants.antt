@@ -2,7 +2,7 @@ use Rattle.std.proofs.Common.{◌≡◌, ◌≤◌, ◌+◌, ◌-◌, drop, leng
 use Rattle.std.specs.List.{position_or_len, slice_split}
 use Rattle.rv_import.specs.Reading.{is_end, parts_read, tokens_read}
 use Rattle.rv_import.specs.Statement.{bytes_of}
-use Rattle.rv_import.proofs.read.statements_read.Given as goal
+use Rattle.rv_import.proofs.text.statements_read.Given as goal
 
 abbrev pub invariant-loop-end : goal.invariant-loop-end
 invariant-loop-end l =

@@ -2,7 +2,7 @@ use Rattle.std.proofs.Common.{◌≡◌, ◌+◌, drop}
 use Rattle.std.specs.List.{position_or_len}
 use Rattle.rv_import.specs.Reading.{is_end}
 use Rattle.rv_import.specs.Statement.{bytes_of}
-use Rattle.rv_import.proofs.read.end_from.Given as goal
+use Rattle.rv_import.proofs.text.end_from.Given as goal
 
 abbrev pub invariant-loop-index : goal.invariant-loop-index
 invariant-loop-index l =
