@@ -5,3 +5,4 @@ mod Tokens
 mod Lexing
 mod Parts
 mod Examples
+mod TextExamples
