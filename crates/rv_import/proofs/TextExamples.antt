@@ -46,3 +46,16 @@ no_register = refl
 second_register : ops_of (read (header ++ codes "qreg r[2];")) ≡ Err 4
 unfolding tokens_of qasm_tokens on_lines parts_read header
 second_register = refl
+
+-- a gate of one qubit on two, a qubit twice, and a gate without an exact form
+two_qubits : ops_of (read (header ++ codes "sx q[0],q[1];")) ≡ Err 4
+unfolding tokens_of qasm_tokens on_lines parts_read header
+two_qubits = refl
+
+twice : ops_of (read (header ++ codes "cx q[0],q[0];")) ≡ Err 4
+unfolding tokens_of qasm_tokens on_lines parts_read header
+twice = refl
+
+no_form : ops_of (read (header ++ codes "cp(pi/4) q[0],q[1];")) ≡ Err 4
+unfolding tokens_of qasm_tokens on_lines parts_read angles_from padded header
+no_form = refl

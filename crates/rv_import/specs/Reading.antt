@@ -1,14 +1,17 @@
 -- What the statements of a text give: gates on the qubits of one register.
-use Rattle.std.specs.Prelude.{◌≡◌, ℕ, ◌+◌, ◌==◌, nat_lt, Bool, true, false, not, ◌&&◌, ◌||◌, List, [], ◌∷◌, ◌++◌, length, codes, bytes_eq, if◌then◌else◌, Option, Some, None, Result, Ok, Err}
+use Rattle.std.specs.Prelude.{◌≡◌, ℕ, ◌+◌, ◌==◌, nat_lt, Bool, true, false, not, ◌&&◌, ◌||◌, List, [], ◌∷◌, ◌++◌, length, codes, bytes_eq, if◌then◌else◌, is_some, Option, Some, None, Result, Ok, Err}
 use Rattle.std.specs.List.{slice_split}
 use Rattle.rv_text.specs.Decimal.{decimal_value, is_decimal}
 use Rattle.rv_gate.specs.declared.word.TheConstants.{MOST_LINES}
 use Rattle.rv_net.specs.Op.{Network}
+use Rattle.rv_angles.specs.Form.{form_of}
+use Rattle.rv_angles.specs.Standard.{qubits_of}
 use Rattle.rv_qasm.specs.Tokens.{is_identifier}
-use Rattle.rv_import.specs.Calls.{IsExactNet}
+use Rattle.rv_import.specs.Calls.{IsExactNet, qubits_in}
 use Rattle.rv_import.specs.Lexer.{tokens_of}
 use Rattle.rv_import.specs.Statement.{gate_call, token_at}
 use Rattle.rv_import.specs.declared.call.Call.{Call}
+use Rattle.rv_import.specs.declared.call.Call.TheVariants.{Plain, Standard}
 use Rattle.rv_import.specs.declared.fault.TextFault.{TextFault}
 use Rattle.rv_import.specs.declared.fault.TextFault.TheVariants.{Statement}
 use Rattle.rv_import.specs.declared.so_far.Kind.{Kind}
@@ -61,10 +64,15 @@ abbrev pub qreg_read : SoFar → List (List ℕ) → Option SoFar
 qreg_read s tokens =
     if is_declaration tokens then declared s (token_at tokens 1) (size_of (token_at tokens 3)) else None
 
--- a gate, and none after a measurement
+-- a gate that has an exact form, and as many qubits as it is on
+abbrev pub is_possible : Call → Bool
+is_possible (Plain op) = true
+is_possible (Standard gate qubits) = is_some (form_of gate) && length (qubits_in qubits) == qubits_of gate
+
+-- a possible gate, and none after a measurement
 abbrev pub with_call : SoFar → Option Call → Option SoFar
 with_call s None = None
-with_call s (Some call) = if s.is_measured then None else Some (record s { calls = s.calls ++ call ∷ [] })
+with_call s (Some call) = if s.is_measured || not (is_possible call) then None else Some (record s { calls = s.calls ++ call ∷ [] })
 
 abbrev pub kind_of : List ℕ → Kind
 kind_of name =

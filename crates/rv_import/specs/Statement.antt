@@ -1,5 +1,5 @@
 -- A statement of a gate on qubits of one register: its name, angles in parentheses if it has some, and its qubits.
-use Rattle.std.specs.Prelude.{ℕ, ◌+◌, ◌==◌, nat_lt, ◌&&◌, List, [], ◌∷◌, drop, length, map, slice_index_or, codes, bytes_eq, if◌then◌else◌, Option, Some, None, option_map}
+use Rattle.std.specs.Prelude.{ℕ, ◌+◌, ◌==◌, nat_lt, ◌&&◌, ◌||◌, List, [], ◌∷◌, drop, length, map, slice_index_or, codes, bytes_eq, if◌then◌else◌, Option, Some, None, option_map}
 use Rattle.std.specs.Global.{Vec}
 use Rattle.rv_text.specs.Decimal.{decimal_value, is_decimal}
 use Rattle.rv_import.specs.Angles.{AnglesSoFar, angles_step, next_angle, right_angles, no_angles}
@@ -20,13 +20,14 @@ place_of register size name before place after =
     && is_decimal place && nat_lt (decimal_value place) size
     then Some (decimal_value place) else None
 
+-- they differ
 abbrev pub two_of : Option ℕ → Option ℕ → Option Qubits
-two_of (Some a) (Some b) = Some (Two a b)
+two_of (Some a) (Some b) = if a == b then None else Some (Two a b)
 two_of (Some a) None = None
 two_of None b = None
 
 abbrev pub three_of : Option ℕ → Option ℕ → Option ℕ → Option Qubits
-three_of (Some a) (Some b) (Some c) = Some (Three a b c)
+three_of (Some a) (Some b) (Some c) = if a == b || a == c || b == c then None else Some (Three a b c)
 three_of (Some a) (Some b) None = None
 three_of (Some a) None c = None
 three_of None b c = None

@@ -153,7 +153,7 @@ impl SoFar {
             (gate_call self.old.register self.old.size (bytes_of tokens.now)) ≡ read_if is_right self.new) }
     {
         match gate_call(self.register.as_slice(), self.size, tokens) {
-            Some(call) if !self.is_measured => {
+            Some(call) if !self.is_measured && call.is_possible() => {
                 self.calls.push(call)?;
                 Ok(true)
             }

@@ -37,7 +37,7 @@ fn two_of(a: Option<u8>, b: Option<u8>) -> Option<Qubits>
     ensures { result ≡ two_of a b }
 {
     match (a, b) {
-        (Some(a), Some(b)) => Some(Qubits::Two(a, b)),
+        (Some(a), Some(b)) if a != b => Some(Qubits::Two(a, b)),
         _ => None,
     }
 }
@@ -46,7 +46,9 @@ fn three_of(a: Option<u8>, b: Option<u8>, c: Option<u8>) -> Option<Qubits>
     ensures { result ≡ three_of a b c }
 {
     match (a, b, c) {
-        (Some(a), Some(b), Some(c)) => Some(Qubits::Three(a, b, c)),
+        (Some(a), Some(b), Some(c)) if a != b && a != c && b != c => {
+            Some(Qubits::Three(a, b, c))
+        }
         _ => None,
     }
 }
