@@ -1,9 +1,9 @@
 -- Statements with `;` between them.
-use Rattle.std.proofs.Common.{◌≡◌, ℕ, suc, zero, ◌+◌, ◌-◌, ◌≤◌, ◌<◌, Bool, true, false, not, cond, eqb, List, [], ◌∷◌, None, Some, length, take, drop, refl, sym, ap, ◌∙◌, arith, length-drop}
+use Rattle.std.proofs.Common.{◌≡◌, ℕ, ◌+◌, ◌-◌, ◌≤◌, ◌<◌, Bool, true, false, cond, List, [], ◌∷◌, None, Some, length, take, drop, refl, sym, ap, ◌∙◌, arith, length-drop}
 use Rattle.std.proofs.lemmas.Bool.{ne_eqb}
-use Rattle.std.proofs.lemmas.List.{drop-drop, drop-map, length-map, take-map}
+use Rattle.std.proofs.lemmas.List.{drop-drop, drop-map, take-map}
 use Rattle.std.proofs.lemmas.List.Splits.{length-slice_split, slice_split_first}
-use Rattle.std.specs.List.{count_by, position_or_len, slice_split}
+use Rattle.std.specs.List.{position_or_len, slice_split}
 use Rattle.std.specs.Global.{Vec}
 use Rattle.rv_import.specs.Reading.{and_then, at_end, is_end, parts_read, read_if, SoFar, statement_read}
 use Rattle.rv_import.specs.declared.fault.TextFault.{TextFault}
