@@ -4,5 +4,6 @@ mod Laws
 mod Tokens
 mod Lexing
 mod Parts
+mod Found
 mod Examples
 mod TextExamples

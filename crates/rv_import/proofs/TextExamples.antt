@@ -43,9 +43,17 @@ no_register : ops_of (read (codes "OPENQASM 2.0;")) ≡ Err 2
 unfolding tokens_of qasm_tokens on_lines parts_read
 no_register = refl
 
-second_register : ops_of (read (header ++ codes "qreg r[2];")) ≡ Err 4
+second_register : ops_of (read (header ++ codes "qreg r[2]; cx q[1],r[0];")) ≡ Ok (Cx 1 2 ∷ [])
 unfolding tokens_of qasm_tokens on_lines parts_read header
 second_register = refl
+
+same_name : ops_of (read (header ++ codes "qreg q[1];")) ≡ Err 4
+unfolding tokens_of qasm_tokens on_lines parts_read header
+same_name = refl
+
+too_many : ops_of (read (header ++ codes "qreg r[63];")) ≡ Err 4
+unfolding tokens_of qasm_tokens on_lines parts_read header
+too_many = refl
 
 -- a gate of one qubit on two, a qubit twice, and a gate without an exact form
 two_qubits : ops_of (read (header ++ codes "sx q[0],q[1];")) ≡ Err 4

@@ -1,4 +1,4 @@
--- What the statements of a text give: gates on the qubits of one register.
+-- What the statements of a text give: gates on the qubits of its registers.
 use Rattle.std.specs.Prelude.{◌≡◌, ℕ, ◌+◌, ◌==◌, nat_lt, Bool, true, false, not, ◌&&◌, ◌||◌, List, [], ◌∷◌, ◌++◌, length, codes, bytes_eq, if◌then◌else◌, is_some, Option, Some, None, Result, Ok, Err}
 use Rattle.std.specs.List.{slice_split}
 use Rattle.rv_text.specs.Decimal.{decimal_value, is_decimal}
@@ -9,6 +9,7 @@ use Rattle.rv_angles.specs.Standard.{qubits_of}
 use Rattle.rv_qasm.specs.Tokens.{is_identifier}
 use Rattle.rv_import.specs.Calls.{IsExactNet, qubits_in}
 use Rattle.rv_import.specs.Lexer.{tokens_of}
+use Rattle.rv_import.specs.Registers.{Register, register_of}
 use Rattle.rv_import.specs.Statement.{gate_call, token_at}
 use Rattle.rv_import.specs.declared.call.Call.{Call}
 use Rattle.rv_import.specs.declared.call.Call.TheVariants.{Plain, Standard}
@@ -20,14 +21,14 @@ use Rattle.rv_import.specs.declared.so_far.Kind.TheVariants.{Include, Qreg, Pass
 -- what statements have given so far
 pub record SoFar : Type 0 where
   pub has_version : Bool
-  -- the name of the register, and its size, which is 0 before it is declared
-  pub register : List ℕ
+  pub registers : List Register
+  -- the number of all qubits
   pub size : ℕ
   pub is_measured : Bool
   pub calls : List Call
 
 abbrev pub nothing_so_far : SoFar
-nothing_so_far = record { has_version = false; register = []; size = 0; is_measured = false; calls = [] }
+nothing_so_far = record { has_version = false; registers = []; size = 0; is_measured = false; calls = [] }
 
 abbrev pub read_if : Bool → SoFar → Option SoFar
 read_if is_right s = if is_right then Some s else None
@@ -55,10 +56,15 @@ size_of digits =
     if is_decimal digits && nat_lt 0 (decimal_value digits) && nat_lt (decimal_value digits) (MOST_LINES + 1)
     then Some (decimal_value digits) else None
 
--- the only register
+-- a register of a new name, with at most 64 qubits in all
 abbrev pub declared : SoFar → List ℕ → Option ℕ → Option SoFar
 declared s name None = None
-declared s name (Some size) = if s.size == 0 then Some (record s { register = name; size = size }) else None
+declared s name (Some size) =
+    if is_some (register_of name s.registers) || nat_lt MOST_LINES (s.size + size) then None
+    else Some (record s {
+      registers = s.registers ++ record { name = name; first = s.size; size = size } ∷ [];
+      size = s.size + size;
+    })
 
 abbrev pub qreg_read : SoFar → List (List ℕ) → Option SoFar
 qreg_read s tokens =
@@ -89,7 +95,7 @@ read_as Include s tokens = read_if (is_library tokens) s
 read_as Qreg s tokens = qreg_read s tokens
 read_as PassedOver s tokens = Some s
 read_as Measure s tokens = Some (record s { is_measured = true })
-read_as Gate s tokens = with_call s (gate_call s.register s.size tokens)
+read_as Gate s tokens = with_call s (gate_call s.registers tokens)
 
 -- a statement without its `;`: the version first
 abbrev pub statement_read : SoFar → List (List ℕ) → Option SoFar

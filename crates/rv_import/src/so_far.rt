@@ -8,6 +8,7 @@ ghost use Rattle.rv_import.specs.Reading.{qreg_read, read_as, read_if, size_of, 
 
 use crate::call::Call;
 use crate::lexer::begins_name;
+use crate::register::{Register, register_of};
 use crate::statement::{gate_call, token_at};
 use rv_gate::MOST_LINES;
 use rv_text::decimal_value;
@@ -31,7 +32,7 @@ pub(crate) enum Kind {
 #[derive(Drop)]
 pub struct SoFar {
     has_version: bool,
-    register: Vec<u8>,
+    registers: Vec<Register>,
     size: u8,
     is_measured: bool,
     calls: Vec<Call>,
@@ -46,7 +47,7 @@ impl Model for SoFar {
 
     ghost view = { λ s. record {
       has_version = s.has_version;
-      register = s.register.items;
+      registers = s.registers.items;
       size = s.size;
       is_measured = s.is_measured;
       calls = s.calls.items;
@@ -118,7 +119,7 @@ impl SoFar {
     {
         SoFar {
             has_version: false,
-            register: Vec::new(alloc),
+            registers: Vec::new(alloc),
             size: 0,
             is_measured: false,
             calls: Vec::new(alloc),
@@ -130,9 +131,12 @@ impl SoFar {
         ensures { IfOk result (λ is_right. declared self.old name.now size ≡ read_if is_right self.new) }
     {
         match size {
-            Some(size) if self.size == 0 => {
-                self.register = name.to_vec(alloc)?;
-                self.size = size;
+            Some(size)
+                if size <= MOST_LINES - self.size
+                    && register_of(self.registers.as_slice(), name).is_none() => {
+                self.registers
+                    .push(Register::new(alloc, name, self.size, size)?)?;
+                self.size += size;
                 Ok(true)
             }
             _ => Ok(false),
@@ -150,9 +154,9 @@ impl SoFar {
 
     fn gate_read(&mut self, tokens: &[Vec<u8>]) -> Result<bool, AllocError>
         ensures { IfOk result (λ is_right. with_call self.old
-            (gate_call self.old.register self.old.size (bytes_of tokens.now)) ≡ read_if is_right self.new) }
+            (gate_call self.old.registers (bytes_of tokens.now)) ≡ read_if is_right self.new) }
     {
-        match gate_call(self.register.as_slice(), self.size, tokens) {
+        match gate_call(self.registers.as_slice(), tokens) {
             Some(call) if !self.is_measured && call.is_possible() => {
                 self.calls.push(call)?;
                 Ok(true)
@@ -192,7 +196,7 @@ impl SoFar {
         Ok(is_version(tokens))
     }
 
-    /// How many qubits there are, 0 before their register.
+    /// How many qubits there are, 0 before their registers.
     pub fn size(&self) -> u8
         ensures exact { result ≡ self.now.size }
         ensures few { result ≤ MOST_LINES }
