@@ -6,8 +6,6 @@ use Rattle.std.proofs.lemmas.List.Splits.{length-slice_split, slice_split_first}
 use Rattle.std.specs.List.{position_or_len, slice_split}
 use Rattle.std.specs.Global.{Vec}
 use Rattle.rv_import.specs.Reading.{and_then, at_end, is_end, parts_read, read_if, SoFar, statement_read}
-use Rattle.rv_import.specs.declared.fault.TextFault.{TextFault}
-use Rattle.rv_import.specs.declared.fault.TextFault.TheVariants.{Statement, Call, Mem}
 use Rattle.rv_import.specs.Statement.{bytes_of}
 
 pub bytes_part : (tokens : List (Vec ℕ)) (start count : ℕ) → bytes_of (take count (drop start tokens)) ≡ take count (drop start (bytes_of tokens))
@@ -61,12 +59,3 @@ read_no is_right s e = rw e refl
 
 pub read_yes : (is_right : Bool) (s : SoFar) → is_right ≡ true → read_if is_right s ≡ Some s
 read_yes is_right s e = rw e refl
-
-number_in : TextFault → ℕ
-number_in (Statement n) = n
-number_in (Call fault) = 0
-number_in Mem = 0
-
-pub same_number : (m n : ℕ) → Statement m ≡ Statement n → m ≡ n
-unfolding number_in
-same_number m n e = ap number_in e

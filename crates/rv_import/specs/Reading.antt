@@ -1,5 +1,5 @@
 -- What the statements of a text give: gates on the qubits of its registers.
-use Rattle.std.specs.Prelude.{◌≡◌, ℕ, ◌+◌, ◌==◌, nat_lt, Bool, true, false, not, ◌&&◌, ◌||◌, List, [], ◌∷◌, ◌++◌, length, codes, bytes_eq, if◌then◌else◌, is_some, Option, Some, None, Result, Ok, Err}
+use Rattle.std.specs.Prelude.{◌≡◌, ℕ, ◌+◌, ◌==◌, nat_lt, Bool, true, false, not, ◌&&◌, ◌||◌, List, [], ◌∷◌, ◌++◌, length, codes, bytes_eq, if◌then◌else◌, is_some, Option, Some, None, Result, Ok, Err, is_ok, IsTrue}
 use Rattle.std.specs.List.{slice_split}
 use Rattle.rv_text.specs.Decimal.{decimal_value, is_decimal}
 use Rattle.rv_gate.specs.declared.word.TheConstants.{MOST_LINES}
@@ -11,10 +11,10 @@ use Rattle.rv_import.specs.Calls.{IsExactNet, qubits_in}
 use Rattle.rv_import.specs.Lexer.{tokens_of}
 use Rattle.rv_import.specs.Registers.{Register, register_of}
 use Rattle.rv_import.specs.Statement.{gate_call, token_at}
-use Rattle.rv_import.specs.declared.call.Call.{Call}
+use Rattle.rv_import.specs.declared.call.Call as call
 use Rattle.rv_import.specs.declared.call.Call.TheVariants.{Plain, Standard}
 use Rattle.rv_import.specs.declared.fault.TextFault.{TextFault}
-use Rattle.rv_import.specs.declared.fault.TextFault.TheVariants.{Statement}
+use Rattle.rv_import.specs.declared.fault.TextFault.TheVariants.{Statement, Call, Mem}
 use Rattle.rv_import.specs.declared.so_far.Kind.{Kind}
 use Rattle.rv_import.specs.declared.so_far.Kind.TheVariants.{Include, Qreg, PassedOver, Measure, Gate}
 
@@ -25,7 +25,7 @@ pub record SoFar : Type 0 where
   -- the number of all qubits
   pub size : ℕ
   pub is_measured : Bool
-  pub calls : List Call
+  pub calls : List call.Call
 
 abbrev pub nothing_so_far : SoFar
 nothing_so_far = record { has_version = false; registers = []; size = 0; is_measured = false; calls = [] }
@@ -71,12 +71,12 @@ qreg_read s tokens =
     if is_declaration tokens then declared s (token_at tokens 1) (size_of (token_at tokens 3)) else None
 
 -- a gate that has an exact form, and as many qubits as it is on
-abbrev pub is_possible : Call → Bool
+abbrev pub is_possible : call.Call → Bool
 is_possible (Plain op) = true
 is_possible (Standard gate qubits) = is_some (form_of gate) && length (qubits_in qubits) == qubits_of gate
 
 -- a possible gate, and none after a measurement
-abbrev pub with_call : SoFar → Option Call → Option SoFar
+abbrev pub with_call : SoFar → Option call.Call → Option SoFar
 with_call s None = None
 with_call s (Some call) = if s.is_measured || not (is_possible call) then None else Some (record s { calls = s.calls ++ call ∷ [] })
 
@@ -132,9 +132,11 @@ tokens_read tokens = parts_read 1 nothing_so_far (slice_split is_end tokens)
 abbrev pub read : List ℕ → Result SoFar ℕ
 read text = tokens_read (tokens_of text)
 
--- if a statement is to blame, it is the one that breaks a rule
+-- A statement is to blame only if it is the first that breaks a rule, and a gate only where none does.
 abbrev pub IsFault : Result SoFar ℕ → TextFault → Type 0
-IsFault reading fault = (number : ℕ) → fault ≡ Statement number → reading ≡ Err number
+IsFault reading (Statement number) = reading ≡ Err number
+IsFault reading (Call fault) = IsTrue (is_ok reading)
+IsFault reading Mem = Unit {0}
 
 -- A network is of a text: the text denotes gates on so many qubits, and it has exactly their amplitudes.
 pub record IsNetOf (text : List ℕ) (net : Network) : Type 0 where

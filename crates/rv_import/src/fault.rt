@@ -34,7 +34,7 @@ pub enum TextFault {
     /// The number, from 1, of the first statement that breaks a rule.
     #[error("statement {0} breaks a rule")]
     Statement(usize),
-    /// A gate was not added to the network.
+    /// No statement breaks a rule, but a gate was not added to the network.
     #[error("{0}")]
     Call(CallFault),
     #[error("out of memory")]

@@ -1,10 +1,9 @@
 // A whole text.
-ghost use Rattle.std.specs.Prelude.{ℕ, List, ◌≡◌, ◌≢◌, ◌≤◌, ◌+◌, ◌-◌, take, drop, length, IfOk, MatchResult, Ok};
+ghost use Rattle.std.specs.Prelude.{ℕ, List, ◌≡◌, ◌≤◌, ◌+◌, ◌-◌, take, drop, length, IfOk, MatchResult, Ok};
 ghost use Rattle.std.specs.List.{position_or_len};
 ghost use Rattle.rv_import.specs.Statement.{bytes_of};
 ghost use Rattle.rv_import.specs.Reading.{at_end, is_end, IsFault, IsNetOf, read, read_if, statement_read, tokens_read};
 ghost use Rattle.rv_import.specs.Calls.{IsExactNet};
-ghost use Rattle.rv_import.specs.declared.fault.TextFault.TheVariants.{Statement};
 
 use crate::fault::TextFault;
 use crate::lexer::tokens_of;
@@ -86,7 +85,7 @@ fn net_from(alloc: Global, so_far: &SoFar) -> Result<Net, TextFault>
     requires { 1 ≤ so_far.now.size }
     ensures { MatchResult result
         (λ net. IsExactNet so_far.now.size so_far.now.calls net)
-        (λ fault. (number : ℕ) → fault ≢ Statement number) }
+        (λ fault. IsFault (Ok so_far.now) fault) }
 {
     let net = net_of(alloc, so_far.size(), so_far.calls())?;
     Ok(net)
