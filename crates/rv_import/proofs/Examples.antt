@@ -11,7 +11,7 @@ abbrev qubit : List ℕ → List (List ℕ)
 qubit digits = codes "q" ∷ codes "[" ∷ digits ∷ codes "]" ∷ []
 
 abbrev ops_in : ℕ → List (List ℕ) → Option (List Op)
-ops_in size tokens = option_map call_ops (gate_call (codes "q") size tokens)
+ops_in size tokens = option_map call_ops (gate_call (record { name = codes "q"; first = 0; size = size } ∷ []) tokens)
 
 plain : ops_in 3 (codes "ccx" ∷ (qubit (codes "2") ++ codes "," ∷ (qubit (codes "0") ++ codes "," ∷ qubit (codes "1")))) ≡ Some (Ccx 2 0 1 ∷ [])
 plain = refl

@@ -2,4 +2,8 @@
 mod Roots
 mod Laws
 mod Tokens
+mod Lexing
+mod Parts
+mod Found
 mod Examples
+mod TextExamples

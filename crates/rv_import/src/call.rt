@@ -2,8 +2,9 @@ ghost use Rattle.std.specs.Prelude.{◌≡◌, ◌↔◌, length, IsTrue};
 ghost use Rattle.rv_angles.specs.Exact.{AreQubits};
 ghost use Rattle.rv_angles.specs.Standard.{qubits_of};
 ghost use Rattle.rv_import.specs.Calls.{qubits_in};
+ghost use Rattle.rv_import.specs.Reading.{is_possible};
 
-use rv_angles::Gate;
+use rv_angles::{Gate, form_of};
 use rv_net::Op;
 
 /// One to three qubits, controls first.
@@ -43,6 +44,20 @@ impl Qubits {
             Qubits::Two(a, b) => a < lines && b < lines && a != b,
             Qubits::Three(a, b, c) => {
                 a < lines && b < lines && c < lines && a != b && a != c && b != c
+            }
+        }
+    }
+}
+
+impl Call {
+    /// Whether it has an exact form, and as many qubits as it is on.
+    pub(crate) fn is_possible(self) -> bool
+        ensures { result ≡ is_possible self }
+    {
+        match self {
+            Call::Plain(_) => true,
+            Call::Standard(gate, qubits) => {
+                form_of(gate).is_some() && qubits.count() == qubits_of(gate)
             }
         }
     }

@@ -1,4 +1,4 @@
-// A gate on qubits of one register.
+// A gate on qubits of registers.
 ghost use Rattle.std.specs.Prelude.{ℕ, List, ◌≡◌, ◌+◌, ◌≤◌, ◌<◌, drop, length, option_map, IfSome};
 ghost use Rattle.rv_import.specs.Angles.{next_angle, no_angles, right_angles};
 ghost use Rattle.rv_import.specs.Statement.{angles_and, angles_from, at_comma, bytes_of, place_at, place_of};
@@ -8,6 +8,7 @@ ghost use Rattle.rv_import.specs.Statement.{two_of};
 use crate::angles::Angles;
 use crate::call::{Call, Qubits};
 use crate::named::call_of;
+use crate::register::{Register, qubit_of};
 use arrayvec::ArrayVec;
 use rv_text::decimal_value;
 
@@ -15,21 +16,20 @@ use rv_text::decimal_value;
 const MOST_PLACE: u32 = 255;
 
 fn place_of(
-    register: &[u8],
-    size: u8,
+    registers: &[Register],
     name: &[u8],
     before: &[u8],
     place: &[u8],
     after: &[u8],
 ) -> Option<u8>
-    ensures { result ≡ place_of register.now size name.now before.now place.now after.now }
+    ensures { result ≡ place_of registers.now name.now before.now place.now after.now }
 {
-    if name != register || before != b"[".as_slice() || after != b"]".as_slice() {
+    if before != b"[".as_slice() || after != b"]".as_slice() {
         return None;
     }
     match decimal_value(place, MOST_PLACE) {
-        Some(place) if place < u32::from(size) => Some(place as u8),
-        _ => None,
+        Some(place) => qubit_of(registers, name, place),
+        None => None,
     }
 }
 
@@ -37,7 +37,7 @@ fn two_of(a: Option<u8>, b: Option<u8>) -> Option<Qubits>
     ensures { result ≡ two_of a b }
 {
     match (a, b) {
-        (Some(a), Some(b)) => Some(Qubits::Two(a, b)),
+        (Some(a), Some(b)) if a != b => Some(Qubits::Two(a, b)),
         _ => None,
     }
 }
@@ -46,12 +46,14 @@ fn three_of(a: Option<u8>, b: Option<u8>, c: Option<u8>) -> Option<Qubits>
     ensures { result ≡ three_of a b c }
 {
     match (a, b, c) {
-        (Some(a), Some(b), Some(c)) => Some(Qubits::Three(a, b, c)),
+        (Some(a), Some(b), Some(c)) if a != b && a != c && b != c => {
+            Some(Qubits::Three(a, b, c))
+        }
         _ => None,
     }
 }
 
-fn token_at(tokens: &[Vec<u8>], index: usize) -> &[u8]
+pub(crate) fn token_at(tokens: &[Vec<u8>], index: usize) -> &[u8]
     requires { index < length tokens.now }
     ensures { result.now ≡ token_at (bytes_of tokens.now) index }
 {
@@ -68,13 +70,12 @@ fn at_comma(token: &[u8], qubits: Option<Qubits>) -> Option<Qubits>
     }
 }
 
-fn place_at(register: &[u8], size: u8, tokens: &[Vec<u8>], index: usize) -> Option<u8>
+fn place_at(registers: &[Register], tokens: &[Vec<u8>], index: usize) -> Option<u8>
     requires { index + 3 < length tokens.now }
-    ensures { result ≡ place_at register.now size (bytes_of tokens.now) index }
+    ensures { result ≡ place_at registers.now (bytes_of tokens.now) index }
 {
     place_of(
-        register,
-        size,
+        registers,
         token_at(tokens, index),
         token_at(tokens, index + 1),
         token_at(tokens, index + 2),
@@ -82,47 +83,47 @@ fn place_at(register: &[u8], size: u8, tokens: &[Vec<u8>], index: usize) -> Opti
     )
 }
 
-fn one_qubit(register: &[u8], size: u8, tokens: &[Vec<u8>]) -> Option<Qubits>
+fn one_qubit(registers: &[Register], tokens: &[Vec<u8>]) -> Option<Qubits>
     requires { length tokens.now ≡ 4 }
-    ensures { result ≡ qubits_of register.now size (bytes_of tokens.now) }
+    ensures { result ≡ qubits_of registers.now (bytes_of tokens.now) }
 {
-    match place_at(register, size, tokens, 0) {
+    match place_at(registers, tokens, 0) {
         Some(a) => Some(Qubits::One(a)),
         None => None,
     }
 }
 
-fn two_qubits(register: &[u8], size: u8, tokens: &[Vec<u8>]) -> Option<Qubits>
+fn two_qubits(registers: &[Register], tokens: &[Vec<u8>]) -> Option<Qubits>
     requires { length tokens.now ≡ 9 }
-    ensures { result ≡ qubits_of register.now size (bytes_of tokens.now) }
+    ensures { result ≡ qubits_of registers.now (bytes_of tokens.now) }
 {
     let both = two_of(
-        place_at(register, size, tokens, 0),
-        place_at(register, size, tokens, 5),
+        place_at(registers, tokens, 0),
+        place_at(registers, tokens, 5),
     );
     at_comma(token_at(tokens, 4), both)
 }
 
-fn three_qubits(register: &[u8], size: u8, tokens: &[Vec<u8>]) -> Option<Qubits>
+fn three_qubits(registers: &[Register], tokens: &[Vec<u8>]) -> Option<Qubits>
     requires { length tokens.now ≡ 14 }
-    ensures { result ≡ qubits_of register.now size (bytes_of tokens.now) }
+    ensures { result ≡ qubits_of registers.now (bytes_of tokens.now) }
 {
     let all = three_of(
-        place_at(register, size, tokens, 0),
-        place_at(register, size, tokens, 5),
-        place_at(register, size, tokens, 10),
+        place_at(registers, tokens, 0),
+        place_at(registers, tokens, 5),
+        place_at(registers, tokens, 10),
     );
     at_comma(token_at(tokens, 4), at_comma(token_at(tokens, 9), all))
 }
 
-/// The qubits that tokens name, of a register of this name and size.
-pub fn qubits_of(register: &[u8], size: u8, tokens: &[Vec<u8>]) -> Option<Qubits>
-    ensures { result ≡ qubits_of register.now size (bytes_of tokens.now) }
+/// The qubits of registers that tokens name.
+pub fn qubits_of(registers: &[Register], tokens: &[Vec<u8>]) -> Option<Qubits>
+    ensures { result ≡ qubits_of registers.now (bytes_of tokens.now) }
 {
     match tokens.len() {
-        4 => one_qubit(register, size, tokens),
-        9 => two_qubits(register, size, tokens),
-        14 => three_qubits(register, size, tokens),
+        4 => one_qubit(registers, tokens),
+        9 => two_qubits(registers, tokens),
+        14 => three_qubits(registers, tokens),
         _ => None,
     }
 }
@@ -165,16 +166,10 @@ pub fn angles_from(tokens: &[Vec<u8>]) -> Option<AnglesRead>
     None
 }
 
-fn call_on(
-    register: &[u8],
-    size: u8,
-    name: &[u8],
-    angles: &[u8],
-    tokens: &[Vec<u8>],
-) -> Option<Call>
-    ensures { result ≡ call_on register.now size name.now angles.now (bytes_of tokens.now) }
+fn call_on(registers: &[Register], name: &[u8], angles: &[u8], tokens: &[Vec<u8>]) -> Option<Call>
+    ensures { result ≡ call_on registers.now name.now angles.now (bytes_of tokens.now) }
 {
-    match qubits_of(register, size, tokens) {
+    match qubits_of(registers, tokens) {
         Some(qubits) => call_of(name, angles, qubits),
         None => None,
     }
@@ -182,14 +177,13 @@ fn call_on(
 
 // After the opening parenthesis.
 #[tactic(auto, using(crate::proofs::Tokens::bytes_after))]
-fn call_with(register: &[u8], size: u8, name: &[u8], tokens: &[Vec<u8>]) -> Option<Call>
+fn call_with(registers: &[Register], name: &[u8], tokens: &[Vec<u8>]) -> Option<Call>
     ensures { result
-        ≡ call_with register.now size name.now (angles_from no_angles (bytes_of tokens.now)) }
+        ≡ call_with registers.now name.now (angles_from no_angles (bytes_of tokens.now)) }
 {
     match angles_from(tokens) {
         Some(read) => call_on(
-            register,
-            size,
+            registers,
             name,
             read.angles.as_slice(),
             &tokens[read.count..],
@@ -199,25 +193,25 @@ fn call_with(register: &[u8], size: u8, name: &[u8], tokens: &[Vec<u8>]) -> Opti
 }
 
 #[tactic(auto, using(crate::proofs::Tokens::bytes_after))]
-fn named_call(register: &[u8], size: u8, name: &[u8], tokens: &[Vec<u8>]) -> Option<Call>
-    ensures { result ≡ named_call register.now size name.now (bytes_of tokens.now) }
+fn named_call(registers: &[Register], name: &[u8], tokens: &[Vec<u8>]) -> Option<Call>
+    ensures { result ≡ named_call registers.now name.now (bytes_of tokens.now) }
 {
     if tokens.is_empty() {
         return None;
     }
     if token_at(tokens, 0) == b"(".as_slice() {
-        return call_with(register, size, name, &tokens[1..]);
+        return call_with(registers, name, &tokens[1..]);
     }
-    call_on(register, size, name, &[], tokens)
+    call_on(registers, name, &[], tokens)
 }
 
-/// The gate that the tokens of a statement are, on qubits of a register of this name and size.
+/// The gate that the tokens of a statement are, on qubits of registers.
 #[tactic(auto, using(crate::proofs::Tokens::bytes_after))]
-pub fn gate_call(register: &[u8], size: u8, tokens: &[Vec<u8>]) -> Option<Call>
-    ensures { result ≡ gate_call register.now size (bytes_of tokens.now) }
+pub fn gate_call(registers: &[Register], tokens: &[Vec<u8>]) -> Option<Call>
+    ensures { result ≡ gate_call registers.now (bytes_of tokens.now) }
 {
     if tokens.is_empty() {
         return None;
     }
-    named_call(register, size, token_at(tokens, 0), &tokens[1..])
+    named_call(registers, token_at(tokens, 0), &tokens[1..])
 }
